@@ -1,0 +1,28 @@
+-- Lemmas on the windows of the streams.
+use Rattle.std.proofs.Common.{◌≡◌, ℕ, ◌+◌, ◌<◌, List, arith, ap, ◌∙◌}
+use Rattle.std.specs.Prelude.{replicate, slice_index}
+use Rattle.std.proofs.lemmas.List.{get_or-replicate}
+use Rattle.sim_streams.specs.Word.{word}
+use Rattle.std.proofs.Common.{◌%◌, ◌^◌}
+use Rattle.std.proofs.Math.Nat.{mod-eq_of_lt}
+use Rattle.rand_chacha.specs.ChaCha.{ChaCha, key_of, next_word}
+use Rattle.sim_streams.specs.Windows.{AreWords}
+
+-- with no word known, there is nothing to show
+pub no_words : (seed starts : List ℕ) (words : List (List ℕ)) → AreWords seed starts (replicate 34 0) words
+no_words seed starts words =
+    let none : (s : ℕ) → s < 34 → slice_index (replicate 34 0) s ≡ 0 = λ s below. get_or-replicate 34 s 0 0 below in record {
+      within = λ s below. omega (arith, none s below);
+      right = λ s i below there. absurd (omega (arith, none s below));
+    }
+
+-- what a generator gives next, where it stands at place p of a stream of the seed
+pub next_is_word : (seed : List ℕ) (s p w : ℕ) (g h : ChaCha)
+    → g ≡ record { key = key_of seed; stream = s; word_pos = p } → p + 1 < 2 ^ 68
+    → ◌≡◌ {A = ℕ × ChaCha} (w, h) (next_word 10 g)
+    → (w ≡ word seed s p) × (h ≡ record { key = key_of seed; stream = s; word_pos = p + 1 })
+unfolding word
+next_is_word seed s p w g h at small next =
+    let e = next ∙ ap (next_word 10) at in
+    let m : (p + 1) % 2 ^ 68 ≡ p + 1 = mod-eq_of_lt small in
+    (ap (λ (x : ℕ × ChaCha). x.0) e, ap (λ (x : ℕ × ChaCha). x.1) e ∙ ap (λ (q : ℕ). let r : ChaCha = record { key = key_of seed; stream = s; word_pos = q } in r) m)
