@@ -1,0 +1,3 @@
+pub mod Pending
+pub mod Items
+pub mod Slots
