@@ -1,0 +1,151 @@
+ghost use Rattle.std.specs.Prelude.{◌≡◌, ◌<◌, [], ◌∷◌, ◌++◌, length, IfOk, OnOk, OnErr};
+ghost use Rattle.std.specs.Fn.{FnReturnsAt};
+
+use crate::{Change, LinkState, LinkUndo, NoMemory};
+use std::alloc::Global;
+use std::marker::Model;
+use std::mem;
+
+/// One direction: its state, and the messages that it holds in the order in which they were sent.
+#[derive(Drop)]
+pub struct Direction<M> {
+    state: LinkState,
+    held: Vec<M>,
+}
+
+impl<M> Model for Direction<M> {
+    ghost use Rattle.sim_links.specs.Link.{Link};
+
+    ghost Value = { Link M };
+
+    ghost view = { λ d. record { state = d.state; held = d.held.items } };
+}
+
+impl LinkState {
+    ghost use Rattle.sim_links.specs.Link.{state_after};
+
+    // The state after a change, by the table.
+    fn after(self, change: Change) -> LinkState
+        ensures { result ≡ state_after change self }
+    {
+        match (change, self) {
+            (Change::Hold, _) => LinkState::Held,
+            (Change::Cut, _) => LinkState::Cut,
+            (Change::Release, LinkState::Cut) => LinkState::Cut,
+            (Change::Release, _) => LinkState::Through,
+            (Change::Repair, LinkState::Held) => LinkState::Held,
+            (Change::Repair, _) => LinkState::Through,
+        }
+    }
+}
+
+// The messages in the same order, each as `each` copies it.
+fn copied<M: Drop, F: Fn(&M) -> Result<M, NoMemory>>(
+    alloc: Global,
+    messages: &[M],
+    each: &F,
+) -> Result<Vec<M>, NoMemory>
+    requires callable { F.IsAlwaysCallable each.now }
+    requires equal { (m : M) (r : _) → FnReturnsAt F.Fn each.now m r → IfOk r (λ copy. copy ≡ m) }
+    ensures { IfOk result (λ copies. copies.items ≡ messages.now) }
+{
+    let mut copies = Vec::new(alloc);
+    for message in messages {
+        let copy = each(message)?;
+        copies.push(copy)?;
+    }
+    Ok(copies)
+}
+
+impl<M> Direction<M> {
+    ghost use Rattle.sim_links.specs.Link.{open_link, state_after, kept_in, changed, let_go, with_held, without_newest, fits, back};
+
+    /// Open, with nothing held.
+    pub fn open(alloc: Global) -> Direction<M>
+        ensures { result ≡ open_link }
+    {
+        Direction {
+            state: LinkState::Through,
+            held: Vec::new(alloc),
+        }
+    }
+
+    pub fn state(&self) -> LinkState
+        ensures { result ≡ self.now.state }
+    {
+        self.state
+    }
+
+    /// How many messages it holds.
+    pub fn count(&self) -> usize
+        ensures { result ≡ length self.now.held }
+    {
+        self.held.len()
+    }
+
+    /// Changes it, and answers the messages that leave it.
+    pub fn change(&mut self, alloc: Global, change: Change) -> Vec<M>
+        ensures after { self.new ≡ changed change self.old }
+        ensures left { result.items ≡ let_go change self.old }
+    {
+        self.state = self.state.after(change);
+        match self.state {
+            LinkState::Held => Vec::new(alloc),
+            _ => mem::replace(&mut self.held, Vec::new(alloc)),
+        }
+    }
+
+    /// Takes a change back, given the messages that left by it.
+    pub fn undo(&mut self, undo: LinkUndo, messages: Vec<M>)
+    where
+        M: Drop,
+        requires fits { fits undo self.old }
+        requires left { kept_in (state_after undo.change undo.was) messages.items ≡ [] }
+        ensures { self.new ≡ back undo messages.items self.old }
+    {
+        match self.state {
+            LinkState::Held => {}
+            _ => self.held = messages,
+        }
+        self.state = undo.was;
+    }
+
+    /// Adds a held message, the newest.
+    pub fn keep(&mut self, message: M) -> Result<(), NoMemory>
+    where
+        M: Drop,
+        ensures ok { OnOk result (self.new ≡ with_held message self.old) }
+        ensures err { OnErr result (self.new ≡ self.old) }
+    {
+        self.held.push(message)?;
+        Ok(())
+    }
+
+    /// Takes the newest held message out.
+    pub fn unkeep(&mut self) -> M
+        requires { 0 < length self.old.held }
+        ensures message { self.old.held ≡ self.new.held ++ result ∷ [] }
+        ensures rest { self.new ≡ without_newest self.old }
+    {
+        self.held.pop().unwrap()
+    }
+
+    /// An equal direction.
+    pub fn copy<F: Fn(&M) -> Result<M, NoMemory>>(
+        &self,
+        alloc: Global,
+        each: &F,
+    ) -> Result<Direction<M>, NoMemory>
+    where
+        M: Drop,
+        requires callable { F.IsAlwaysCallable each.now }
+        requires equal { (m : M) (r : _) → FnReturnsAt F.Fn each.now m r → IfOk r (λ copy. copy ≡ m) }
+        ensures { IfOk result (λ copy. copy ≡ self.now) }
+    {
+        let held = copied(alloc, &self.held, each)?;
+        Ok(Direction {
+            state: self.state,
+            held,
+        })
+    }
+}

@@ -1,0 +1,162 @@
+ghost use Rattle.std.specs.Prelude.{◌≡◌, ◌<◌, ◌≤◌, ◌+◌, ◌*◌, [], ◌∷◌, ◌++◌, length, IfOk, OnOk, OnErr};
+ghost use Rattle.std.specs.Fn.{FnReturnsAt};
+
+use crate::direction::Direction;
+use crate::{Change, LinkState, LinkUndo, NoMemory};
+use std::alloc::Global;
+use std::marker::Model;
+
+/// The state and the held messages of every direction between 32 hosts.
+#[derive(Drop)]
+pub struct Links<M> {
+    table: Vec<Direction<M>>,
+}
+
+impl<M> Model for Links<M> {
+    ghost use Rattle.std.specs.Prelude.{◌≡◌, length};
+    ghost use Rattle.sim_links.specs.Link.{Links};
+
+    ghost Value = { Links M };
+
+    ghost view = { λ l. l.table.items };
+
+    ghost invariant = { λ l. length l.table.items ≡ 1024 };
+}
+
+// Where the direction from a to b stands.
+fn place(a: u16, b: u16) -> usize
+    requires from { a < 32 }
+    requires to { b < 32 }
+    ensures value { result ≡ 32 * a + b }
+    ensures within { result < 1024 }
+{
+    32 * a as usize + b as usize
+}
+
+impl<M> Links<M> {
+    ghost use Rattle.sim_links.specs.Link.{all_open, link, with_link, changed, let_go, state_after, kept_in, fits, back, with_held, without_newest};
+    ghost use Rattle.sim_links.specs.declared.LinkState.TheVariants as state;
+
+    /// All directions open, and nothing held.
+    pub fn new(alloc: Global) -> Result<Links<M>, NoMemory>
+    where
+        M: Drop,
+        ensures { IfOk result (λ links. links ≡ all_open) }
+    {
+        let mut table = Vec::new(alloc);
+        for _i in 0..1024usize {
+            table.push(Direction::open(alloc))?;
+        }
+        Ok(Links { table })
+    }
+
+    /// The state of the direction from host a to host b, both below 32.
+    pub fn state(&self, a: u16, b: u16) -> LinkState
+        requires from { a < 32 }
+        requires to { b < 32 }
+        ensures value { result ≡ (link a b self.now).state }
+        ensures whole { length self.now ≡ 1024 }
+    {
+        let direction = &self.table[place(a, b)];
+        direction.state()
+    }
+
+    /// How many messages the direction from host a to host b holds; both hosts are below 32, and it holds at most 4,096.
+    pub fn held(&self, a: u16, b: u16) -> u32
+        requires from { a < 32 }
+        requires to { b < 32 }
+        requires few { length (link a b self.now).held ≤ 4096 }
+        ensures { result ≡ length (link a b self.now).held }
+    {
+        let direction = &self.table[place(a, b)];
+        direction.count() as u32
+    }
+
+    /// Changes the direction from host a to host b, both below 32. Answers the record of the change, and the messages that
+    /// leave the direction: those that a release gives out, or a cut drops, in the order in which they were sent.
+    /// Takes no memory.
+    pub fn change(&mut self, alloc: Global, a: u16, b: u16, change: Change) -> (LinkUndo, Vec<M>)
+        requires from { a < 32 }
+        requires to { b < 32 }
+        ensures after { self.new ≡ with_link a b (changed change (link a b self.old)) self.old }
+        ensures left { result.1.items ≡ let_go change (link a b self.old) }
+        ensures undo { result.0 ≡ record { a = a; b = b; change = change; was = (link a b self.old).state } }
+
+        // What an undo of it asks for, and that it leads back.
+        ensures fits { fits result.0 (link a b self.new) }
+        ensures none_left { kept_in (state_after result.0.change result.0.was) result.1.items ≡ [] }
+        ensures back { with_link a b (back result.0 result.1.items (link a b self.new)) self.new ≡ self.old }
+    {
+        let direction = &mut self.table[place(a, b)];
+        let was = direction.state();
+        let messages = direction.change(alloc, change);
+        let undo = LinkUndo { a, b, change, was };
+        (undo, messages)
+    }
+
+    /// Takes a change back, given its record and the messages that left the direction by it. The direction is as the change
+    /// left it; a change after which it is held let no message go. Takes no memory.
+    pub fn undo(&mut self, undo: LinkUndo, messages: Vec<M>)
+    where
+        M: Drop,
+        requires from { undo.a < 32 }
+        requires to { undo.b < 32 }
+        requires fits { fits undo (link undo.a undo.b self.old) }
+        requires none_left { kept_in (state_after undo.change undo.was) messages.items ≡ [] }
+        ensures { self.new ≡ with_link undo.a undo.b (back undo messages.items (link undo.a undo.b self.old)) self.old }
+    {
+        let direction = &mut self.table[place(undo.a, undo.b)];
+        direction.undo(undo, messages);
+    }
+
+    /// Adds a message to those that the direction from host a to host b holds, as the newest; both hosts are below 32, and the
+    /// direction is held and holds fewer than 4,096. After `NoMemory` the links are unchanged and the message is dropped.
+    pub fn keep(&mut self, a: u16, b: u16, message: M) -> Result<(), NoMemory>
+    where
+        M: Drop,
+        requires from { a < 32 }
+        requires to { b < 32 }
+        requires held { (link a b self.old).state ≡ state.Held }
+        requires few { length (link a b self.old).held < 4096 }
+        ensures ok { OnOk result (self.new ≡ with_link a b (with_held message (link a b self.old)) self.old) }
+        ensures some { OnOk result (0 < length (link a b self.new).held) }
+        ensures back { OnOk result (with_link a b (without_newest (link a b self.new)) self.new ≡ self.old) }
+        ensures err { OnErr result (self.new ≡ self.old) }
+    {
+        let direction = &mut self.table[place(a, b)];
+        direction.keep(message)
+    }
+
+    /// Takes the newest message out of those that the direction from host a to host b holds; both hosts are below 32, and it
+    /// holds at least one. Takes no memory.
+    pub fn unkeep(&mut self, a: u16, b: u16) -> M
+        requires from { a < 32 }
+        requires to { b < 32 }
+        requires some { 0 < length (link a b self.old).held }
+        ensures rest { self.new ≡ with_link a b (without_newest (link a b self.old)) self.old }
+        ensures message { (link a b self.old).held ≡ (link a b self.new).held ++ result ∷ [] }
+    {
+        let direction = &mut self.table[place(a, b)];
+        direction.unkeep()
+    }
+
+    /// Equal links. `each` copies a message: it answers an equal one, or `NoMemory`, which is then the answer.
+    pub fn copy<F: Fn(&M) -> Result<M, NoMemory>>(
+        &self,
+        alloc: Global,
+        each: F,
+    ) -> Result<Links<M>, NoMemory>
+    where
+        M: Drop,
+        requires callable { F.IsAlwaysCallable each }
+        requires equal { (m : M) (r : _) → FnReturnsAt F.Fn each m r → IfOk r (λ copy. copy ≡ m) }
+        ensures { IfOk result (λ links. links ≡ self.now) }
+    {
+        let mut table = Vec::new(alloc);
+        for direction in &self.table {
+            let copy = direction.copy(alloc, &each)?;
+            table.push(copy)?;
+        }
+        Ok(Links { table })
+    }
+}
