@@ -1,0 +1,146 @@
+ghost use Rattle.std.specs.Prelude.{◌≡◌, ◌+◌, ◌<◌, ◌≤◌, List, [], ◌∷◌, ◌++◌, length, IfOk, IfNone, IfSome};
+ghost use Rattle.sim_node.specs.Effects.{Effect as Asked, Effects as EffectsValue, IsWithin, AllWithin};
+ghost use Rattle.sim_node.specs.Seen.{seen, IsStored};
+
+use crate::{MAX_EFFECTS, MAX_WRITE_BYTES, NoMemory, Setup};
+use std::alloc::Global;
+use std::collections::VecDeque;
+use std::marker::Model;
+
+/// What a node asks for when it reacts.
+#[derive(Debug, PartialEq, Drop)]
+pub enum Effect<M> {
+    /// A message to a host, which may be the node's own.
+    Send {
+        to: u16,
+        msg: M,
+    },
+    /// A timer after a delay of 1 to 60,000 ms, in place of the one that is pending.
+    Timer(u32),
+    /// Bytes for the disk from an offset on (both in bytes): the first `len` of `bytes`, 1 to 64. The rest of `bytes` has
+    /// no meaning. A write that would end beyond the 4,096 bytes of the disk is skipped.
+    Write {
+        offset: u32,
+        len: u32,
+        bytes: [u8; 64],
+    },
+    /// The writes so far are to become stable. The input `Synced` tells that they are.
+    Sync,
+    /// The host is done: it has no more to do as a client.
+    Done,
+}
+
+/// The effects of one reaction, in order, with room for 40.
+///
+/// A contract sees them as the number of hosts and the list of the effects. Only `new` takes memory.
+/// When all effects are taken out the value is as `new` made it, and can be used for the next reaction.
+#[derive(Drop)]
+pub struct Effects<M> {
+    hosts: u16,
+    list: VecDeque<Effect<M>>,
+}
+
+impl<M> Model for Effects<M> {
+    ghost use Rattle.std.specs.Prelude.{◌≤◌, length, map};
+    ghost use Rattle.std.specs.VecDeque.{deque_capacity};
+    ghost use Rattle.sim_node.specs.Effects.{Effects as EffectsValue};
+    ghost use Rattle.sim_node.specs.Seen.{seen, AllStored};
+
+    ghost Value = { EffectsValue M };
+
+    ghost view = { λ e. record { hosts = e.hosts; list = map seen e.list.items } };
+
+    ghost invariant = { λ e. (length e.list.items ≤ 40) × (40 ≤ deque_capacity e.list) × AllStored e.hosts e.list.items };
+}
+
+impl<M> Effects<M> {
+    /// No effects, for the hosts of the setup, with the room for 40. The only error is want of memory.
+    pub fn new(alloc: Global, setup: &Setup) -> Result<Effects<M>, NoMemory>
+        ensures { IfOk result (λ e. e ≡ record { hosts = setup.now.hosts; list = [] }) }
+    {
+        Ok(Effects {
+            hosts: setup.hosts,
+            list: VecDeque::with_capacity(alloc, MAX_EFFECTS)?,
+        })
+    }
+
+    /// How many effects there are: at most 40, and each is within the limits.
+    pub fn len(&self) -> usize
+        ensures value { result ≡ length self.now.list }
+        ensures bound { length self.now.list ≤ 40 }
+        ensures within { AllWithin self.now.hosts self.now.list }
+    {
+        self.list.len()
+    }
+
+    /// Takes the first effect out; the others keep their order. Where there is none, nothing changes.
+    pub fn take_first(&mut self) -> Option<Effect<M>>
+        ensures none { IfNone result ((self.old.list ≡ []) × (self.new ≡ self.old)) }
+        ensures some { IfSome result (λ e. self.old ≡ record self.new { list = seen e ∷ self.new.list }) }
+        ensures stored { IfSome result (λ e. IsStored self.old.hosts e) }
+    {
+        self.list.pop_front()
+    }
+}
+
+impl<M: Drop> Effects<M> {
+    fn push(&mut self, effect: Effect<M>)
+        requires room { length self.old.list < 40 }
+        requires stored { IsStored self.old.hosts effect }
+        ensures { self.new ≡ record self.old { list = self.old.list ++ seen effect ∷ [] } }
+    {
+        self.list.push_back_reserved(effect);
+    }
+
+    /// Asks for a message to a host, which may be the node's own.
+    pub fn send(&mut self, to: u16, msg: M)
+        requires room { length self.old.list < 40 }
+        requires host { to < self.old.hosts }
+        ensures { self.new ≡ record self.old { list = self.old.list ++ Asked.Send to msg ∷ [] } }
+    {
+        self.push(Effect::Send { to, msg });
+    }
+
+    /// Asks for a timer after a delay in milliseconds, in place of the one that is pending.
+    pub fn timer(&mut self, delay: u32)
+        requires room { length self.old.list < 40 }
+        requires low { 1 ≤ delay }
+        requires high { delay ≤ 60000 }
+        ensures { self.new ≡ record self.old { list = self.old.list ++ Asked.Timer delay ∷ [] } }
+    {
+        self.push(Effect::Timer(delay));
+    }
+
+    /// Asks for a write of 1 to 64 bytes to the disk, from an offset in bytes on. It is skipped where it would end beyond
+    /// the 4,096 bytes of the disk.
+    pub fn write(&mut self, offset: u32, bytes: &[u8])
+        requires room { length self.old.list < 40 }
+        requires some { 1 ≤ length bytes.now }
+        requires few { length bytes.now ≤ 64 }
+        ensures { self.new ≡ record self.old { list = self.old.list ++ Asked.Write offset bytes.now ∷ [] } }
+    {
+        let mut stored = [0; MAX_WRITE_BYTES];
+        stored[..bytes.len()].copy_from_slice(bytes);
+        self.push(Effect::Write {
+            offset,
+            len: bytes.len() as u32,
+            bytes: stored,
+        });
+    }
+
+    /// Asks that the writes so far become stable.
+    pub fn sync(&mut self)
+        requires { length self.old.list < 40 }
+        ensures { self.new ≡ record self.old { list = self.old.list ++ Asked.Sync ∷ [] } }
+    {
+        self.push(Effect::Sync);
+    }
+
+    /// Says that the host is done.
+    pub fn done(&mut self)
+        requires { length self.old.list < 40 }
+        ensures { self.new ≡ record self.old { list = self.old.list ++ Asked.Done ∷ [] } }
+    {
+        self.push(Effect::Done);
+    }
+}
