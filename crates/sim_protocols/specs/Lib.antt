@@ -1,0 +1,5 @@
+pub mod Numbers
+pub mod Echo
+pub mod EchoRecords
+pub mod Seen
+pub mod Probes
