@@ -1,0 +1,92 @@
+//! Measures the lower layers: how many turns of each kind they do in a second, so that two states of the code can be compared.
+//!
+//! With the word `quiet` each measure takes few turns and no time is written, so that what is written is always the same.
+#![tactic(auto)]
+
+mod links;
+mod queue;
+mod streams;
+
+use std::alloc::{AllocError, Global};
+use std::time::Instant;
+use std::{env, io};
+
+/// How many turns a measure takes under `quiet`.
+const QUIET_TURNS: u32 = 1_000;
+
+/// What is measured. A turn is
+///     `Draws`        a draw, of each stream in turn
+///     `Undraws`      three draws and two undraws of one word, of two streams
+///     `QueueTurns`   `first`, `take_first` and `insert`, with so many pending
+///     `QueueUndos`   `take_first`, `insert`, `uninsert` and `put_back`, with so many pending
+///     `LinkUndos`    a change of a direction that holds messages, and its undo
+#[derive(Clone, Copy)]
+enum Measure {
+    Draws,
+    Undraws,
+    QueueTurns(u32),
+    QueueUndos(u32),
+    LinkUndos,
+}
+
+const MEASURES: [(&'static str, u32, Measure); 7] = [
+    ("draws", 10_000_000, Measure::Draws),
+    ("draws and undraws", 5_000_000, Measure::Undraws),
+    (
+        "queue turns, 64 pending",
+        1_000_000,
+        Measure::QueueTurns(64),
+    ),
+    (
+        "queue turns, 4096 pending",
+        1_000_000,
+        Measure::QueueTurns(4096),
+    ),
+    (
+        "queue undos, 64 pending",
+        1_000_000,
+        Measure::QueueUndos(64),
+    ),
+    (
+        "queue undos, 4096 pending",
+        1_000_000,
+        Measure::QueueUndos(4096),
+    ),
+    ("link changes and undos", 5_000_000, Measure::LinkUndos),
+];
+
+impl Measure {
+    // Takes so many turns, and answers a number that depends on what each of them gave.
+    fn run(self, alloc: Global, turns: u32) -> Result<u64, AllocError> {
+        match self {
+            Measure::Draws => Ok(streams::draws(turns)),
+            Measure::Undraws => Ok(streams::undraws(turns)),
+            Measure::QueueTurns(pending) => queue::turns(alloc, pending, turns),
+            Measure::QueueUndos(pending) => queue::undos(alloc, pending, turns),
+            Measure::LinkUndos => links::undos(alloc, turns),
+        }
+    }
+}
+
+// A number that depends on one before it and on a word.
+fn mixed(sum: u64, word: u64) -> u64 {
+    sum.wrapping_mul(6_364_136_223_846_793_005)
+        .wrapping_add(word)
+}
+
+fn main(rt: HostRuntime) -> io::Result<()> {
+    let quiet = env::args(&rt)?.any(|word| word.as_str() == "quiet");
+    for (name, turns, measure) in MEASURES {
+        if quiet {
+            let sum = measure.run(rt.alloc(), QUIET_TURNS)?;
+            println!(rt; "{name}: {QUIET_TURNS} turns, checksum {sum}")?;
+        } else {
+            let start = Instant::now(&rt)?;
+            let sum = measure.run(rt.alloc(), turns)?;
+            let seconds = start.elapsed(&rt)?.as_secs_f64();
+            let rate = f64::from(turns) / seconds;
+            println!(rt; "{name}: {rate:.0} a second, {turns} turns, checksum {sum}")?;
+        }
+    }
+    Ok(())
+}
