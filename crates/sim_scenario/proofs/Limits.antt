@@ -1,0 +1,154 @@
+-- A text that is accepted is within the limits.
+use Rattle.std.proofs.Common.{◌≡◌, ℕ, ◌+◌, ◌-◌, ◌<◌, ◌≤◌, zero, suc, Bool, true, false, cond, List, [], ◌∷◌, ◌++◌, length, map, replicate, get_or, Option, Some, None, Result, Ok, Err, refl, sym, ap, subst, ◌∙◌, codes, length-append, arith}
+use Rattle.std.specs.Prelude.{pos, negsuc, nat_lt, nat_le, ◌||◌, if◌then◌else◌}
+use Rattle.std.specs.Option.{unwrap_or, option_map, option_and_then}
+use Rattle.std.proofs.lemmas.Bool.{and_parts, leb-true, ltb-false}
+use Rattle.std.proofs.lemmas.List.{length-map, length-replicate, get_or-replicate, get_or-append_right, get_or-take}
+use Rattle.toml.specs.Data.{Data, Members, string, integer, float, boolean, datetime, array, table, get_member, as_integer, as_str, as_table}
+use Rattle.toml.specs.Parse.{parse_document}
+use Rattle.sim_links.specs.Ways.{at_once, IsWay}
+use Rattle.sim_links.specs.Link.{direction}
+use Rattle.sim_scenario.specs.Scenario.{Fault, ScenarioText, first_some, key_faults, count_fault, repeated_fault, document_fault, scenario_of, read, read_document, text_fault, unknown_key, top_keys, client_keys, at_key, keyed, whole_fault, string_fault, list_fault, list_of, names_fault, client_fault, clients_fault, is_within, is_empty, is_name, out_of_range, whole, server_names, clients, host_names, least_servers, protocol_of, first_32, way_of}
+use Rattle.sim_scenario.specs.Limits.{IsWithinLimits}
+
+-- the first fault of several is none: so are all
+no_first : {A : Type 0} (o : Option A) (more : List (Option A)) → first_some (o ∷ more) ≡ None → (o ≡ None) × (first_some more ≡ None)
+no_first None more h = (refl, h)
+no_first (Some x) more h = cc
+
+no_keyed : (key : List ℕ) (o : Option ℕ) → keyed key o ≡ None → o ≡ None
+no_keyed key None h = refl
+no_keyed key (Some n) h = cc
+
+abbrev number_in : Option Data → ℕ
+number_in o = elim (option_and_then as_integer o) [ None ↦ 0 | Some z ↦ elim z [ pos n ↦ n | negsuc n ↦ 0 ] ]
+
+passed : (own : ℕ) (b : Bool) → (if b then None else Some own) ≡ None → b ≡ true
+passed own true h = refl
+passed own false h = cc
+
+-- a number without a fault is in its range
+number_within : (low high own : ℕ) (o : Option Data) → whole_fault (is_within low high) own o ≡ None → (low ≤ number_in o) × (number_in o ≤ high)
+number_within low high own None h = cc
+number_within low high own (Some (integer (pos n))) h =
+    let parts = and_parts (nat_le low n) (nat_le n high) (passed own (is_within low high (pos n)) h) in
+    (leb-true low n parts.0, leb-true n high parts.1)
+number_within low high own (Some (integer (negsuc n))) h = cc
+number_within low high own (Some (string s)) h = cc
+number_within low high own (Some (float x)) h = cc
+number_within low high own (Some (boolean b)) h = cc
+number_within low high own (Some (datetime d)) h = cc
+number_within low high own (Some (array ds)) h = cc
+number_within low high own (Some (table ms)) h = cc
+
+whole_within : (key : List ℕ) (low high own : ℕ) (doc : Members) → at_key key doc (whole_fault (is_within low high) own) ≡ None → (low ≤ whole key doc) × (whole key doc ≤ high)
+whole_within key low high own doc h = number_within low high own (get_member key doc) (no_keyed key _ h)
+
+-- a list without a fault has items, and they have none
+abbrev items_in : {B : Type 0} → (Data → Option B) → Option Data → List B
+items_in f o = unwrap_or (option_and_then (list_of f) o) []
+
+filled_list : {B : Type 0} (own : List B → Option ℕ) (found : Option (List B))
+    → (elim found as (λ _. Option ℕ) [ None ↦ Some 5 | Some xs ↦ if is_empty xs then Some out_of_range else own xs ]) ≡ None → (1 ≤ length (unwrap_or found [])) × (own (unwrap_or found []) ≡ None)
+filled_list own None h = cc
+filled_list own (Some []) h = cc
+filled_list own (Some (x ∷ xs)) h = (omega arith, h)
+
+list_within : {B : Type 0} (own : List B → Option ℕ) (f : Data → Option B) (o : Option Data) → list_fault own f o ≡ None → (1 ≤ length (items_in f o)) × (own (items_in f o) ≡ None)
+list_within own f None h = cc
+list_within own f (Some d) h = filled_list own (list_of f d) h
+
+-- the operations of clients without a fault
+client_within : (client : Members) → client_fault client ≡ None → (1 ≤ whole (codes "ops") client) × (whole (codes "ops") client ≤ 1000)
+client_within client h =
+    let keys = no_first (option_map (λ _. 3) (unknown_key client_keys client)) _ h in
+    let name = no_first (string_fault is_name 10 (get_member (codes "name") client)) _ keys.1 in
+    let ops = no_first (whole_fault (is_within 1 1000) out_of_range (get_member (codes "ops") client)) [] name.1 in
+    number_within 1 1000 out_of_range (get_member (codes "ops") client) ops.0
+
+clients_within : (clients : List Members) → clients_fault clients ≡ None → (k : ℕ) → k < length clients
+    → (1 ≤ get_or (map (whole (codes "ops")) clients) k 0) × (get_or (map (whole (codes "ops")) clients) k 0 ≤ 1000)
+clients_within [] h k below = absurd (omega arith)
+clients_within (client ∷ more) h zero below = client_within client (no_first (client_fault client) (map client_fault more) h).0
+clients_within (client ∷ more) h (suc k) below = clients_within more (no_first (client_fault client) (map client_fault more) h).1 k (omega arith)
+
+-- the operations of a client among those of all hosts
+ops_at : (servers : ℕ) (operations : List ℕ) (h : ℕ) → servers ≤ h → h < 32 → h < servers + length operations
+    → get_or (first_32 (replicate servers 0 ++ operations)) h 0 ≡ get_or operations (h - servers) 0
+ops_at servers operations h from below within =
+    let zeros : length (replicate {A = ℕ} servers 0) ≡ servers = length-replicate {A = ℕ} servers 0 in
+    let size : length (replicate servers 0 ++ operations) ≡ servers + length operations = omega (arith, length-append (replicate {A = ℕ} servers 0) operations, zeros) in
+    get_or-take 32 ((replicate servers 0 ++ operations) ++ replicate 32 0) h 0 below
+    ∙ first_part (replicate servers 0 ++ operations) (replicate 32 0) h (omega arith)
+    ∙ get_or-append_right (replicate servers 0) operations servers h 0 zeros from
+  where
+    first_part : (xs ys : List ℕ) (i : ℕ) → i < length xs → get_or (xs ++ ys) i 0 ≡ get_or xs i 0
+    first_part [] ys i lt = absurd (omega arith)
+    first_part (x ∷ xs) ys zero lt = refl
+    first_part (x ∷ xs) ys (suc i) lt = first_part xs ys i (omega arith)
+
+no_count : (b : Bool) (fault : Fault) → (if b then Some fault else None) ≡ None → b ≡ false
+no_count true fault h = cc
+no_count false fault h = refl
+
+neither : (a b : Bool) → (a || b) ≡ false → a ≡ false
+neither true b h = cc
+neither false b h = refl
+
+-- none of several faults
+none_at : {A : Type 0} (xs : List (Option A)) → first_some xs ≡ None → (k : ℕ) → get_or xs k None ≡ None
+none_at [] h k = refl
+none_at (None ∷ xs) h zero = refl
+none_at (None ∷ xs) h (suc k) = none_at xs h k
+none_at (Some x ∷ xs) h k = cc
+
+abbrev faults_of : Members → List (Option Fault)
+faults_of doc = option_map (λ key. record { number = 3; key = key }) (unknown_key top_keys doc) ∷ first_some (key_faults doc) ∷ count_fault doc ∷ repeated_fault doc ∷ []
+
+-- a document without a fault says a scenario within the limits
+scenario_of-limits : (doc : Members) → document_fault doc ≡ None → IsWithinLimits (scenario_of doc)
+scenario_of-limits doc h =
+    let keys = none_at (key_faults doc) (none_at (faults_of doc) h 1) in
+    let tick = whole_within (codes "tick") 1 60000 out_of_range doc (keys 3) in
+    let latency_min = whole_within (codes "latency_min") 0 60000 out_of_range doc (keys 4) in
+    let latency_max = whole_within (codes "latency_max") (whole (codes "latency_min") doc) 60000 out_of_range doc (keys 5) in
+    let loss = whole_within (codes "loss") 0 1000 out_of_range doc (keys 6) in
+    let servers = list_within names_fault as_str (get_member (codes "servers") doc) (no_keyed (codes "servers") _ (keys 7)) in
+    let checkpoint = whole_within (codes "checkpoint") 1 1024 out_of_range doc (keys 8) in
+    let window = whole_within (codes "window") 1 4096 out_of_range doc (keys 9) in
+    let clients_are = list_within clients_fault as_table (get_member (codes "client") doc) (no_keyed (codes "client") _ (keys 10)) in
+    let too_few = nat_lt (length (server_names doc)) (least_servers (protocol_of doc)) in
+    let many : nat_lt 32 (length (host_names doc)) ≡ false = neither _ too_few (no_count (nat_lt 32 (length (host_names doc)) || too_few) (record { number = 11; key = codes "servers" }) (none_at (faults_of doc) h 2)) in
+    let hosts : length (host_names doc) ≤ 32 = ltb-false 32 (length (host_names doc)) many in
+    let operations = map (whole (codes "ops")) (clients doc) in
+    let size : length (host_names doc) ≡ length (server_names doc) + length (clients doc) =
+    length-append (server_names doc) _ ∙ ap (λ n. length (server_names doc) + n) (length-map (clients doc) _) in
+    let counted : length operations ≡ length (clients doc) = length-map (clients doc) (whole (codes "ops")) in
+    record {
+      tick = tick;
+      ways = λ a b below_a below_b.
+          subst IsWay (sym (get_or-replicate 1024 (direction a b) (way_of doc) at_once (omega arith))) (record { order = latency_max.0; latency = latency_max.1; loss = loss.1 });
+      disk_latency = omega arith;
+      servers = servers.0;
+      clients = omega (arith, size, clients_are.0);
+      hosts = hosts;
+      ops = λ h from below.
+          subst (λ n. (1 ≤ n) × (n ≤ 1000)) (sym (ops_at (length (server_names doc)) operations h from (omega arith) (omega (arith, size, counted))))
+          (clients_within (clients doc) clients_are.1 (h - length (server_names doc)) (omega (arith, size)));
+      checkpoint = checkpoint;
+      window = window;
+    }
+
+accepted : (doc : Members) (s : ScenarioText) (fault : Option Fault) → document_fault doc ≡ fault
+    → ◌≡◌ {A = Result ScenarioText Fault} (elim fault as (λ _. Result ScenarioText Fault) [ Some f ↦ Err f | None ↦ Ok (scenario_of doc) ]) (Ok s) → IsWithinLimits s
+accepted doc s None e h = let same : scenario_of doc ≡ s = cc in subst IsWithinLimits same (scenario_of-limits doc e)
+accepted doc s (Some f) e h = cc
+
+read_document-limits : (o : Option Members) (s : ScenarioText) (long : Bool) → cond long (Err (text_fault 1)) (read_document o) ≡ Ok s → IsWithinLimits s
+read_document-limits o s true h = cc
+read_document-limits None s false h = cc
+read_document-limits (Some doc) s false h = accepted doc s (document_fault doc) refl h
+
+-- what is read is within the limits
+pub read-limits : (text : List ℕ) (s : ScenarioText) → read text ≡ Ok s → IsWithinLimits s
+read-limits text s h = read_document-limits (parse_document text) s (nat_lt 65536 (length text)) h

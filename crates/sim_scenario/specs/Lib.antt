@@ -1,0 +1,6 @@
+pub mod Faults
+pub mod Hosts
+pub mod Limits
+pub mod Parts
+pub mod Scenario
+pub mod Seen

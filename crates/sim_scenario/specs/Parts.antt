@@ -1,0 +1,103 @@
+-- The parts of a document, one after the other: the value of a part, or its fault.
+use Rattle.std.specs.Prelude.{ℕ, nat_lt, ◌||◌, codes, List, [], ◌∷◌, ◌++◌, length, map, replicate, Option, Some, None, is_some, Result, Ok, Err, if◌then◌else◌}
+use Rattle.std.specs.Option.{unwrap_or, option_map}
+use Rattle.std.specs.Result.{result_ok}
+use Rattle.hex.specs.Hex.{decode_of}
+use Rattle.toml.specs.Data.{Members, get_member, as_str, as_table}
+use Rattle.sim_links.specs.Ways.{all}
+use Rattle.sim_scenario.specs.declared.Protocol.{Protocol}
+use Rattle.sim_scenario.specs.Scenario.{Fault, ScenarioText, top_keys, client_keys, unknown_key, keyed, at_key, whole_fault, string_fault, list_fault, names_fault, clients_fault, is_name, is_within, out_of_range, is_seed, protocol_named, protocol_of, least_servers, whole, text_at, server_names, clients, repeated_from, first_32}
+
+-- a value, where there is no fault
+abbrev pub checked : {A : Type 0} → Option Fault → A → Result A Fault
+checked None value = Ok value
+checked (Some fault) value = Err fault
+
+infixl 10 ◌>>=◌
+abbrev pub ◌>>=◌ : {A B : Type 0} → Result A Fault → (A → Result B Fault) → Result B Fault
+(Ok x) >>= f = f x
+(Err e) >>= f = Err e
+
+unfoldable pub keys_of : Members → Result (Unit {0}) Fault
+keys_of doc = checked (option_map (λ key. record { number = 3; key = key }) (unknown_key top_keys doc)) tt
+
+unfoldable pub format_of : Members → Result (Unit {0}) Fault
+format_of doc = checked (at_key (codes "format") doc (whole_fault (is_within 1 1) 8)) tt
+
+unfoldable pub seed_of : Members → Result (List ℕ) Fault
+seed_of doc = checked (at_key (codes "seed") doc (string_fault is_seed 6)) (unwrap_or (result_ok (decode_of (text_at (codes "seed") doc))) [])
+
+unfoldable pub protocol_in : Members → Result Protocol Fault
+protocol_in doc = checked (at_key (codes "protocol") doc (string_fault (λ s. is_some (protocol_named s)) 7)) (protocol_of doc)
+
+-- a number at a key, whose faults are written with another
+unfoldable pub number_of : List ℕ → List ℕ → ℕ → ℕ → Members → Result ℕ Fault
+number_of name key low high doc = checked (keyed key (whole_fault (is_within low high) out_of_range (get_member name doc))) (whole name doc)
+
+unfoldable pub servers_of : Members → Result (List (List ℕ)) Fault
+servers_of doc = checked (at_key (codes "servers") doc (list_fault names_fault as_str)) (server_names doc)
+
+-- a client's keys, its name, and then its operations
+unfoldable pub client_keys_of : Members → Result (Unit {0}) Fault
+client_keys_of client = checked (keyed (codes "client") (option_map (λ _. 3) (unknown_key client_keys client))) tt
+
+unfoldable pub client_name_of : Members → Result (List ℕ) Fault
+client_name_of client = checked (keyed (codes "client") (string_fault is_name 10 (get_member (codes "name") client))) (text_at (codes "name") client)
+
+unfoldable pub client_of : Members → Result (List ℕ × ℕ) Fault
+client_of client = do
+  known ← client_keys_of client
+  name ← client_name_of client
+  operations ← number_of (codes "ops") (codes "client") 1 1000 client
+  Ok (name, operations)
+
+-- some clients after those whose names and operations are there
+unfoldable pub listed : List (List ℕ) → List ℕ → List Members → Result (List (List ℕ) × List ℕ) Fault
+listed names operations [] = Ok (names, operations)
+listed names operations (client ∷ more) = do
+  first ← client_of client
+  listed (names ++ first.0 ∷ []) (operations ++ first.1 ∷ []) more
+
+-- the names, with those of the clients after them, and the operations of the clients
+unfoldable pub clients_of : List (List ℕ) → Members → Result (List (List ℕ) × List ℕ) Fault
+clients_of names doc =
+    checked (at_key (codes "client") doc (list_fault clients_fault as_table)) (names ++ map (text_at (codes "name")) (clients doc), map (whole (codes "ops")) (clients doc))
+
+-- there are as many hosts, and servers, as may be
+unfoldable pub count_of : Protocol → ℕ → ℕ → Result (Unit {0}) Fault
+count_of protocol servers hosts = checked (if nat_lt 32 hosts || nat_lt servers (least_servers protocol) then Some (record { number = 11; key = codes "servers" }) else None) tt
+
+-- no two names are equal
+unfoldable pub differing : ℕ → List (List ℕ) → Result (List (List ℕ)) Fault
+differing servers names =
+    checked (option_map (λ k. record { number = 12; key = if nat_lt k servers then codes "servers" else codes "client" }) (repeated_from 0 [] names)) names
+
+-- what a document says, part by part
+unfoldable pub scenario_in : Members → Result ScenarioText Fault
+scenario_in doc = do
+  known ← keys_of doc
+  format ← format_of doc
+  seed ← seed_of doc
+  protocol ← protocol_in doc
+  tick ← number_of (codes "tick") (codes "tick") 1 60000 doc
+  latency_min ← number_of (codes "latency_min") (codes "latency_min") 0 60000 doc
+  latency_max ← number_of (codes "latency_max") (codes "latency_max") latency_min 60000 doc
+  loss ← number_of (codes "loss") (codes "loss") 0 1000 doc
+  servers ← servers_of doc
+  checkpoint ← number_of (codes "checkpoint") (codes "checkpoint") 1 1024 doc
+  window ← number_of (codes "window") (codes "window") 1 4096 doc
+  hosts ← clients_of servers doc
+  fitting ← count_of protocol (length servers) (length hosts.0)
+  names ← differing (length servers) hosts.0
+  Ok (record {
+    names = names;
+    protocol = protocol;
+    seed = seed;
+    tick = tick;
+    ways = all (record { latency_min = latency_min; latency_max = latency_max; loss = loss });
+    disk_latency = 0;
+    servers = length servers;
+    ops = first_32 (replicate (length servers) 0 ++ hosts.1);
+    checkpoint = checkpoint;
+    window = window;
+  })

@@ -1,0 +1,155 @@
+//! The values at the keys of a table.
+ghost use Rattle.std.specs.Prelude.{◌≡◌, ℕ, ℤ, Bool, List, map, IfOk, IfErr, Some};
+ghost use Rattle.std.specs.Option.{option_map, option_copied};
+ghost use Rattle.std.specs.List.{list_any};
+ghost use Rattle.std.specs.Str.{bytes_eq};
+ghost use Rattle.toml.specs.Data.{get_member, string, integer};
+ghost use Rattle.toml.specs.View.{view, table_view};
+ghost use Rattle.sim_scenario.specs.Faults as faults;
+ghost use Rattle.sim_scenario.specs.Scenario as scenario;
+ghost use Rattle.sim_scenario.specs.Parts as parts;
+
+use crate::Protocol;
+use crate::fault::{Key, ScenarioFault};
+use std::alloc::Global;
+use toml::{Table, Value};
+
+/// The value at a key.
+pub fn field<'a>(table: &'a Table, name: &str) -> Option<&'a Value>
+    ensures { option_map (λ v. view v.now) result ≡ get_member name.now (table_view table.now) }
+{
+    table.get(name)
+}
+
+/// The first key of a table that is not among the known ones.
+pub fn unknown_key<'a>(table: &'a Table, known: &[&str]) -> Option<&'a str>
+    ensures { option_copied result ≡ scenario.unknown_key (map (λ k. k.now) known.now) (table_view table.now) }
+{
+    for (key, _) in table.iter() {
+        if !is_among(key.as_str(), known) {
+            return Some(key.as_str());
+        }
+    }
+    None
+}
+
+fn is_among(key: &str, known: &[&str]) -> bool
+    ensures { result ≡ list_any (λ k. bytes_eq key.now k.now) known.now }
+{
+    known.iter().any(|k| key == *k)
+}
+
+/// The text at a key. Its faults, that the value is missing or of another type, are written with `key`, whatever is asked
+/// of the text.
+pub fn text_at<'a>(table: &'a Table, name: &str, key: Key) -> Result<&'a str, ScenarioFault>
+    ensures text { IfOk result (λ text. get_member name.now (table_view table.now) ≡ Some (string text.now)) }
+    ensures fault { IfErr result (λ e. (test : List ℕ → Bool) (own : ℕ) →
+        scenario.keyed (faults.key_text key) (scenario.string_fault test own (get_member name.now (table_view table.now))) ≡ Some (faults.fault_of e)) }
+{
+    let Some(value) = field(table, name) else {
+        return Err(ScenarioFault::Missing(key));
+    };
+    match value.as_str() {
+        Some(text) => Ok(text),
+        None => Err(ScenarioFault::WrongType(key)),
+    }
+}
+
+/// The whole number at a key. Its faults are as those of `text_at`.
+pub fn integer_at(table: &Table, name: &str, key: Key) -> Result<i64, ScenarioFault>
+    ensures number { IfOk result (λ z. get_member name.now (table_view table.now) ≡ Some (integer z)) }
+    ensures fault { IfErr result (λ e. (test : ℤ → Bool) (own : ℕ) →
+        scenario.keyed (faults.key_text key) (scenario.whole_fault test own (get_member name.now (table_view table.now))) ≡ Some (faults.fault_of e)) }
+{
+    let Some(value) = field(table, name) else {
+        return Err(ScenarioFault::Missing(key));
+    };
+    match value.as_integer() {
+        Some(number) => Ok(number),
+        None => Err(ScenarioFault::WrongType(key)),
+    }
+}
+
+/// The number at a key, from `low` to `high`. Its faults are written with `key`.
+#[tactic(auto, unfolding(crate::specs::Parts::number_of))]
+pub fn number_at(
+    table: &Table,
+    name: &str,
+    key: Key,
+    low: u32,
+    high: u32,
+) -> Result<u32, ScenarioFault>
+    ensures { faults.Gives (λ n. n) result (parts.number_of name.now (faults.key_text key) low high (table_view table.now)) }
+{
+    let number = integer_at(table, name, key)?;
+    if number < i64::from(low) || number > i64::from(high) {
+        return Err(ScenarioFault::OutOfRange(key));
+    }
+    Ok(number as u32)
+}
+
+/// The number at a key of a scenario, from `low` to `high`.
+pub fn number(table: &Table, key: Key, low: u32, high: u32) -> Result<u32, ScenarioFault>
+    ensures { faults.Gives (λ n. n) result (parts.number_of (faults.key_text key) (faults.key_text key) low high (table_view table.now)) }
+{
+    number_at(table, key.text(), key, low, high)
+}
+
+/// The format, which is 1.
+#[tactic(auto, unfolding(crate::specs::Parts::format_of))]
+pub fn format(table: &Table) -> Result<(), ScenarioFault>
+    ensures { faults.Gives (λ n. n) result (parts.format_of (table_view table.now)) }
+{
+    if integer_at(table, "format", Key::Format)? == 1 {
+        Ok(())
+    } else {
+        Err(ScenarioFault::UnknownFormat)
+    }
+}
+
+/// The seed, 64 hexadecimal digits.
+#[tactic(auto, unfolding(crate::specs::Parts::seed_of))]
+pub fn seed(table: &Table) -> Result<[u8; 32], ScenarioFault>
+    ensures { faults.Gives (λ seed. seed) result (parts.seed_of (table_view table.now)) }
+{
+    let mut seed = [0; 32];
+    match hex::decode_to_slice(text_at(table, "seed", Key::Seed)?, &mut seed) {
+        Ok(()) => Ok(seed),
+        Err(_) => Err(ScenarioFault::BadSeed),
+    }
+}
+
+/// The protocol.
+#[tactic(auto, unfolding(crate::specs::Parts::protocol_in))]
+pub fn protocol(table: &Table) -> Result<Protocol, ScenarioFault>
+    ensures { faults.Gives (λ protocol. protocol) result (parts.protocol_in (table_view table.now)) }
+{
+    match Protocol::named(text_at(table, "protocol", Key::Protocol)?) {
+        Some(protocol) => Ok(protocol),
+        None => Err(ScenarioFault::UnknownProtocol),
+    }
+}
+
+/// Each key of a scenario is one that it may have, or else the fault names the first that is not.
+#[tactic(auto, unfolding(crate::specs::Parts::keys_of))]
+pub fn known_keys(alloc: Global, table: &Table) -> Result<(), ScenarioFault>
+    ensures { faults.Gives (λ n. n) result (parts.keys_of (table_view table.now)) }
+{
+    let known = [
+        "format",
+        "seed",
+        "protocol",
+        "tick",
+        "latency_min",
+        "latency_max",
+        "loss",
+        "servers",
+        "checkpoint",
+        "window",
+        "client",
+    ];
+    match unknown_key(table, &known) {
+        Some(key) => Err(ScenarioFault::UnknownKey(String::from_str(alloc, key)?)),
+        None => Ok(()),
+    }
+}
