@@ -1,0 +1,114 @@
+//! A buffer between a reader and what takes its bytes one by one.
+ghost use Rattle.std.specs.Prelude.{◌≡◌, ℕ, List, [], ◌∷◌, ◌≤◌, ◌<◌, ◌^◌, ◌==◌, length, slice_range, IfNone, OnOk, OnErr, option_to_list, ◌++◌};
+ghost use Rattle.sim_lines.specs.Gives.{Gives};
+ghost use Rattle.std.specs.Io.KnownBytes.{prepend_known, Consumes, Keeps, IsAtEnd};
+
+use std::io::Read;
+use std::marker::Model;
+
+const ROOM: usize = 4096;
+
+/// A reader that still gives bytes after so many reads counts as failed.
+const MOST_READS: u64 = 1 << 40;
+
+/// The reader failed.
+#[derive(Debug, Drop)]
+pub struct ReaderFault;
+
+/// What was read and not yet taken.
+#[derive(Drop)]
+pub struct Ahead {
+    bytes: [u8; ROOM],
+    start: usize,
+    end: usize,
+    reads: u64,
+}
+
+impl Model for Ahead {
+    ghost Value = { List ℕ };
+
+    ghost view = { λ a. slice_range a.bytes a.start a.end };
+
+    ghost invariant = { λ a. (a.start ≤ a.end) × (a.end ≤ 4096) };
+}
+
+impl Ahead {
+    /// Nothing was read.
+    pub fn new() -> Ahead
+        ensures { result ≡ [] }
+    {
+        Ahead {
+            bytes: [0; ROOM],
+            start: 0,
+            end: 0,
+            reads: 0,
+        }
+    }
+
+    /// Whether no byte waits, so that the next one takes a read.
+    pub fn is_empty(&self) -> bool
+        ensures { result ≡ (length self.now == 0) }
+    {
+        self.start == self.end
+    }
+
+    /// One read, while no byte is waiting.
+    fn fill<R: Read>(&mut self, reader: &mut R) -> Result<(), ReaderFault>
+        requires { self.old ≡ [] }
+        ensures ok { OnOk result (Consumes (R.remaining reader.old) (R.remaining reader.new) self.new) }
+        ensures end { OnOk result (self.new ≡ [] → IsAtEnd (R.remaining reader.new)) }
+        ensures err { OnErr result (Keeps (R.remaining reader.old) (R.remaining reader.new) × (self.new ≡ [])) }
+    {
+        if self.reads >= MOST_READS {
+            return Err(ReaderFault);
+        }
+        self.reads += 1;
+        self.start = 0;
+        self.end = 0;
+        match reader.read(&mut self.bytes) {
+            Ok(n) => {
+                self.end = n;
+                Ok(())
+            }
+            Err(_) => Err(ReaderFault),
+        }
+    }
+
+    /// Takes the first byte that waits.
+    fn take_first(&mut self) -> Option<u8>
+        ensures front { self.old ≡ option_to_list result ++ self.new }
+        ensures none { IfNone result (self.new ≡ []) }
+    {
+        if self.start >= self.end {
+            return None;
+        }
+        let byte = self.bytes[self.start];
+        self.start += 1;
+        Some(byte)
+    }
+}
+
+/// What comes next of a reader.
+#[derive(Clone, Copy)]
+pub enum Next {
+    Byte(u8),
+    End,
+    Failed,
+}
+
+/// The next byte.
+pub fn next_byte<R: Read>(reader: &mut R, ahead: &mut Ahead) -> Next
+    ensures { Gives (prepend_known ahead.old (R.remaining reader.old))
+        (prepend_known ahead.new (R.remaining reader.new)) result }
+{
+    if let Some(byte) = ahead.take_first() {
+        return Next::Byte(byte);
+    }
+    match ahead.fill(reader) {
+        Ok(()) => match ahead.take_first() {
+            Some(byte) => Next::Byte(byte),
+            None => Next::End,
+        },
+        Err(_) => Next::Failed,
+    }
+}

@@ -1,0 +1,156 @@
+use super::*;
+use std::alloc::Global;
+use std::io;
+use std::io::{ErrorKind, Read, Write};
+use std::test::Fail;
+
+const INPUT: &[u8] = b"a = 1\n--- \n---\r\nstep\r\n\nlook\r";
+
+/// Gives one byte a read, and fails after so many reads.
+#[derive(Drop)]
+struct Pieces<'a> {
+    rest: &'a [u8],
+    reads_left: usize,
+}
+
+impl Read for Pieces<'_> {
+    fn read(&mut self, buf: &mut [u8]) -> io::Result<usize> {
+        if self.reads_left == 0 {
+            return Err(io::Error::from(ErrorKind::Other));
+        }
+        self.reads_left -= 1;
+        if buf.is_empty() || self.rest.is_empty() {
+            return Ok(0);
+        }
+        buf[0] = self.rest[0];
+        self.rest = self.rest.split_at(1).1;
+        Ok(1)
+    }
+}
+
+/// Takes one byte a write, and fails after so many writes.
+#[derive(Drop)]
+struct Narrow {
+    held: Vec<u8>,
+    writes_left: usize,
+}
+
+impl Write for Narrow {
+    fn write(&mut self, buf: &[u8]) -> io::Result<usize> {
+        if self.writes_left == 0 {
+            return Err(io::Error::from(ErrorKind::Other));
+        }
+        self.writes_left -= 1;
+        let n = buf.len().min(1);
+        self.held.extend_from_slice(buf.split_at(n).0)?;
+        Ok(n)
+    }
+
+    fn flush(&mut self) -> io::Result<()> {
+        Ok(())
+    }
+}
+
+/// The head and the lines of an input, each with a bar after it, and how the input ended.
+fn cut<R: Read>(alloc: Global, reader: &mut R) -> Result<(Vec<u8>, &'static str), Fail> {
+    let mut ahead = Ahead::new();
+    let mut text = match read_head(alloc, reader, &mut ahead) {
+        Ok(text) => text,
+        Err(HeadFault::Failed) => return Ok((Vec::new(alloc), "no head")),
+        Err(HeadFault::NoMemory) => return Ok((Vec::new(alloc), "no memory")),
+    };
+    text.push(b'|')?;
+    let mut line = Vec::new(alloc);
+    for _ in 0..100 {
+        let end = match next_line(reader, &mut ahead, &mut line) {
+            NextLine::Line => "",
+            NextLine::Last => "last",
+            NextLine::End => "end",
+            NextLine::Failed => "failed",
+            NextLine::NoMemory => "no memory",
+        };
+        if end == "" || end == "last" {
+            text.extend_from_slice(line.as_slice())?;
+            text.push(b'|')?;
+        }
+        if end != "" {
+            return Ok((text, end));
+        }
+    }
+    Ok((text, "more"))
+}
+
+#[test]
+fn cuts_an_input(rt: HostRuntime) -> Result<(), Fail> {
+    let rows: [(&[u8], &[u8], &str); 7] = [
+        (INPUT, b"a = 1\n--- \n|step||look\r|", "last"),
+        (b"a\n---\nstep\n", b"a\n|step|", "end"),
+        (b"a\n---\n", b"a\n|", "end"),
+        (b"a\n---", b"a\n|", "end"),
+        (b"a", b"a|", "end"),
+        (b"", b"|", "end"),
+        (b"---\r\n---\n", b"|---|", "end"),
+    ];
+    for (input, want, ended) in rows {
+        let mut reader = input;
+        let (text, end) = cut(rt.alloc(), &mut reader)?;
+        assert_eq!(rt; text.as_slice(), want);
+        assert_eq!(rt; end, ended);
+        let mut pieces = Pieces {
+            rest: input,
+            reads_left: 100,
+        };
+        let (text, end) = cut(rt.alloc(), &mut pieces)?;
+        assert_eq!(rt; text.as_slice(), want);
+        assert_eq!(rt; end, ended);
+    }
+    Ok(())
+}
+
+#[test]
+fn tells_a_failure_at_each_read(rt: HostRuntime) -> Result<(), Fail> {
+    for k in 0..INPUT.len() + 1 {
+        let mut reader = Pieces {
+            rest: INPUT,
+            reads_left: k,
+        };
+        let (_, end) = cut(rt.alloc(), &mut reader)?;
+        let want = if k < 16 { "no head" } else { "failed" };
+        assert_eq!(rt; end, want, "at read {k}");
+    }
+    Ok(())
+}
+
+#[test]
+fn gathers_what_it_writes(rt: HostRuntime) -> Result<(), Fail> {
+    let mut writer = Vec::new(rt.alloc());
+    let mut outlet = Outlet::new(rt.alloc());
+    for _ in 0..1_000 {
+        assert!(rt; outlet.hand_over(&mut writer, b"0123456789").is_ok());
+    }
+    // 819 texts have room; the next one is written after them.
+    assert_eq!(rt; writer.len(), 8_200);
+    assert!(rt; outlet.flush(&mut writer).is_ok());
+    assert_eq!(rt; writer.len(), 10_000);
+    assert!(rt; put(&mut writer, b"end").is_ok());
+    assert!(rt; writer.ends_with(b"789end".as_slice()));
+    Ok(())
+}
+
+#[test]
+fn stops_at_each_write(rt: HostRuntime) -> Result<(), Fail> {
+    for k in 0..10 {
+        let mut writer = Narrow {
+            held: Vec::new(rt.alloc()),
+            writes_left: k,
+        };
+        let mut outlet = Outlet::new(rt.alloc());
+        assert!(rt; outlet.hand_over(&mut writer, b"0123456789").is_ok());
+        assert!(rt; outlet.flush(&mut writer).is_err(), "at write {k}");
+        assert_eq!(rt;
+            writer.held.as_slice(),
+            b"0123456789".as_slice().split_at(k).0
+        );
+    }
+    Ok(())
+}
