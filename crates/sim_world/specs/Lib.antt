@@ -1,0 +1,14 @@
+pub mod World
+pub mod Limits
+pub mod Events
+pub mod Acts
+pub mod Looks
+pub mod Records
+pub mod Sound
+pub mod Index
+pub mod Trail
+pub mod Room
+pub mod Undone
+pub mod Arrivals
+pub mod Purge
+pub mod Crashing

@@ -1,0 +1,245 @@
+//! Events of a world, forwards and backwards.
+ghost use Rattle.std.specs.Prelude.{◌≡◌, ℕ, ◌+◌, ◌-◌, ◌^◌, ◌<◌, ◌≤◌, [], ◌++◌, length, IfOk, OnOk, IsSome, Some, None, slice_index_or, if◌then◌else◌};
+ghost use Rattle.std.specs.List.{count_by};
+ghost use Rattle.sim_queue.specs.Pending.{first};
+ghost use Rattle.sim_world.specs.World.{at_time};
+ghost use Rattle.sim_world.specs.Events.{rules, after, next, refusal_of, stepped};
+ghost use Rattle.sim_world.specs.Acts.{acts, turns_of};
+ghost use Rattle.sim_world.specs.Index.{IsIndex, first_host, stopped_host, changing_host, LeadsBack};
+ghost use Rattle.sim_world.specs.Records.{AnswersFor, Fits, back};
+ghost use Rattle.sim_world.specs.Room.{IsReady};
+ghost use Rattle.sim_world.specs.Sound.{IsLawfulEvent};
+ghost use Rattle.sim_world.specs.Undone.{is_reaction, taken_back};
+ghost use Rattle.sim_world.specs.Trail.{IsTrail, taken_changes};
+
+use crate::index::Index;
+use crate::parts::Parts;
+use crate::record::Undo;
+use crate::scenario::Scenario;
+use crate::trail::Trail;
+use crate::undo::{Small, Taken};
+use crate::world::World;
+use crate::{Event, Fault, NoMemory};
+use sim_node::{Effects, Node};
+use std::alloc::Global;
+
+// The host whose timer a fault can change, else any.
+fn stopped_by(fault: Fault) -> u16
+    ensures { result ≡ stopped_host fault }
+{
+    match fault {
+        Fault::Crash(h) | Fault::Bounce(h) => h,
+        Fault::Hold(_, _)
+        | Fault::Release(_, _)
+        | Fault::Cut(_, _)
+        | Fault::CutOneway(_, _)
+        | Fault::Repair(_, _)
+        | Fault::RepairOneway(_, _) => 0,
+    }
+}
+
+impl<N: Node> Parts<N> {
+    // The host of the first occurrence, else any.
+    fn next_host(&self) -> u16
+        ensures { result ≡ first_host (first self.now.world.queue.items) }
+    {
+        match self.queue.first() {
+            None => 0,
+            Some((_due, _serial, occurrence)) => occurrence.host,
+        }
+    }
+
+    // The one host whose timer an event can change, else any.
+    fn changing_host(&self, event: Event) -> u16
+        ensures { result ≡ changing_host event self.now.world }
+    {
+        match event {
+            Event::Step => self.next_host(),
+            Event::Advance(_to) => 0,
+            Event::Fault(fault) => stopped_by(fault),
+        }
+    }
+
+    // The clock goes on to a time (ms).
+    fn advance(&mut self, alloc: Global, to: u64) -> Result<Trail<N>, NoMemory>
+        ensures world { OnOk result (self.new ≡ record self.old { world = at_time to self.old.world }) }
+        ensures trail { IfOk result (λ t. IsTrail N.records t.items self.old.world self.new.world) }
+        ensures acted { IfOk result (λ t. count_by is_reaction t.items ≡ 0) }
+    {
+        let mut trail = Vec::new(alloc);
+        trail.push(Small::Timed(self.clock))?;
+        self.clock = to;
+        Ok(trail)
+    }
+
+    // A fault.
+    fn fail(
+        &mut self,
+        alloc: Global,
+        sc: &Scenario,
+        index: &mut Index,
+        fault: Fault,
+        meter: &mut N::Meter,
+    ) -> Result<Trail<N>, NoMemory>
+        requires can { refusal_of (rules N.laws N.PROBES sc.now) (Event.Fault fault) self.old.world ≡ None }
+        requires seed { self.old.seed ≡ sc.now.seed }
+        requires ready { IsReady N.told sc.now.setup self.old.world }
+        requires index { IsIndex index.old self.old.world }
+        ensures world { OnOk result (self.new ≡ record self.old { world = after (rules N.laws N.PROBES sc.now) (Event.Fault fault) self.old.world }) }
+        ensures trail { IfOk result (λ t. IsTrail N.records t.items self.old.world self.new.world) }
+        ensures acted { IfOk result (λ t. count_by is_reaction t.items ≡ 0) }
+        ensures lawful { OnOk result (IsLawfulEvent N.told (rules N.laws N.PROBES sc.now) (Event.Fault fault) self.old.world) }
+        ensures index { OnOk result (IsIndex index.new self.new.world) }
+        ensures work { OnOk result (N.Meter.work meter.new ≡ record (N.Meter.work meter.old) { turns = (N.Meter.work meter.old).turns + turns_of self.old.world (Event.Fault fault) }) }
+    {
+        let mut trail = Vec::new(alloc);
+        self.fault(alloc, sc, index, &mut trail, fault, meter)?;
+        Ok(trail)
+    }
+
+    // An event, of which the small changes are answered.
+    fn event(
+        &mut self,
+        alloc: Global,
+        sc: &Scenario,
+        index: &mut Index,
+        effects: &mut Effects<N::Msg>,
+        event: Event,
+        meter: &mut N::Meter,
+    ) -> Result<(Option<Taken<N::Msg>>, Trail<N>), NoMemory>
+        requires can { refusal_of (rules N.laws N.PROBES sc.now) event self.old.world ≡ None }
+        requires seed { self.old.seed ≡ sc.now.seed }
+        requires ready { IsReady N.told sc.now.setup self.old.world }
+        requires index { IsIndex index.old self.old.world }
+        requires empty { effects.old ≡ record { hosts = sc.now.setup.hosts; list = [] } }
+        ensures world { OnOk result (self.new ≡ record self.old { world = after (rules N.laws N.PROBES sc.now) event self.old.world }) }
+        ensures trail { IfOk result (λ r. IsTrail N.records (taken_changes r.0 ++ r.1.items) self.old.world self.new.world) }
+        ensures acted { IfOk result (λ r. count_by is_reaction (taken_changes {State = N} {Undo = N.Undo} r.0 ++ r.1.items) ≡ (if acts self.old.world event then 1 else 0)) }
+        ensures lawful { OnOk result (IsLawfulEvent N.told (rules N.laws N.PROBES sc.now) event self.old.world) }
+        ensures index { OnOk result (IsIndex index.new self.new.world) }
+        ensures spent { OnOk result (effects.new ≡ effects.old) }
+        ensures work { OnOk result (N.Meter.work meter.new ≡ record (N.Meter.work meter.old) { turns = (N.Meter.work meter.old).turns + turns_of self.old.world event }) }
+    {
+        match event {
+            Event::Step => {
+                let (taken, trail) = self.step(alloc, sc, index, effects, meter)?;
+                Ok((Some(taken), trail))
+            }
+            Event::Advance(to) => {
+                let trail = self.advance(alloc, to)?;
+                Ok((None, trail))
+            }
+            Event::Fault(fault) => {
+                let trail = self.fail(alloc, sc, index, fault, meter)?;
+                Ok((None, trail))
+            }
+        }
+    }
+}
+
+impl<N: Node> Parts<N> {
+    // Takes back what a step did first.
+    fn take_back_taken(&mut self, taken: Option<Taken<N::Msg>>) -> Result<(), NoMemory>
+        requires { Fits N.records (taken_changes {State = N} {Undo = N.Undo} taken) self.old.world }
+        ensures { OnOk result (self.new ≡ record self.old { world = back N.records (taken_changes {State = N} {Undo = N.Undo} taken) self.old.world }) }
+    {
+        match taken {
+            Some(Taken { item, clock }) => {
+                self.clock = clock;
+                self.queue.put_back(item)
+            }
+            None => Ok(()),
+        }
+    }
+}
+
+impl<N: Node> World<N> {
+    /// The world after an event that can happen, and a record by which it is taken back. At most one turn is counted: where a node
+    /// reacts, and where a bounce boots one; no copy and no undo is. The age, which is below 65,536, rises by one. The only
+    /// error is want of memory; nothing is left then.
+    pub fn apply(
+        self,
+        alloc: Global,
+        event: Event,
+        meter: &mut N::Meter,
+    ) -> Result<(World<N>, Undo<N>), NoMemory>
+        requires can { IsSome (next (rules N.laws N.PROBES self.scenario) self.world event) }
+        requires young { self.age < 65536 }
+        ensures answers { IfOk result (λ r. AnswersFor (rules N.laws N.PROBES self.scenario) N.records r.1.changes self.world event r.0.world) }
+        ensures scenario { IfOk result (λ r. r.0.scenario ≡ self.scenario) }
+        ensures age { IfOk result (λ r. r.0.age ≡ self.age + 1) }
+        ensures leads { IfOk result (λ r. LeadsBack N.told N.records r.1 r.0) }
+        ensures acted { IfOk result (λ r. count_by is_reaction r.1.changes ≡ (if acts self.world event then 1 else 0)) }
+        ensures work { OnOk result (N.Meter.work meter.new ≡ record (N.Meter.work meter.old) { turns = (N.Meter.work meter.old).turns + turns_of self.world event }) }
+    {
+        let World {
+            mut parts,
+            mut index,
+            mut effects,
+            scenario,
+            age,
+        } = self;
+        let host = parts.changing_host(event);
+        let timer = index.timers[host as usize];
+        let in_flight = index.in_flight;
+        let held = index.held;
+        let (taken, trail) = parts.event(alloc, &scenario, &mut index, &mut effects, event, meter)?;
+        let undo = Undo {
+            taken,
+            trail,
+            in_flight,
+            held,
+            host,
+            timer,
+        };
+        let world = World {
+            parts,
+            index,
+            effects,
+            scenario,
+            age: age + 1,
+        };
+        Ok((world, undo))
+    }
+
+    /// The world before an event, by the record that the event gave. One undo is counted where a node reacted in the event,
+    /// else none; no turn and no copy is. The age is lowered by one. The only error is want of memory; nothing is left then.
+    pub fn undo(
+        self,
+        alloc: Global,
+        undo: Undo<N>,
+        meter: &mut N::Meter,
+    ) -> Result<World<N>, NoMemory>
+        requires { LeadsBack N.told N.records undo self }
+        ensures world { IfOk result (λ w. w ≡ record { world = back N.records undo.changes self.world; scenario = self.scenario; age = self.age - 1 }) }
+        ensures work { OnOk result (N.Meter.work meter.new ≡ taken_back undo.changes (N.Meter.work meter.old)) }
+    {
+        let World {
+            mut parts,
+            mut index,
+            effects,
+            scenario,
+            age,
+        } = self;
+        let Undo {
+            taken,
+            trail,
+            in_flight,
+            held,
+            host,
+            timer,
+        } = undo;
+        parts.take_back_all(alloc, trail, meter)?;
+        parts.take_back_taken(taken)?;
+        index.in_flight = in_flight;
+        index.held = held;
+        index.timers[host as usize] = timer;
+        Ok(World {
+            parts,
+            index,
+            effects,
+            scenario,
+            age: age - 1,
+        })
+    }
+}
