@@ -139,7 +139,3 @@ unfolding asked
 index_asked r index w h i =
     let v = with_disk h (disk.all_asked (host_at h w).disk) w in
     index_queued index v (w.clock + r.scenario.disk_latency) h (Body.Sync (disk.not_asked (host_at h w).disk)) 0 refl (λ k. and_false (h == k)) (index_hosts index w v.hosts (length-set w.hosts h _) i)
-
--- a node is set that was there, and words are drawn
-pub index_start : {State Msg : Type 0} (index : Index) (w : World State Msg) (h due : ℕ) → IsIndex index w → IsIndex index (queued due h Body.Start w)
-index_start index w h due i = index_queued index w due h Body.Start 0 refl (λ k. and_false (h == k)) i

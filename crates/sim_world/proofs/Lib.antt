@@ -36,3 +36,6 @@ pub mod Taken
 pub mod Trails
 pub mod Turns
 pub mod Undoing
+mod Rows
+mod DiskRows
+mod MessageRows

@@ -12,3 +12,5 @@ pub mod Undone
 pub mod Arrivals
 pub mod Purge
 pub mod Crashing
+pub mod Scribe
+pub mod Seeds

@@ -16,6 +16,8 @@ mod scenario;
 mod start;
 mod step;
 mod take_back;
+#[cfg(test)]
+mod tests;
 mod trail;
 mod undo;
 mod world;
@@ -29,49 +31,81 @@ pub use world::World;
 /// What is done to the hosts and links from outside.
 #[derive(Clone, Copy, Debug, PartialEq, Eq)]
 pub enum Fault {
+    /// The host loses its node, its pending start and timer, and the syncs that have not come yet. Each of its writes that is not
+    /// stable is dropped, kept or torn, by a word of the stream for torn writes. Messages to it stay, and so does its being done.
+    /// Of a stopped host nothing changes.
     Crash(u16),
+    /// The host crashes where it runs, and boots from its stable bytes; its start is due now.
     Bounce(u16),
+    /// Both directions between the two hosts hold what is sent over them from now on: that from the first to the second, then the
+    /// other. A direction that was cut holds them too. What is in flight still arrives.
     Hold(u16, u16),
+    /// Both directions between the two hosts let go what they hold, which arrives now in the order in which it was sent, and are
+    /// open: that from the first to the second, then the other. A direction that is cut stays so.
     Release(u16, u16),
+    /// Both directions between the two hosts drop what is sent over them from now on, and what they hold: that from the first to
+    /// the second, then the other. What is in flight still arrives.
     Cut(u16, u16),
+    /// The direction from the first host to the second is cut as by `Cut`; that from the second to the first stays as it is.
     CutOneway(u16, u16),
+    /// Both directions between the two hosts are open again where they are cut: that from the first to the second, then the other.
+    /// A direction that holds messages stays so.
     Repair(u16, u16),
+    /// The direction from the first host to the second is open again where it is cut; that from the second to the first stays as it
+    /// is.
     RepairOneway(u16, u16),
 }
 
 /// An event of the world.
 #[derive(Clone, Copy, Debug, PartialEq, Eq)]
 pub enum Event {
+    /// The first pending occurrence, by its due and then by its serial, is taken out, the clock becomes its due, and it happens to
+    /// its host.
     Step,
+    /// The clock goes on to this time (ms), at most 60,000 ms later and not past what is due; nothing else changes.
     Advance(u64),
+    /// A fault from outside, at the time of the clock.
     Fault(Fault),
 }
 
 /// Why an event can't happen.
 #[derive(Clone, Copy, Debug, PartialEq, Eq)]
 pub enum Refusal {
+    /// A fault names a host that is not there.
     UnknownHost,
+    /// A fault of a link names one host twice.
     SameHost,
+    /// Nothing is pending for a step.
     Idle,
+    /// A time to go on to is earlier than the clock, more than 60,000 ms later, or later than what is due first.
     BadAdvance,
 }
 
 /// What one can look at.
 #[derive(Clone, Copy, Debug, PartialEq, Eq)]
 pub enum Query {
+    /// the clock, the serials and the streams of the whole world, and how many occurrences are pending and messages held
     Summary,
+    /// the first pending occurrence
     Next,
+    /// a host
     HostView(u16),
+    /// the direction from the first host to the second
     Link(u16, u16),
+    /// a probe of a host, by its number
     Probe(u16, u8),
 }
 
 /// The kind of an occurrence.
 #[derive(Clone, Copy, Debug, PartialEq, Eq)]
 pub enum Kind {
+    /// the start of a host that was booted
     Start,
+    /// the end of a timer's delay
     Timer,
+    /// a message that arrives
     Message,
+    /// a sync of the disk that comes
     Sync,
 }
 

@@ -97,6 +97,7 @@ fn is_setup(setup: &Setup) -> bool
 
 impl Scenario {
     ghost use Rattle.sim_world.specs.Limits.{IsScenario};
+    ghost use Rattle.sim_world.specs.Seeds.{numbered};
 
     /// A scenario: the seed of its words, how long a tick is (1 to 60,000 ms), how messages go over each open direction
     /// (latencies of 0 to 60,000 ms, the least at most the greatest; a loss of 0 to 1,000 in a thousand), how long a sync takes
@@ -203,5 +204,15 @@ impl Scenario {
             interval: self.interval,
             window: self.window,
         }
+    }
+
+    /// The scenario of run number `i` of a sweep: the seed's bytes 24 to 31 are those of `i`, low byte first, and all else is as it
+    /// is here.
+    pub fn numbered(&self, i: u64) -> Scenario
+        ensures { result ≡ numbered i self.now }
+    {
+        let mut scenario = self.copy();
+        scenario.seed[24..].copy_from_slice(&i.to_le_bytes());
+        scenario
     }
 }
