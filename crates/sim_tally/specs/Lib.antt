@@ -1,0 +1,2 @@
+-- The work that a meter of no size counts.
+pub mod Tally

@@ -1,0 +1,57 @@
+ghost use Rattle.std.specs.Prelude.{◌≡◌};
+ghost use Rattle.std.specs.Borrow.{ftrue};
+ghost use Rattle.sim_node.specs.Work.{Work};
+ghost use Rattle.sim_tally.specs.Tally.{work_code, counted};
+
+use sim_node::Meter;
+use std::marker::Model;
+
+/// A meter of no size: the calls of nodes are counted without limit where contracts read them, and nothing is done for it at run time.
+#[derive(Drop)]
+pub struct Tally {
+    pub ghost work: { Work } by { work_code },
+}
+
+impl Model for Tally {
+    ghost also_owns = { λ _. ftrue };
+}
+
+/// What a meter counts.
+#[derive(Clone, Copy)]
+enum Call {
+    Turn,
+    Copy,
+    Undo,
+}
+
+impl Tally {
+    /// Nothing has been counted.
+    pub fn new() -> Tally
+        ensures { result.work ≡ record { turns = 0; copies = 0; undos = 0 } }
+    {
+        Tally {}
+    }
+
+    // One call more.
+    fn counted(&self, _call: &Call) -> Tally
+        ensures { result.work ≡ counted _call.now self.now.work }
+    {
+        Tally {}
+    }
+}
+
+impl Meter for Tally {
+    ghost work = { λ tally. tally.work };
+
+    fn turn(&mut self) {
+        *self = self.counted(&Call::Turn);
+    }
+
+    fn copied(&mut self) {
+        *self = self.counted(&Call::Copy);
+    }
+
+    fn undone(&mut self) {
+        *self = self.counted(&Call::Undo);
+    }
+}
