@@ -1,4 +1,4 @@
-//! Measures the lower layers: how many turns of each kind they do in a second, so that two states of the code can be compared.
+//! Measures the layers up to the world: how many turns of each kind they do in a second, so that two states of the code can be compared.
 //!
 //! With the word `quiet` each measure takes few turns and no time is written, so that what is written is always the same.
 #![tactic(auto)]
@@ -6,7 +6,9 @@
 mod links;
 mod queue;
 mod streams;
+mod world;
 
+use crate::world::Cluster;
 use std::alloc::{AllocError, Global};
 use std::time::Instant;
 use std::{env, io};
@@ -20,6 +22,9 @@ const QUIET_TURNS: u32 = 1_000;
 ///     `QueueTurns`   `first`, `take_first` and `insert`, with so many pending
 ///     `QueueUndos`   `take_first`, `insert`, `uninsert` and `put_back`, with so many pending
 ///     `LinkUndos`    a change of a direction that holds messages, and its undo
+///     `WorldSteps`   a step of a cluster of echo; a run that has ended starts anew
+///     `WorldUndos`   a step, its undo, and the step again
+///     `WorldCopies`  a copy of a world in the midst of a run
 #[derive(Clone, Copy)]
 enum Measure {
     Draws,
@@ -27,9 +32,12 @@ enum Measure {
     QueueTurns(u32),
     QueueUndos(u32),
     LinkUndos,
+    WorldSteps(Cluster),
+    WorldUndos(Cluster),
+    WorldCopies(Cluster),
 }
 
-const MEASURES: [(&'static str, u32, Measure); 7] = [
+const MEASURES: [(&'static str, u32, Measure); 13] = [
     ("draws", 10_000_000, Measure::Draws),
     ("draws and undraws", 5_000_000, Measure::Undraws),
     (
@@ -53,6 +61,36 @@ const MEASURES: [(&'static str, u32, Measure); 7] = [
         Measure::QueueUndos(4096),
     ),
     ("link changes and undos", 5_000_000, Measure::LinkUndos),
+    (
+        "world steps, 2 hosts",
+        1_000_000,
+        Measure::WorldSteps(Cluster::Two),
+    ),
+    (
+        "world steps, 32 hosts",
+        1_000_000,
+        Measure::WorldSteps(Cluster::ThirtyTwo),
+    ),
+    (
+        "world steps and undos, 2 hosts",
+        500_000,
+        Measure::WorldUndos(Cluster::Two),
+    ),
+    (
+        "world steps and undos, 32 hosts",
+        500_000,
+        Measure::WorldUndos(Cluster::ThirtyTwo),
+    ),
+    (
+        "world copies, 2 hosts",
+        50_000,
+        Measure::WorldCopies(Cluster::Two),
+    ),
+    (
+        "world copies, 32 hosts",
+        50_000,
+        Measure::WorldCopies(Cluster::ThirtyTwo),
+    ),
 ];
 
 impl Measure {
@@ -64,6 +102,9 @@ impl Measure {
             Measure::QueueTurns(pending) => queue::turns(alloc, pending, turns),
             Measure::QueueUndos(pending) => queue::undos(alloc, pending, turns),
             Measure::LinkUndos => links::undos(alloc, turns),
+            Measure::WorldSteps(cluster) => world::steps(alloc, cluster, turns),
+            Measure::WorldUndos(cluster) => world::undos(alloc, cluster, turns),
+            Measure::WorldCopies(cluster) => world::copies(alloc, cluster, turns),
         }
     }
 }
