@@ -1,0 +1,209 @@
+-- A whole play: the scenario's text, and then the script.
+use Rattle.std.proofs.Common.{◌≡◌, ◌<◌, List, [], ◌∷◌, ◌++◌, length, refl, sym, ◌∙◌, ap, append_assoc, append-nil, inl, inr, ◌⊎◌, Option, Some, None, Result, Ok, Err, MatchResult, IsOk, IsErr}
+use Rattle.std.specs.Io.KnownBytes.{IsAtEnd, Appends, Keeps, prepend_known}
+use Rattle.std.specs.Str.Lines.{lines}
+use Rattle.sim_lines.specs.Cut.{head_of, whole_lines}
+use Rattle.sim_lines.specs.Left.{AppendsPart}
+use Rattle.sim_lines.specs.Taken.{HasHead, HasNoMarker}
+use Rattle.sim_lines.proofs.Known.{Appends-none, Appends-append}
+use Rattle.sim_lines.proofs.Passing.{Keeps-Appends}
+use Rattle.sim_world.specs.Events.{Rules}
+use Rattle.sim_scenario.specs.Scenario.{ScenarioText, Fault, read}
+use Rattle.sim_cli.specs.declared.status.Answered.TheVariants as ends
+use Rattle.sim_cli.specs.declared.status.Status.{Status}
+use Rattle.sim_cli.specs.declared.status.Status.TheVariants.{Well, BadScenario, BadRequest, ReaderFailed, WriterFailed, MemoryWanted}
+use Rattle.sim_cli.specs.Script.{Text, Names}
+use Rattle.sim_cli.specs.Lines.{fault_line}
+use Rattle.sim_cli.specs.Turns.{Course, beginning}
+use Rattle.sim_cli.specs.Play.{Tells, TellsLines, Ended, Plays, Played, TellsAll, TellsWhole, out_of, read_scenario, names_of}
+use Rattle.sim_cli.specs.Answers.{Writes, Faults}
+use Rattle.sim_cli.proofs.Readings.{too_long}
+use Rattle.sim_cli.proofs.Runs.{known, at_end_of, rest_of, tells_lines}
+
+-- a text that was written, where the writer then kept it
+pub written_all : (old mid new : Option Text) (text : Text) → Appends old mid text → Keeps mid new → Appends old new text
+written_all old mid new text h k = rw (append-nil text) at (Appends-append old mid new text [] h (Keeps-Appends mid new k))
+
+pub written_part : (old mid new : Option Text) (text : Text) → Appends old mid text → Keeps mid new → AppendsPart old new text
+written_part old mid new text h k = (text, [], sym (append-nil text), written_all old mid new text h k)
+
+pub given_is : (ahead : Text) (old : Option Text) (given : Text) → ahead ≡ [] → old ≡ Some given → prepend_known ahead old ≡ Some given
+given_is ahead old given a e = ap (λ (o : Option Text). prepend_known ahead o) e ∙ ap (λ (xs : Text). Some (xs ++ given)) a
+
+-- the scenario's text was read, and this script is left
+pub record HeadIs (given : Text) (new : Option Text) (text : Text) : Type 0 where
+  pub taken : Text
+  pub script : Text
+  pub left : new ≡ Some script
+  pub front : given ≡ taken ++ script
+  pub cut : (read rest : Text) → script ≡ read ++ rest → head_of (taken ++ read) ≡ (text, read)
+
+pub record IsLong (given text : Text) : Type 0 where
+  pub read : 65536 < length text
+  pub whole : 65536 < length (head_of given).0
+
+none_read : (script read rest : Text) → script ≡ [] → script ≡ read ++ rest → read ≡ []
+none_read script [] rest e f = refl
+none_read script (x ∷ read) rest e f = cc
+
+pub head_is : (given text : Text) (new : Option Text) → HasHead (Some given) new text → HeadIs given new text ⊎ IsLong given text
+head_is given text new h =
+    let k = known given h.taken new h.consumed in
+    elim h.ends [
+      | inl whole ↦ inl (record { taken = h.taken; script = k.0; left = k.1; front = k.2; cut = λ read rest e. whole read })
+      | inr other ↦ elim other [
+        | inl last ↦
+            let none = at_end_of new k.0 k.1 last.0 in
+            inl (record {
+              taken = h.taken;
+              script = k.0;
+              left = k.1;
+              front = k.2;
+              cut = λ read rest e.
+                  let nothing = none_read k.0 read rest none e in
+                  ap (λ xs. head_of (h.taken ++ xs)) nothing ∙ ap head_of (append-nil h.taken) ∙ last.1 ∙ ap (λ (xs : Text). (text, xs)) (sym nothing);
+            })
+        | inr long ↦ inr (record { read = long.read; whole = rw k.2 (long.whole k.0) })
+      ]
+    ]
+
+whole_cut : (given text : Text) (new : Option Text) → (h : HeadIs given new text) → head_of given ≡ (text, h.script)
+whole_cut given text new h = ap head_of h.front ∙ h.cut h.script [] (sym (append-nil h.script))
+
+-- the text that was read has the scenario of the text that was given
+pub same_scenario : (given text : Text) (new : Option Text) → HeadIs given new text ⊎ IsLong given text → read_scenario (head_of given).0 ≡ read_scenario text
+same_scenario given text new s = elim s [
+  | inl h ↦ ap (λ (p : Text × Text). read_scenario p.0) (whole_cut given text new h)
+  | inr l ↦ too_long (head_of given).0 l.whole ∙ sym (too_long text l.read)
+]
+
+not_long : (given text : Text) (scenario : ScenarioText) → IsLong given text → read_scenario text ≡ Ok scenario → ⊥
+not_long given text scenario l e =
+    let fault = too_long text l.read in
+    cc
+
+pub not_too_long : (given text : Text) (new : Option Text) (scenario : ScenarioText) → HeadIs given new text ⊎ IsLong given text → read_scenario text ≡ Ok scenario → HeadIs given new text
+not_too_long given text new scenario s e = elim s [ inl h ↦ h | inr l ↦ absurd (not_long given text scenario l e) ]
+
+is_err_of : (r : Result ScenarioText Fault) (fault : Fault) → r ≡ Err fault → IsErr r
+is_err_of r fault e = rw e refl
+
+is_ok_of : (r : Result ScenarioText Fault) (scenario : ScenarioText) → r ≡ Ok scenario → IsOk r
+is_ok_of r scenario e = rw e refl
+
+matches_err : (r : Result ScenarioText Fault) (fault : Fault) (P : ScenarioText → Type 0) (text : Text) → r ≡ Err fault → text ≡ fault_line fault → MatchResult r P (λ f. text ≡ fault_line f)
+matches_err r fault P text e h = rw e h
+
+matches_ok : (r : Result ScenarioText Fault) (scenario : ScenarioText) (P : ScenarioText → Type 0) (Q : Fault → Type 0) → r ≡ Ok scenario → P scenario → MatchResult r P Q
+matches_ok r scenario P Q e h = rw e h
+
+nothing_left : (ahead : Text) (left : Option Text) → IsAtEnd (prepend_known ahead left) → IsAtEnd left
+nothing_left ahead None h = tt
+nothing_left [] (Some xs) h = h
+nothing_left (x ∷ ahead) (Some xs) h = cc
+
+-- what was read has the fault of what was given
+pub fault_of_given : (given text shown line : Text) → shown ≡ text → read_scenario (head_of given).0 ≡ read_scenario text → Faults shown line → Faults (head_of given).0 line
+fault_of_given given text shown line a e f = record { fault = f.fault; read = e ∙ ap read_scenario (sym a) ∙ f.read; told = f.told }
+
+module _ {State Msg : Type 0} (rules_of : ScenarioText → Rules State Msg) where
+  -- the answers to the lines of a script are what is written for all
+  all_tells : (given written : Text) (scenario : ScenarioText) → read_scenario (head_of given).0 ≡ Ok scenario →
+      TellsLines (rules_of scenario) (names_of scenario) beginning (lines (head_of given).1) written → TellsAll rules_of given written
+  all_tells given written scenario e t = record {
+    texts = t.texts;
+    tells = matches_ok (read_scenario (head_of given).0) scenario
+        (λ s. Tells (rules_of s) (names_of s) beginning (lines (head_of given).1) t.texts written) (λ f. written ≡ fault_line f) e t.tells;
+    plain = λ n. t.tells.plain n ∙ ap (λ s. out_of rules_of s (lines (head_of given).1)) (sym e);
+  }
+
+  -- so is the line of a fault
+  fault_tells : (given written : Text) (fault : Fault) → read_scenario (head_of given).0 ≡ Err fault → written ≡ fault_line fault → TellsAll rules_of given written
+  fault_tells given written fault e w = record {
+    texts = [];
+    tells = matches_err (read_scenario (head_of given).0) fault _ written e w;
+    plain = λ n. w ∙ ap (λ s. out_of rules_of s (lines (head_of given).1)) (sym e);
+  }
+
+  no_lines : (s : Result ScenarioText Fault) (ls : List Text) → ls ≡ [] →
+      MatchResult s (λ scenario. TellsLines (rules_of scenario) (names_of scenario) beginning ls []) (λ _. ◌≡◌ {A = Text} [] [])
+  no_lines (Ok scenario) ls e = rw e (tells_lines (rules_of scenario) (names_of scenario) beginning beginning [] [] [] refl refl)
+  no_lines (Err fault) ls e = refl
+
+  -- the reader failed before there was a scenario
+  pub fails_in_head : (given : Text) (new left held : Option Text) → HasNoMarker (Some given) new → Ended held held (Played rules_of given left ReaderFailed)
+  fails_in_head given new left held h =
+      let k = known given h.taken new h.consumed in
+      record {
+        written = [];
+        appended = Appends-none held;
+        is = record { read = h.taken; rest = k.0; front = k.2; tells = no_lines (read_scenario (head_of h.taken).0) (whole_lines (head_of h.taken).1) (ap whole_lines h.none) };
+      }
+
+  some_text : (given : Text) (s : Result ScenarioText Fault) → read_scenario (head_of given).0 ≡ s → (text : Text) × TellsAll rules_of given text
+  some_text given (Ok scenario) e =
+      let rest = rest_of (rules_of scenario) (names_of scenario) beginning (lines (head_of given).1) in
+      (_, all_tells given _ scenario e (tells_lines (rules_of scenario) (names_of scenario) beginning rest.last (lines (head_of given).1) rest.texts _ rest.run refl))
+  some_text given (Err fault) e = (fault_line fault, fault_tells given (fault_line fault) fault e refl)
+
+  -- memory was wanted before anything was written
+  pub wants_first : (given : Text) (left held holds : Option Text) → Appends held holds [] → Ended held holds (Played rules_of given left MemoryWanted)
+  wants_first given left held holds a =
+      let t = some_text given (read_scenario (head_of given).0) refl in
+      record { written = []; appended = a; is = record { more = t.0; tells = t.1 } }
+
+  -- a bad scenario
+  pub told_fault : (given : Text) (left held holds : Option Text) (line : Text) (f : Faults (head_of given).0 line) → Writes held holds line ends.Well →
+      Ended held holds (Played rules_of given left BadScenario)
+  told_fault given left held holds line f a = record {
+    written = line;
+    appended = a;
+    is = (is_err_of (read_scenario (head_of given).0) f.fault f.read, fault_tells given line f.fault f.read f.told);
+  }
+
+  pub told_part : (given : Text) (left held holds : Option Text) (line : Text) (f : Faults (head_of given).0 line) → Writes held holds line ends.WriterFailed →
+      Ended held holds (Played rules_of given left WriterFailed)
+  told_part given left held holds line f a = record {
+    written = a.0;
+    appended = a.3;
+    is = record { more = a.1; tells = fault_tells given (a.0 ++ a.1) f.fault f.read (sym a.2 ∙ f.told) };
+  }
+
+  module _ (given text : Text) (new : Option Text) (scenario : ScenarioText) (h : HeadIs given new text) (e : read_scenario text ≡ Ok scenario) where
+    the_scenario : read_scenario (head_of given).0 ≡ Ok scenario
+    the_scenario = ap (λ (p : Text × Text). read_scenario p.0) (whole_cut given text new h) ∙ e
+
+    all_told : (written : Text) → TellsLines (rules_of scenario) (names_of scenario) beginning (lines h.script) written → TellsAll rules_of given written
+    all_told written t =
+        let script : (head_of given).1 ≡ h.script = ap (λ (p : Text × Text). p.1) (whole_cut given text new h) in
+        all_tells given written scenario the_scenario (rw script t)
+
+    some_told : (read rest written : Text) → h.script ≡ read ++ rest → TellsLines (rules_of scenario) (names_of scenario) beginning (whole_lines read) written →
+        TellsWhole rules_of (h.taken ++ read) written
+    some_told read rest written f t =
+        let cut = h.cut read rest f in
+        let script : (head_of (h.taken ++ read)).1 ≡ read = ap (λ (p : Text × Text). p.1) cut in
+        matches_ok (read_scenario (head_of (h.taken ++ read)).0) scenario
+        (λ s. TellsLines (rules_of s) (names_of s) beginning (whole_lines (head_of (h.taken ++ read)).1) written) (λ _. written ≡ [])
+        (ap (λ (p : Text × Text). read_scenario p.0) cut ∙ e) (rw script t)
+
+    -- what was played of the script was played of what was given
+    play_of : (ahead : Text) (left : Option Text) (status : Status) (written : Text) →
+        Plays (rules_of scenario) (names_of scenario) beginning h.script (prepend_known ahead left) status written → Played rules_of given left status written
+    play_of ahead left Well written p = (is_ok_of (read_scenario (head_of given).0) scenario the_scenario, nothing_left ahead left p.0, all_told written p.1)
+    play_of ahead left BadScenario written p = absurd p
+    play_of ahead left BadRequest written p = absurd p
+    play_of ahead left ReaderFailed written p = record {
+      read = h.taken ++ p.read;
+      rest = p.rest;
+      front = h.front ∙ ap (λ xs. h.taken ++ xs) p.front ∙ sym (append_assoc h.taken p.read p.rest);
+      tells = some_told p.read p.rest written p.front p.tells;
+    }
+    play_of ahead left WriterFailed written p = record { more = p.more; tells = all_told (written ++ p.more) p.tells }
+    play_of ahead left MemoryWanted written p = record { more = p.more; tells = all_told (written ++ p.more) p.tells }
+
+    pub play_all : (rules : Rules State Msg) (names : Names) (course : Course) (ahead : Text) (left held holds : Option Text) (status : Status) →
+        rules ≡ rules_of scenario → names ≡ names_of scenario → course ≡ beginning →
+        Ended held holds (Plays rules names course h.script (prepend_known ahead left) status) → Ended held holds (Played rules_of given left status)
+    play_all rules names course ahead left held holds status a b c p =
+        record { written = p.written; appended = p.appended; is = play_of ahead left status p.written (rw (a, b, c) at p.is) }

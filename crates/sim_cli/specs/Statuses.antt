@@ -1,0 +1,12 @@
+-- The numbers with which the program ends.
+use Rattle.std.specs.Prelude.{ℕ}
+use Rattle.sim_cli.specs.declared.status.Status.{Status}
+use Rattle.sim_cli.specs.declared.status.Status.TheVariants.{Well, BadScenario, BadRequest, ReaderFailed, WriterFailed, MemoryWanted}
+
+abbrev pub status_number : Status → ℕ
+status_number Well = 0
+status_number BadScenario = 1
+status_number BadRequest = 2
+status_number ReaderFailed = 3
+status_number WriterFailed = 3
+status_number MemoryWanted = 4

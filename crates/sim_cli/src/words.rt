@@ -1,0 +1,58 @@
+//! The words of a line, from its front, and the numbers that they write.
+ghost use Rattle.std.specs.Prelude.{◌≡◌, ℕ, List, ◌==◌, false, length, MatchOption, ◌<◌, ◌≤◌, ◌∷◌, [], take, drop, ◌⊎◌};
+ghost use Rattle.sim_cli.specs.Script.{words, HasNoSpace, number_of};
+
+/// The rest without the spaces at its front.
+fn skip_spaces(text: &[u8]) -> &[u8]
+    ensures same { words result.now ≡ words text.now }
+    ensures front { (result.now ≡ []) ⊎ ((b : ℕ) × (more : List ℕ) × (result.now ≡ b ∷ more) × ((b == 32) ≡ false)) }
+{
+    let mut rest = text;
+    while let [b' ', after @ ..] = rest {
+        rest = after;
+    }
+    rest
+}
+
+/// How many bytes stand before the first space.
+fn word_len(text: &[u8]) -> usize
+    ensures within { result ≤ length text.now }
+    ensures plain { HasNoSpace (take result text.now) }
+    ensures ends { (drop result text.now ≡ []) ⊎ ((more : List ℕ) × (drop result text.now ≡ 32 ∷ more)) }
+{
+    for (i, b) in text.iter().enumerate() {
+        if *b == b' ' {
+            return i;
+        }
+    }
+    text.len()
+}
+
+/// The first word, and what follows it.
+pub fn next_word(text: &[u8]) -> Option<(&[u8], &[u8])>
+    ensures { MatchOption result (words text.now ≡ []) (λ r. words text.now ≡ r.0.now ∷ words r.1.now) }
+{
+    let text = skip_spaces(text);
+    if text.is_empty() {
+        return None;
+    }
+    Some(text.split_at(word_len(text)))
+}
+
+/// A number of 1 to 9 decimal digits.
+#[tactic(auto, unfolding(crate::specs::Script::number_of))]
+pub fn parse_number(word: &[u8]) -> Option<u32>
+    ensures { result ≡ number_of word.now }
+{
+    if word.is_empty() || word.len() > 9 {
+        return None;
+    }
+    let mut value: u32 = 0;
+    for b in word {
+        if !b.is_ascii_digit() {
+            return None;
+        }
+        value = value * 10 + u32::from(*b - b'0');
+    }
+    Some(value)
+}
