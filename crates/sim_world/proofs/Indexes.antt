@@ -96,20 +96,6 @@ module _ {State Msg : Type 0} (old new : Index) (w : World State Msg) (h : ℕ) 
       (λ k apart. ap (λ p. timers_of k p.items) e ∙ ap (map (λ x. x.serial)) (filter_within (is_timer_of k) (λ x. not (is_timer_of h x)) (timers_apart h k apart) w.queue.items))
       i
 
-  -- the timer of a host is set that has none
-  pub index-timer_queued : (q : Pending (Occurrence Msg)) (due serial : ℕ) → q ≡ insert due (record { host = h; body = Body.Timer }) w.queue → serial ≡ w.queue.next_serial
-      → new.in_flight ≡ old.in_flight → new.held ≡ old.held → new.timers.items ≡ slice_set old.timers.items h (Some serial)
-      → h < length w.hosts → slice_index_or old.timers.items h None ≡ None → IsIndex old w → IsIndex new (record w { queue = q })
-  index-timer_queued q due serial e s a b c lt none i =
-      let x : Item (Occurrence Msg) = record { due = due; serial = w.queue.next_serial; body = record { host = h; body = Body.Timer } } in
-      let same : (h == h) ≡ true = eq-eqb h h refl in
-      index-timer old new w (record w { queue = q }) h (Some serial) a b c lt refl
-      (ap (λ p. count_by is_message p.items) e ∙ (sum_by_push (λ y. cond (is_message y) 1 0) w.queue.items x ∙ (let z : count_by is_message w.queue.items + 0 ≡ count_by is_message w.queue.items = omega arith in z)))
-      refl
-      (ap (λ p. timers_of h p.items) e ∙ (serials-push_one (is_timer_of h) w.queue.items x (ap (λ d. d && true) same) ∙ (ap (λ l. l ++ w.queue.next_serial ∷ []) (i.timers h lt ∙ ap listed none) ∙ ap (λ n. n ∷ []) (sym s))))
-      (λ k apart. let no : (h == k) ≡ false = ne_eqb h k (λ p. apart (sym p)) in ap (λ p. timers_of k p.items) e ∙ serials-push (is_timer_of k) w.queue.items x (ap (λ d. d && true) no))
-      i
-
 module _ {State Msg : Type 0} (index : Index) (w : World State Msg) where
   -- only a host changes
   pub index_hosts : (hosts : List (Host State)) → length hosts ≡ length w.hosts → IsIndex index w → IsIndex index (record w { hosts = hosts })
