@@ -3,6 +3,7 @@ pub mod Arrivals
 pub mod Begun
 pub mod Bodies
 pub mod Changes
+pub mod Clocks
 pub mod Copying
 pub mod Counts
 pub mod Crashings
@@ -28,6 +29,7 @@ pub mod Sends
 pub mod Sound
 pub mod SoundEffects
 pub mod SoundFaults
+mod Sent
 pub mod SoundStart
 pub mod Stable
 pub mod Starting

@@ -2,9 +2,11 @@ pub mod World
 pub mod Limits
 pub mod Events
 pub mod Acts
+pub mod Clock
 pub mod Looks
 pub mod Records
 pub mod Sound
+pub mod Held
 pub mod Index
 pub mod Trail
 pub mod Room

@@ -5,18 +5,21 @@ ghost use Rattle.sim_queue.specs.Pending.{first};
 ghost use Rattle.sim_world.specs.World.{at_time};
 ghost use Rattle.sim_world.specs.Events.{rules, after, next, refusal_of, stepped};
 ghost use Rattle.sim_world.specs.Acts.{acts, turns_of};
+ghost use Rattle.sim_world.specs.Clock.{clock_after};
 ghost use Rattle.sim_world.specs.Index.{IsIndex, first_host, stopped_host, changing_host, LeadsBack};
 ghost use Rattle.sim_world.specs.Records.{AnswersFor, Fits, back};
 ghost use Rattle.sim_world.specs.Room.{IsReady};
 ghost use Rattle.sim_world.specs.Sound.{IsLawfulEvent};
 ghost use Rattle.sim_world.specs.Undone.{is_reaction, taken_back};
 ghost use Rattle.sim_world.specs.Trail.{IsTrail, taken_changes};
+ghost use Rattle.sim_world.specs.Held.{IsHeld, in_hand};
 
+use crate::cluster::Cluster;
 use crate::index::Index;
+use crate::kept::Trail;
 use crate::parts::Parts;
 use crate::record::Undo;
 use crate::scenario::Scenario;
-use crate::trail::Trail;
 use crate::undo::{Small, Taken};
 use crate::world::World;
 use crate::{Event, Fault, NoMemory};
@@ -61,18 +64,20 @@ impl<N: Node> Parts<N> {
     }
 
     // The clock goes on to a time (ms).
+    #[inline(never)]
     fn advance(&mut self, alloc: Global, to: u64) -> Result<Trail<N>, NoMemory>
         ensures world { OnOk result (self.new ≡ record self.old { world = at_time to self.old.world }) }
         ensures trail { IfOk result (λ t. IsTrail N.records t.items self.old.world self.new.world) }
         ensures acted { IfOk result (λ t. count_by is_reaction t.items ≡ 0) }
     {
-        let mut trail = Vec::new(alloc);
+        let mut trail = Trail::new(alloc);
         trail.push(Small::Timed(self.clock))?;
         self.clock = to;
         Ok(trail)
     }
 
     // A fault.
+    #[inline(never)]
     fn fail(
         &mut self,
         alloc: Global,
@@ -92,7 +97,7 @@ impl<N: Node> Parts<N> {
         ensures index { OnOk result (IsIndex index.new self.new.world) }
         ensures work { OnOk result (N.Meter.work meter.new ≡ record (N.Meter.work meter.old) { turns = (N.Meter.work meter.old).turns + turns_of self.old.world (Event.Fault fault) }) }
     {
-        let mut trail = Vec::new(alloc);
+        let mut trail = Trail::new(alloc);
         self.fault(alloc, sc, index, &mut trail, fault, meter)?;
         Ok(trail)
     }
@@ -153,10 +158,82 @@ impl<N: Node> Parts<N> {
     }
 }
 
+impl<N: Node> Cluster<N> {
+    // An event that can happen, and a record by which it is taken back.
+    fn apply(
+        &mut self,
+        alloc: Global,
+        event: Event,
+        meter: &mut N::Meter,
+    ) -> Result<Undo<N>, NoMemory>
+        requires held { IsHeld N.told self.old }
+        requires can { refusal_of (rules N.laws N.PROBES self.old.scenario) event self.old.parts.world ≡ None }
+        requires young { self.old.age < 65536 }
+        ensures held { OnOk result (IsHeld N.told self.new) }
+        ensures answers { IfOk result (λ undo. AnswersFor (rules N.laws N.PROBES self.old.scenario) N.records undo.changes self.old.parts.world event self.new.parts.world) }
+        ensures scenario { OnOk result (self.new.scenario ≡ self.old.scenario) }
+        ensures age { OnOk result (self.new.age ≡ self.old.age + 1) }
+        ensures clock { OnOk result (self.new.parts.world.clock ≡ clock_after event self.old.parts.world) }
+        ensures on { OnOk result (self.old.parts.world.clock ≤ self.new.parts.world.clock) }
+        ensures leads { IfOk result (λ undo. LeadsBack N.told N.records undo (in_hand self.new)) }
+        ensures acted { IfOk result (λ undo. count_by is_reaction undo.changes ≡ (if acts self.old.parts.world event then 1 else 0)) }
+        ensures work { OnOk result (N.Meter.work meter.new ≡ record (N.Meter.work meter.old) { turns = (N.Meter.work meter.old).turns + turns_of self.old.parts.world event }) }
+    {
+        let host = self.parts.changing_host(event);
+        let timer = self.index.timers[host as usize];
+        let in_flight = self.index.in_flight;
+        let held = self.index.held;
+        let (taken, trail) = self.parts.event(
+            alloc,
+            &self.scenario,
+            &mut self.index,
+            &mut self.effects,
+            event,
+            meter,
+        )?;
+        self.age += 1;
+        Ok(Undo {
+            taken,
+            trail,
+            in_flight,
+            held,
+            host,
+            timer,
+        })
+    }
+
+    // The event before is taken back, by the record that it gave.
+    fn undo(&mut self, alloc: Global, undo: Undo<N>, meter: &mut N::Meter) -> Result<(), NoMemory>
+        requires held { IsHeld N.told self.old }
+        requires leads { LeadsBack N.told N.records undo (in_hand self.old) }
+        ensures held { OnOk result (IsHeld N.told self.new) }
+        ensures world { OnOk result (self.new.parts.world ≡ back N.records undo.changes self.old.parts.world) }
+        ensures scenario { OnOk result (self.new.scenario ≡ self.old.scenario) }
+        ensures age { OnOk result (self.new.age ≡ self.old.age - 1) }
+        ensures work { OnOk result (N.Meter.work meter.new ≡ taken_back undo.changes (N.Meter.work meter.old)) }
+    {
+        let Undo {
+            taken,
+            trail,
+            in_flight,
+            held,
+            host,
+            timer,
+        } = undo;
+        self.parts.take_back_all(alloc, trail, meter)?;
+        self.parts.take_back_taken(taken)?;
+        self.index.in_flight = in_flight;
+        self.index.held = held;
+        self.index.timers[host as usize] = timer;
+        self.age -= 1;
+        Ok(())
+    }
+}
+
 impl<N: Node> World<N> {
     /// The world after an event that can happen, and a record by which it is taken back. At most one turn is counted: where a node
-    /// reacts, and where a bounce boots one; no copy and no undo is. The age, which is below 65,536, rises by one. The only
-    /// error is want of memory; nothing is left then.
+    /// reacts, and where a bounce boots one; no copy and no undo is. The clock never goes back. The age, which is below 65,536,
+    /// rises by one. The only error is want of memory; nothing is left then.
     pub fn apply(
         self,
         alloc: Global,
@@ -166,40 +243,17 @@ impl<N: Node> World<N> {
         requires can { IsSome (next (rules N.laws N.PROBES self.scenario) self.world event) }
         requires young { self.age < 65536 }
         ensures answers { IfOk result (λ r. AnswersFor (rules N.laws N.PROBES self.scenario) N.records r.1.changes self.world event r.0.world) }
+        ensures clock { IfOk result (λ r. r.0.world.clock ≡ clock_after event self.world) }
+        ensures on { IfOk result (λ r. self.world.clock ≤ r.0.world.clock) }
         ensures scenario { IfOk result (λ r. r.0.scenario ≡ self.scenario) }
         ensures age { IfOk result (λ r. r.0.age ≡ self.age + 1) }
         ensures leads { IfOk result (λ r. LeadsBack N.told N.records r.1 r.0) }
         ensures acted { IfOk result (λ r. count_by is_reaction r.1.changes ≡ (if acts self.world event then 1 else 0)) }
         ensures work { OnOk result (N.Meter.work meter.new ≡ record (N.Meter.work meter.old) { turns = (N.Meter.work meter.old).turns + turns_of self.world event }) }
     {
-        let World {
-            mut parts,
-            mut index,
-            mut effects,
-            scenario,
-            age,
-        } = self;
-        let host = parts.changing_host(event);
-        let timer = index.timers[host as usize];
-        let in_flight = index.in_flight;
-        let held = index.held;
-        let (taken, trail) = parts.event(alloc, &scenario, &mut index, &mut effects, event, meter)?;
-        let undo = Undo {
-            taken,
-            trail,
-            in_flight,
-            held,
-            host,
-            timer,
-        };
-        let world = World {
-            parts,
-            index,
-            effects,
-            scenario,
-            age: age + 1,
-        };
-        Ok((world, undo))
+        let World { mut cluster } = self;
+        let undo = cluster.apply(alloc, event, meter)?;
+        Ok((World { cluster }, undo))
     }
 
     /// The world before an event, by the record that the event gave. One undo is counted where a node reacted in the event,
@@ -214,32 +268,8 @@ impl<N: Node> World<N> {
         ensures world { IfOk result (λ w. w ≡ record { world = back N.records undo.changes self.world; scenario = self.scenario; age = self.age - 1 }) }
         ensures work { OnOk result (N.Meter.work meter.new ≡ taken_back undo.changes (N.Meter.work meter.old)) }
     {
-        let World {
-            mut parts,
-            mut index,
-            effects,
-            scenario,
-            age,
-        } = self;
-        let Undo {
-            taken,
-            trail,
-            in_flight,
-            held,
-            host,
-            timer,
-        } = undo;
-        parts.take_back_all(alloc, trail, meter)?;
-        parts.take_back_taken(taken)?;
-        index.in_flight = in_flight;
-        index.held = held;
-        index.timers[host as usize] = timer;
-        Ok(World {
-            parts,
-            index,
-            effects,
-            scenario,
-            age: age - 1,
-        })
+        let World { mut cluster } = self;
+        cluster.undo(alloc, undo, meter)?;
+        Ok(World { cluster })
     }
 }

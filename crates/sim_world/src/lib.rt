@@ -2,12 +2,15 @@
 #![tactic(auto)]
 
 mod apply;
+mod cluster;
 mod copy;
 mod crash;
 mod effects;
 mod faults;
+mod glance;
 mod host;
 mod index;
+mod kept;
 mod look;
 mod occurrence;
 mod parts;

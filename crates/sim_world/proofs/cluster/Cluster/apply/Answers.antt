@@ -1,0 +1,110 @@
+use Rattle.std.proofs.Common.{◌≡◌, ◌<◌, ◌≤◌, ◌++◌, None, length, sym, ap, subst, ◌∙◌, arith}
+use Rattle.std.proofs.lemmas.List.{get_or_read}
+use Rattle.sim_world.specs.Clock.{clock_after}
+use Rattle.sim_world.specs.Events.{rules, after, refusal_of}
+use Rattle.sim_world.specs.Held.{IsHeld}
+use Rattle.sim_world.specs.Room.{IsReady}
+use Rattle.sim_world.specs.Sound.{IsLawfulEvent}
+use Rattle.sim_world.specs.Trail.{taken_changes}
+use Rattle.sim_world.proofs.Readies.{ready_of}
+use Rattle.sim_world.proofs.Applied.{changing_there, applied_sound, applied_clock, applied_on, applied_leads}
+use Rattle.sim_world.proofs.cluster.Cluster.apply.Goals as goal
+
+pub index-timer-requires : goal.index-timer-requires
+index-timer-requires g c =
+    let i = c.self.inside in
+    let laws = g.N.Node.laws in
+    let probes = g.N.Node.PROBES in
+    let held = subst (λ k. IsHeld g.N.Node.told k) (sym c.self.view_is) c.requires.held in
+    let can = subst (λ k. refusal_of (rules laws probes k.scenario) c.args.event k.parts.world ≡ None) (sym c.self.view_is) c.requires.can in
+    let lt = changing_there g.N.Node.told laws probes i.scenario.value i.age i.parts.world held.sound c.args.event can in
+    let h = c.changing_host-host.ensures in
+    let n = held.sound.hosts in
+    let e = held.index.hosts in
+    omega (arith, i.index.timers.ok.0)
+
+pub event-requires-clause-ready : goal.event-requires-clause-ready
+event-requires-clause-ready g c =
+    let i = c.self.inside in
+    let held = subst (λ k. IsHeld g.N.Node.told k) (sym c.self.view_is) c.requires.held in
+    let young = subst (λ k. k.age < 65536) (sym c.self.view_is) c.requires.young in
+    subst (λ s. IsReady g.N.Node.told s.setup i.parts.world) (sym c.deref.ensures)
+    (ready_of g.N.Node.told i.scenario.value i.age i.parts.world held.sound young)
+
+pub returns-clause-held : goal.returns-clause-held
+returns-clause-held g c =
+    let i = c.self.inside in
+    let laws = g.N.Node.laws in
+    let probes = g.N.Node.PROBES in
+    let told = g.N.Node.told in
+    let held = subst (λ k. IsHeld told k) (sym c.self.view_is) c.requires.held in
+    let can = subst (λ k. refusal_of (rules laws probes k.scenario) c.args.event k.parts.world ≡ None) (sym c.self.view_is) c.requires.can in
+    let young = subst (λ k. k.age < 65536) (sym c.self.view_is) c.requires.young in
+    let v = c.in_ok-taken.ensures in
+    let is = ap (λ z. z.world) v.world ∙ ap (λ s. after (rules laws probes s) c.args.event i.parts.world) c.deref.ensures in
+    let law = subst (λ s. IsLawfulEvent told (rules laws probes s) c.args.event i.parts.world) c.deref.ensures v.lawful in
+    record {
+      sound = applied_sound told laws probes i.scenario.value i.age i.parts.world held.sound g.N.Node.records c.event.new.self.world c.args.event
+          (taken_changes c.in_ok-taken.taken ++ c.in_ok-taken.trail.items) young can is law v.trail;
+      index = v.index;
+      seed = ap (λ z. z.seed) v.world ∙ held.seed;
+      effects = v.spent ∙ held.effects;
+    }
+
+pub returns-clause-clock : goal.returns-clause-clock
+returns-clause-clock g c =
+    let i = c.self.inside in
+    let laws = g.N.Node.laws in
+    let probes = g.N.Node.PROBES in
+    let told = g.N.Node.told in
+    let held = subst (λ k. IsHeld told k) (sym c.self.view_is) c.requires.held in
+    let can = subst (λ k. refusal_of (rules laws probes k.scenario) c.args.event k.parts.world ≡ None) (sym c.self.view_is) c.requires.can in
+    let young = subst (λ k. k.age < 65536) (sym c.self.view_is) c.requires.young in
+    let v = c.in_ok-taken.ensures in
+    let is = ap (λ z. z.world) v.world ∙ ap (λ s. after (rules laws probes s) c.args.event i.parts.world) c.deref.ensures in
+    let law = subst (λ s. IsLawfulEvent told (rules laws probes s) c.args.event i.parts.world) c.deref.ensures v.lawful in
+    subst (λ k. c.event.new.self.world.clock ≡ clock_after c.args.event k.parts.world) c.self.view_is
+    (applied_clock told laws probes i.scenario.value i.age i.parts.world held.sound g.N.Node.records c.event.new.self.world c.args.event
+    (taken_changes c.in_ok-taken.taken ++ c.in_ok-taken.trail.items)
+    young can is law v.trail)
+
+pub returns-clause-on : goal.returns-clause-on
+returns-clause-on g c =
+    let i = c.self.inside in
+    let laws = g.N.Node.laws in
+    let probes = g.N.Node.PROBES in
+    let told = g.N.Node.told in
+    let held = subst (λ k. IsHeld told k) (sym c.self.view_is) c.requires.held in
+    let can = subst (λ k. refusal_of (rules laws probes k.scenario) c.args.event k.parts.world ≡ None) (sym c.self.view_is) c.requires.can in
+    let young = subst (λ k. k.age < 65536) (sym c.self.view_is) c.requires.young in
+    let v = c.in_ok-taken.ensures in
+    let is = ap (λ z. z.world) v.world ∙ ap (λ s. after (rules laws probes s) c.args.event i.parts.world) c.deref.ensures in
+    let law = subst (λ s. IsLawfulEvent told (rules laws probes s) c.args.event i.parts.world) c.deref.ensures v.lawful in
+    subst (λ k. k.parts.world.clock ≤ c.event.new.self.world.clock) c.self.view_is
+    (applied_on told laws probes i.scenario.value i.age i.parts.world held.sound g.N.Node.records c.event.new.self.world c.args.event
+    (taken_changes c.in_ok-taken.taken ++ c.in_ok-taken.trail.items)
+    young can is law v.trail)
+
+pub returns-clause-leads : goal.returns-clause-leads
+returns-clause-leads g c =
+    let i = c.self.inside in
+    let laws = g.N.Node.laws in
+    let probes = g.N.Node.PROBES in
+    let told = g.N.Node.told in
+    let held = subst (λ k. IsHeld told k) (sym c.self.view_is) c.requires.held in
+    let can = subst (λ k. refusal_of (rules laws probes k.scenario) c.args.event k.parts.world ≡ None) (sym c.self.view_is) c.requires.can in
+    let young = subst (λ k. k.age < 65536) (sym c.self.view_is) c.requires.young in
+    let v = c.in_ok-taken.ensures in
+    let is = ap (λ z. z.world) v.world ∙ ap (λ s. after (rules laws probes s) c.args.event i.parts.world) c.deref.ensures in
+    let law = subst (λ s. IsLawfulEvent told (rules laws probes s) c.args.event i.parts.world) c.deref.ensures v.lawful in
+    let there = changing_there told laws probes i.scenario.value i.age i.parts.world held.sound c.args.event can in
+    let h = c.changing_host-host.ensures in
+    let n = held.sound.hosts in
+    let m = held.index.hosts in
+    let lt : c.changing_host-host.result < length i.parts.world.hosts = omega arith in
+    let within : c.changing_host-host.result < length i.index.timers.items = omega arith in
+    applied_leads told laws probes i.scenario.value i.age i.parts.world held.sound g.N.Node.records c.event.new.self.world c.args.event
+    (taken_changes c.in_ok-taken.taken ++ c.in_ok-taken.trail.items)
+    young can is law v.trail
+    i.index c.changing_host-host.result c.index-timer.result.now held.index h
+    (get_or_read i.index.timers.items c.changing_host-host.result c.index-timer.result.now within c.index-timer.ensures None) lt
