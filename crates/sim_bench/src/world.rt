@@ -3,7 +3,7 @@ ghost use Rattle.std.specs.Prelude.{◌≡◌, ◌≤◌, IfOk};
 use crate::mixed;
 use sim_links::{Way, Ways};
 use sim_node::Setup;
-use sim_protocols::Echo;
+use sim_echo::Echo;
 use sim_tally::Tally;
 use sim_world::{Event, NoMemory, Query, Scenario, View, World};
 use std::alloc::Global;

@@ -1,5 +1,1 @@
-pub mod Numbers
-pub mod Echo
-pub mod EchoRecords
-pub mod Seen
 pub mod Probes

@@ -1,34 +1,21 @@
-//! The protocols that ship with the simulator, each as one kind of node.
+//! The protocols that ship with the simulator, each as one kind of node, and the names of their probes.
 #![tactic(auto)]
 
-mod echo;
 mod probes;
 #[cfg(test)]
 mod tests;
 
-pub use echo::Echo;
 pub use probes::{probe_name, probe_number};
+pub use sim_abd::{AbdMsg, AbdRegister};
+pub use sim_echo::{Echo, EchoMsg, EchoUndo};
+pub use sim_primary_backup::{BackupMsg, BackupUndo, PrimaryBackup};
+pub use sim_two_phase::{CommitMsg, CommitUndo, TwoPhase};
 
 /// The protocols.
 #[derive(Clone, Copy, Debug, PartialEq, Eq)]
 pub enum Protocol {
     Echo,
-}
-
-/// A message of echo. The number is that of the ping, counted by its client from 1.
-#[derive(Clone, Copy, Debug, PartialEq, Eq)]
-pub enum EchoMsg {
-    Ping(u64),
-    Pong(u64),
-}
-
-/// The record of a reaction of an echo node: the counter before it.
-#[derive(Clone, Copy, Debug, PartialEq, Eq)]
-pub enum EchoUndo {
-    /// The reaction changed nothing.
-    Nothing,
-    /// A client went on from this `next`.
-    Next(u64),
-    /// A server went on from this `served`.
-    Served(u64),
+    PrimaryBackup,
+    AbdRegister,
+    TwoPhase,
 }

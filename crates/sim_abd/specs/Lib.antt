@@ -1,0 +1,2 @@
+pub mod Abd
+pub mod AbdRecords

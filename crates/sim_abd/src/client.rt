@@ -1,0 +1,245 @@
+ghost use Rattle.std.specs.Prelude.{◌≡◌, ◌+◌, ◌<◌, ◌≤◌, []};
+ghost use Rattle.sim_node.specs.Node.{IsSetup, IsFrom};
+ghost use Rattle.sim_hosts.specs.Numbers.{ops_of};
+ghost use Rattle.sim_hosts.specs.Reactions.{asked_for};
+ghost use Rattle.sim_abd.specs.Abd.{untagged, is_greater, client_at_boot, is_write, is_majority, ask_of, store_of, begun, to_be_stored, stores, greater_of, has_told, finished, has_kept, asks_again, is_told, is_kept, react_client};
+
+use crate::{AbdMsg, Client, Phase, Tagged};
+use sim_hosts::{HostSet, send_to_all, send_to_missing};
+use sim_node::{Effects, Input, Setup};
+
+/// How long a client waits for answers before it sends again, in milliseconds.
+const PATIENCE: u32 = 200;
+
+impl Tagged {
+    /// What has the least tag.
+    fn untagged() -> Tagged
+        ensures { result ≡ untagged }
+    {
+        Tagged {
+            number: 0,
+            writer: 0,
+            val: 0,
+        }
+    }
+
+    /// Whether its tag is greater.
+    pub fn is_greater(&self, other: &Tagged) -> bool
+        ensures { result ≡ is_greater self.now other.now }
+    {
+        self.number > other.number || (self.number == other.number && self.writer > other.writer)
+    }
+}
+
+/// Whether the operation of this number is a write.
+fn is_write(i: u64) -> bool
+    ensures { result ≡ is_write i }
+{
+    i % 2 == 1
+}
+
+/// Whether most servers have answered.
+fn is_majority(setup: &Setup, answers: HostSet) -> bool
+    ensures { result ≡ is_majority setup.now answers }
+{
+    answers.len() >= (setup.servers / 2 + 1) as u32
+}
+
+impl Client {
+    pub fn at_boot() -> Client
+        ensures { result ≡ client_at_boot }
+    {
+        Client {
+            next: 0,
+            phase: Phase::Resting,
+            answers: HostSet::nobody(),
+            best: Tagged::untagged(),
+            last_read: 0,
+        }
+    }
+
+    /// What it asks the servers.
+    fn ask(&self) -> AbdMsg
+        ensures { result ≡ ask_of self.now }
+    {
+        AbdMsg::Ask(self.next.saturating_mul(2))
+    }
+
+    /// What it asks the servers to keep.
+    fn store(&self) -> AbdMsg
+        ensures { result ≡ store_of self.now }
+    {
+        AbdMsg::Store(self.next.saturating_mul(2).saturating_add(1), self.best)
+    }
+
+    /// Begins an operation.
+    fn begin(&mut self, i: u64, setup: &Setup, effects: &mut Effects<AbdMsg>)
+        requires setup { IsSetup setup.now }
+        requires empty { effects.old ≡ asked_for setup.now [] }
+        ensures state { self.new ≡ (begun i setup.now self.old).0 }
+        ensures effects { effects.new ≡ asked_for setup.now (begun i setup.now self.old).1 }
+    {
+        self.next = i;
+        self.phase = Phase::Asking;
+        self.answers = HostSet::nobody();
+        self.best = Tagged::untagged();
+        send_to_all(0, setup, self.ask(), effects);
+        effects.timer(PATIENCE);
+    }
+
+    /// A majority has told: it asks the servers to keep the best, or in a write what it writes.
+    fn begin_to_store(&mut self, me: u16, setup: &Setup, effects: &mut Effects<AbdMsg>)
+        requires setup { IsSetup setup.now }
+        requires empty { effects.old ≡ asked_for setup.now [] }
+        ensures state { self.new ≡ (stores me setup.now self.old).0 }
+        ensures effects { effects.new ≡ asked_for setup.now (stores me setup.now self.old).1 }
+    {
+        self.phase = Phase::Storing;
+        self.answers = HostSet::nobody();
+        if is_write(self.next) {
+            self.best = Tagged {
+                number: self.best.number.saturating_add(1),
+                writer: me as u64,
+                val: (me as u64).saturating_mul(1000).saturating_add(self.next),
+            };
+        }
+        send_to_all(0, setup, self.store(), effects);
+        effects.timer(PATIENCE);
+    }
+
+    /// A server has told what it keeps.
+    fn has_told(
+        &mut self,
+        from: u16,
+        told: &Tagged,
+        me: u16,
+        setup: &Setup,
+        effects: &mut Effects<AbdMsg>,
+    )
+        requires setup { IsSetup setup.now }
+        requires from { from < setup.now.hosts }
+        requires empty { effects.old ≡ asked_for setup.now [] }
+        ensures state { self.new ≡ (has_told from told.now me setup.now self.old).0 }
+        ensures effects { effects.new ≡ asked_for setup.now (has_told from told.now me setup.now self.old).1 }
+    {
+        self.answers = self.answers.joined(from);
+        if told.is_greater(&self.best) {
+            self.best = *told;
+        }
+        if is_majority(setup, self.answers) {
+            self.begin_to_store(me, setup, effects);
+        }
+    }
+
+    /// A majority has stored: the operation is over.
+    fn finish(&mut self, ops: u64, setup: &Setup, effects: &mut Effects<AbdMsg>)
+        requires setup { IsSetup setup.now }
+        requires empty { effects.old ≡ asked_for setup.now [] }
+        ensures state { self.new ≡ (finished ops setup.now self.old).0 }
+        ensures effects { effects.new ≡ asked_for setup.now (finished ops setup.now self.old).1 }
+    {
+        if !is_write(self.next) {
+            self.last_read = self.best.val;
+        }
+        let next = self.next.saturating_add(1);
+        if next > ops {
+            self.next = next;
+            self.phase = Phase::Resting;
+            effects.done();
+        } else {
+            self.begin(next, setup, effects);
+        }
+    }
+
+    /// A server has kept what it was asked to.
+    fn has_kept(&mut self, from: u16, ops: u64, setup: &Setup, effects: &mut Effects<AbdMsg>)
+        requires setup { IsSetup setup.now }
+        requires from { from < setup.now.hosts }
+        requires empty { effects.old ≡ asked_for setup.now [] }
+        ensures state { self.new ≡ (has_kept from ops setup.now self.old).0 }
+        ensures effects { effects.new ≡ asked_for setup.now (has_kept from ops setup.now self.old).1 }
+    {
+        self.answers = self.answers.joined(from);
+        if is_majority(setup, self.answers) {
+            self.finish(ops, setup, effects);
+        }
+    }
+
+    /// Sends again to the servers that have not answered.
+    fn ask_again(&self, setup: &Setup, effects: &mut Effects<AbdMsg>)
+        requires setup { IsSetup setup.now }
+        requires empty { effects.old ≡ asked_for setup.now [] }
+        ensures { effects.new ≡ asked_for setup.now (asks_again self.now.phase setup.now self.now).1 }
+    {
+        match self.phase {
+            Phase::Resting => {}
+            Phase::Asking => {
+                send_to_missing(0, setup, self.answers, self.ask(), effects);
+                effects.timer(PATIENCE);
+            }
+            Phase::Storing => {
+                send_to_missing(0, setup, self.answers, self.store(), effects);
+                effects.timer(PATIENCE);
+            }
+        }
+    }
+
+    /// Whether it waits for this answer of a server that tells what it keeps.
+    fn waits_for_told(&self, from: u16, r: u64) -> bool
+        requires { from < 32 }
+        ensures { result ≡ is_told from r self.now.phase self.now }
+    {
+        match self.phase {
+            Phase::Asking => r as u128 == 2 * self.next as u128 && !self.answers.contains(from),
+            _ => false,
+        }
+    }
+
+    /// Whether it waits for this answer of a server that has kept what it was asked to.
+    fn waits_for_kept(&self, from: u16, r: u64) -> bool
+        requires { from < 32 }
+        ensures { result ≡ is_kept from r self.now.phase self.now }
+    {
+        match self.phase {
+            Phase::Storing => {
+                r as u128 == 2 * self.next as u128 + 1 && !self.answers.contains(from)
+            }
+            _ => false,
+        }
+    }
+
+    /// It reacts to an input.
+    pub fn react(
+        &mut self,
+        setup: &Setup,
+        me: u16,
+        input: &Input<AbdMsg>,
+        effects: &mut Effects<AbdMsg>,
+    )
+        requires setup { IsSetup setup.now }
+        requires me { me < setup.now.hosts }
+        requires sender { IsFrom setup.now.hosts input.now }
+        requires empty { effects.old ≡ asked_for setup.now [] }
+        ensures state { self.new ≡ (react_client setup.now me self.old input.now).0 }
+        ensures effects { effects.new ≡ asked_for setup.now (react_client setup.now me self.old input.now).1 }
+    {
+        match input {
+            Input::Start => self.begin(1, setup, effects),
+            Input::Timer => self.ask_again(setup, effects),
+            Input::Message {
+                sender,
+                msg: AbdMsg::Tell(r, told),
+            } if self.waits_for_told(*sender, *r) => {
+                self.has_told(*sender, told, me, setup, effects)
+            }
+            Input::Message {
+                sender,
+                msg: AbdMsg::Kept(r),
+            } if self.waits_for_kept(*sender, *r) => {
+                let ops = setup.ops[me as usize] as u64;
+                self.has_kept(*sender, ops, setup, effects)
+            }
+            _ => {}
+        }
+    }
+}

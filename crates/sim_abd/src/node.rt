@@ -1,0 +1,115 @@
+use crate::{AbdMsg, Client, Role, Server, State};
+use sim_node::{Effects, Input, Meter, NoMemory, Node, Setup};
+use std::alloc::Global;
+use std::marker::{Model, PhantomData};
+
+/// A host of the register. Contracts see its state.
+#[derive(Drop)]
+pub struct AbdRegister<T> {
+    state: State,
+    meter: PhantomData<T>,
+}
+
+impl<T> Model for AbdRegister<T> {
+    ghost use Rattle.std.specs.Prelude.{◌<◌};
+    ghost use Rattle.sim_node.specs.Node.{IsSetup};
+    ghost use Rattle.sim_abd.specs.AbdRecords.{IsPlaced};
+    ghost use Rattle.sim_abd.specs.declared.roles.State.{State};
+
+    ghost Value = { State };
+
+    ghost view = { λ node. node.state };
+
+    ghost invariant = { λ node. IsSetup node.state.setup × (node.state.me < node.state.setup.hosts) × IsPlaced node.state.setup.hosts node.state.role };
+}
+
+impl<T: Meter> Node for AbdRegister<T> {
+    type Msg = AbdMsg;
+
+    type Undo = Role;
+
+    type Meter = T;
+
+    const PROBES: u8 = 3;
+
+    ghost use Rattle.sim_abd.specs.Abd.{abd};
+    ghost use Rattle.sim_abd.specs.AbdRecords.{abd_records};
+
+    ghost PROBES = { 3 };
+
+    ghost laws = { abd };
+
+    ghost told = { λ state. state.setup };
+
+    ghost records = { abd_records };
+
+    fn boot(
+        _alloc: Global,
+        setup: &Setup,
+        me: u16,
+        disk: &[u8],
+        meter: &mut T,
+    ) -> Result<Self, NoMemory> {
+        meter.turn();
+        let role = if me < setup.servers {
+            Role::Server(Server::at_boot(disk))
+        } else {
+            Role::Client(Client::at_boot())
+        };
+        Ok(AbdRegister {
+            state: State {
+                setup: *setup,
+                me,
+                role,
+            },
+            meter: PhantomData,
+        })
+    }
+
+    fn act(
+        &mut self,
+        _alloc: Global,
+        _now: u64,
+        input: &Input<AbdMsg>,
+        _word: u32,
+        effects: &mut Effects<AbdMsg>,
+        meter: &mut T,
+    ) -> Result<Role, NoMemory> {
+        meter.turn(); // one turn, whatever the input
+        let before = self.state.role;
+        let setup = &self.state.setup;
+        match &mut self.state.role {
+            Role::Client(client) => client.react(setup, self.state.me, input, effects),
+            Role::Server(server) => server.react(setup, input, effects),
+        }
+        Ok(before)
+    }
+
+    fn undo(&mut self, _alloc: Global, undo: Role, meter: &mut T) -> Result<(), NoMemory> {
+        meter.undone();
+        self.state.role = undo;
+        Ok(())
+    }
+
+    fn copy(&self, _alloc: Global, meter: &mut T) -> Result<Self, NoMemory> {
+        meter.copied();
+        Ok(AbdRegister {
+            state: self.state,
+            meter: PhantomData,
+        })
+    }
+
+    fn probe(&self, k: u8) -> u64 {
+        match (&self.state.role, k) {
+            (Role::Client(client), 0) => client.next,
+            (Role::Client(client), 2) => client.last_read,
+            (Role::Server(server), 1) => server.kept.number,
+            (Role::Server(server), 2) => server.kept.val,
+            _ => 0,
+        }
+    }
+
+    fn copy_msg(_alloc: Global, msg: &AbdMsg) -> Result<AbdMsg, NoMemory> {
+        Ok(*msg)
+    }
+}

@@ -1,0 +1,4 @@
+pub mod Numbers
+pub mod Echo
+pub mod EchoRecords
+pub mod Seen

@@ -1,0 +1,8 @@
+-- How the program's role is seen.
+use Rattle.sim_echo.specs.Echo.{Role}
+use Rattle.sim_echo.specs.declared.echo.Role.{Role as Stored}
+use Rattle.sim_echo.specs.declared.echo.Role.TheVariants as stored
+
+abbrev pub role_of : Stored → Role
+role_of (stored.Client next) = Role.Client next
+role_of (stored.Server served) = Role.Server served

@@ -1,0 +1,2 @@
+pub mod ServerSteps
+pub mod FirstWaiting

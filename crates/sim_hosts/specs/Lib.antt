@@ -1,0 +1,5 @@
+pub mod Numbers
+pub mod Reactions
+pub mod Bytes
+pub mod Hosts
+pub mod Waiting

@@ -1,0 +1,2 @@
+pub mod PrimaryBackup
+pub mod PrimaryBackupRecords

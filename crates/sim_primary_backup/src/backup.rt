@@ -1,0 +1,80 @@
+ghost use Rattle.std.specs.Prelude.{◌≡◌, ◌+◌, ◌<◌, []};
+ghost use Rattle.sim_node.specs.Node.{IsFrom};
+ghost use Rattle.sim_hosts.specs.Reactions.{asked_for};
+ghost use Rattle.sim_primary_backup.specs.PrimaryBackup.{told, backup_synced, react_backup};
+ghost use Rattle.sim_primary_backup.specs.PrimaryBackupRecords.{IsPlacedStore, IsPlacedCell, restored_cell};
+
+use crate::{BackupMsg, Cell, Store};
+use sim_node::{Effects, Input, Setup};
+
+impl Store {
+    /// The primary tells of a put: the answer is what the cell held, where it is applied.
+    fn told(
+        &mut self,
+        from: u16,
+        m: u64,
+        cell: u8,
+        val: u64,
+        setup: &Setup,
+        effects: &mut Effects<BackupMsg>,
+    ) -> Option<Cell>
+        requires from { from < setup.now.hosts }
+        requires placed { IsPlacedStore self.old.progress }
+        requires empty { effects.old ≡ asked_for setup.now [] }
+        ensures state { self.new ≡ (told from m cell val self.old).0 }
+        ensures placed { IsPlacedStore self.new.progress }
+        ensures effects { effects.new ≡ asked_for setup.now (told from m cell val self.old).1 }
+        ensures cell { IsPlacedCell result }
+        ensures back { restored_cell result self.new.cells ≡ self.old.cells }
+    {
+        if m as u128 == self.progress.applied as u128 + 1 {
+            return Some(self.apply(m, cell % 16, val, effects));
+        }
+        if m <= self.progress.applied && self.progress.unsure == 0 {
+            effects.send(from, BackupMsg::Ack(m));
+        }
+        None
+    }
+
+    /// A sync has come: where it is settled, it acknowledges what it has applied.
+    fn backup_synced(&mut self, setup: &Setup, effects: &mut Effects<BackupMsg>)
+        requires hosts { 0 < setup.now.hosts }
+        requires empty { effects.old ≡ asked_for setup.now [] }
+        ensures state { self.new ≡ (backup_synced self.old).0 }
+        ensures effects { effects.new ≡ asked_for setup.now (backup_synced self.old).1 }
+    {
+        if self.synced() {
+            effects.send(0, BackupMsg::Ack(self.progress.applied));
+        }
+    }
+
+    /// A backup reacts to an input: the answer is what a cell held, where it has changed.
+    pub fn react_as_backup(
+        &mut self,
+        setup: &Setup,
+        input: &Input<BackupMsg>,
+        effects: &mut Effects<BackupMsg>,
+    ) -> Option<Cell>
+        requires hosts { 0 < setup.now.hosts }
+        requires sender { IsFrom setup.now.hosts input.now }
+        requires placed { IsPlacedStore self.old.progress }
+        requires empty { effects.old ≡ asked_for setup.now [] }
+        ensures state { self.new ≡ (react_backup self.old input.now).0 }
+        ensures placed { IsPlacedStore self.new.progress }
+        ensures effects { effects.new ≡ asked_for setup.now (react_backup self.old input.now).1 }
+        ensures cell { IsPlacedCell result }
+        ensures back { restored_cell result self.new.cells ≡ self.old.cells }
+    {
+        match input {
+            Input::Synced => {
+                self.backup_synced(setup, effects);
+                None
+            }
+            Input::Message {
+                sender,
+                msg: BackupMsg::Apply(m, cell, val),
+            } => self.told(*sender, *m, *cell, *val, setup, effects),
+            _ => None,
+        }
+    }
+}

@@ -1,0 +1,15 @@
+//! Primary-backup. Server 0 is the primary, the other servers are the backups.
+#![tactic(auto)]
+
+mod backup;
+mod client;
+mod node;
+mod primary;
+mod roles;
+mod store;
+
+pub use node::PrimaryBackup;
+pub use roles::{
+    BackupMsg, BackupUndo, Cell, Changes, Primary, Progress, Request, Role, Slot, State, Store,
+    Waiter,
+};

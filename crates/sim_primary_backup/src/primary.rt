@@ -1,0 +1,324 @@
+ghost use Rattle.std.specs.Prelude.{ℕ, ◌≡◌, ◌+◌, ◌<◌, ◌≤◌, ◌++◌, [], length, Some, IfSome, slice_set};
+ghost use Rattle.sim_node.specs.Node.{IsSetup, IsFrom};
+ghost use Rattle.sim_hosts.specs.Reactions.{asked_for};
+ghost use Rattle.sim_primary_backup.specs.PrimaryBackup.{primary_at_boot, started, begun, begun_lowest, is_of_another, put_by, fin_of, finished, acknowledged, acked, spread, primary_timer, settled, primary_synced, react_primary};
+ghost use Rattle.sim_primary_backup.specs.PrimaryBackupRecords.{IsPlacedPrimary, IsPlacedChanges, restored_cell, restored_slot, primary_before};
+
+use crate::{BackupMsg, Cell, Changes, Primary, Progress, Request, Slot, Store, Waiter};
+use sim_hosts::{HostSet, is_other, lowest_waiting, send_to_all, send_to_missing};
+use sim_node::{Effects, Input, Setup};
+
+/// How long the primary waits for the backups before it sends again, in milliseconds.
+const PATIENCE: u32 = 100;
+
+/// Nothing has changed.
+const UNCHANGED: Changes = Changes {
+    cell: None,
+    slot: None,
+};
+
+impl Request {
+    /// Whether the put is that of another host.
+    fn is_of_another(&self, host: u16) -> bool
+        ensures { result ≡ is_of_another host self.now }
+    {
+        match self.client {
+            None => true,
+            Some(client) => client != host,
+        }
+    }
+
+    /// Tells its client, if it is somebody's, that it has ended.
+    fn tell(&self, setup: &Setup, effects: &mut Effects<BackupMsg>)
+        requires client { IfSome self.now.client (λ client. client < setup.now.hosts) }
+        requires empty { effects.old ≡ asked_for setup.now [] }
+        ensures { effects.new ≡ asked_for setup.now (fin_of self.now) }
+    {
+        if let Some(client) = self.client {
+            effects.send(client, BackupMsg::Fin(self.number));
+        }
+    }
+}
+
+impl Primary {
+    /// The primary that starts from these bytes of its disk.
+    pub fn at_boot(disk: &[u8]) -> Primary
+        ensures state { result ≡ primary_at_boot disk.now }
+        ensures placed { (hosts : ℕ) → IsPlacedPrimary hosts result.store.progress result.current }
+    {
+        Primary {
+            store: Store::on(disk),
+            current: None,
+            waiting: [None; 32],
+        }
+    }
+
+    /// It starts: where it has applied a put, it spreads the last again.
+    fn start(&mut self, setup: &Setup, effects: &mut Effects<BackupMsg>)
+        requires setup { IsSetup setup.now }
+        requires placed { IsPlacedPrimary setup.now.hosts self.old.store.progress self.old.current }
+        requires empty { effects.old ≡ asked_for setup.now [] }
+        ensures state { self.new ≡ (started setup.now self.old).0 }
+        ensures placed { IsPlacedPrimary setup.now.hosts self.new.store.progress self.new.current }
+        ensures effects { effects.new ≡ asked_for setup.now (started setup.now self.old).1 }
+    {
+        if self.store.progress.applied > 0 {
+            self.current = Some(Request {
+                client: None,
+                number: 0,
+                answers: HostSet::nobody(),
+            });
+            send_to_all(1, setup, self.store.last_put(), effects);
+            effects.timer(PATIENCE);
+        }
+    }
+
+    /// Begins a put of a client: the answer is what the cell held.
+    fn begin(
+        &mut self,
+        client: u16,
+        put: Waiter,
+        setup: &Setup,
+        effects: &mut Effects<BackupMsg>,
+    ) -> Cell
+        requires client { client < setup.now.hosts }
+        requires room { length effects.old.list < 8 }
+        ensures state { self.new ≡ (begun client put.number put.val self.old).0 }
+        ensures placed { IsPlacedPrimary setup.now.hosts self.new.store.progress self.new.current }
+        ensures effects { effects.new ≡ record effects.old { list = effects.old.list ++ (begun client put.number put.val self.old).1 } }
+        ensures cell { result.place < 16 }
+        ensures back { restored_cell (Some result) self.new.store.cells ≡ self.old.store.cells }
+    {
+        self.current = Some(Request {
+            client: Some(client),
+            number: put.number,
+            answers: HostSet::nobody(),
+        });
+        let n = self.store.progress.applied.saturating_add(1);
+        let before = self
+            .store
+            .apply(n, (put.number % 16) as u8, put.val, effects);
+        effects.timer(PATIENCE);
+        before
+    }
+
+    /// A host waits with this from now on; the answer is what it waited with.
+    fn put_waiter(&mut self, host: u16, waiter: Option<Waiter>) -> Slot
+        requires { host < 32 }
+        ensures state { self.new ≡ record self.old { waiting = slice_set self.old.waiting host waiter } }
+        ensures back { restored_slot (Some result) self.new.waiting ≡ self.old.waiting }
+        ensures host { result.host < 32 }
+    {
+        let before = Slot {
+            host,
+            waiter: self.waiting[host as usize],
+        };
+        self.waiting[host as usize] = waiter;
+        before
+    }
+
+    /// Begins the put of the lowest host that waits, or rests.
+    fn begin_lowest(&mut self, setup: &Setup, effects: &mut Effects<BackupMsg>) -> Changes
+        requires setup { IsSetup setup.now }
+        requires placed { IsPlacedPrimary setup.now.hosts self.old.store.progress self.old.current }
+        requires room { length effects.old.list < 8 }
+        ensures state { self.new ≡ (begun_lowest setup.now self.old).0 }
+        ensures placed { IsPlacedPrimary setup.now.hosts self.new.store.progress self.new.current }
+        ensures effects { effects.new ≡ record effects.old { list = effects.old.list ++ (begun_lowest setup.now self.old).1 } }
+        ensures changes { IsPlacedChanges result }
+        ensures back { primary_before self.old.store.progress self.old.current result self.new ≡ self.old }
+    {
+        match lowest_waiting(setup, &self.waiting) {
+            None => {
+                self.current = None;
+                UNCHANGED
+            }
+            Some((client, put)) => {
+                let slot = Some(self.put_waiter(client, None));
+                let cell = Some(self.begin(client, put, setup, effects));
+                Changes { cell, slot }
+            }
+        }
+    }
+
+    /// A host asks for a put.
+    fn put_by(
+        &mut self,
+        from: u16,
+        put: Waiter,
+        setup: &Setup,
+        effects: &mut Effects<BackupMsg>,
+    ) -> Changes
+        requires setup { IsSetup setup.now }
+        requires from { from < setup.now.hosts }
+        requires placed { IsPlacedPrimary setup.now.hosts self.old.store.progress self.old.current }
+        requires empty { effects.old ≡ asked_for setup.now [] }
+        ensures state { self.new ≡ (put_by from put.number put.val self.old.current self.old).0 }
+        ensures placed { IsPlacedPrimary setup.now.hosts self.new.store.progress self.new.current }
+        ensures effects { effects.new ≡ asked_for setup.now (put_by from put.number put.val self.old.current self.old).1 }
+        ensures changes { IsPlacedChanges result }
+        ensures back { primary_before self.old.store.progress self.old.current result self.new ≡ self.old }
+    {
+        let Some(current) = self.current else {
+            return Changes {
+                cell: Some(self.begin(from, put, setup, effects)),
+                slot: None,
+            };
+        };
+        let slot = if current.is_of_another(from) {
+            Some(self.put_waiter(from, Some(put)))
+        } else {
+            None
+        };
+        Changes { cell: None, slot }
+    }
+
+    /// A backup has the current put.
+    fn acknowledge(
+        &mut self,
+        from: u16,
+        current: Request,
+        setup: &Setup,
+        effects: &mut Effects<BackupMsg>,
+    ) -> Changes
+        requires setup { IsSetup setup.now }
+        requires from { from < setup.now.hosts }
+        requires current { IsPlacedPrimary setup.now.hosts self.old.store.progress (Some current) }
+        requires placed { IsPlacedPrimary setup.now.hosts self.old.store.progress self.old.current }
+        requires empty { effects.old ≡ asked_for setup.now [] }
+        ensures state { self.new ≡ (acknowledged from current setup.now self.old).0 }
+        ensures placed { IsPlacedPrimary setup.now.hosts self.new.store.progress self.new.current }
+        ensures effects { effects.new ≡ asked_for setup.now (acknowledged from current setup.now self.old).1 }
+        ensures changes { IsPlacedChanges result }
+        ensures back { primary_before self.old.store.progress self.old.current result self.new ≡ self.old }
+    {
+        let answers = current.answers.joined(from);
+        if answers.has_servers_from(1, setup) {
+            current.tell(setup, effects);
+            return self.begin_lowest(setup, effects);
+        }
+        self.current = Some(Request { answers, ..current });
+        UNCHANGED
+    }
+
+    /// A host says that it has put number m.
+    fn acked(
+        &mut self,
+        from: u16,
+        m: u64,
+        setup: &Setup,
+        effects: &mut Effects<BackupMsg>,
+    ) -> Changes
+        requires setup { IsSetup setup.now }
+        requires from { from < setup.now.hosts }
+        requires placed { IsPlacedPrimary setup.now.hosts self.old.store.progress self.old.current }
+        requires empty { effects.old ≡ asked_for setup.now [] }
+        ensures state { self.new ≡ (acked from m self.old.current setup.now self.old).0 }
+        ensures placed { IsPlacedPrimary setup.now.hosts self.new.store.progress self.new.current }
+        ensures effects { effects.new ≡ asked_for setup.now (acked from m self.old.current setup.now self.old).1 }
+        ensures changes { IsPlacedChanges result }
+        ensures back { primary_before self.old.store.progress self.old.current result self.new ≡ self.old }
+    {
+        if let Some(current) = self.current
+            && is_other(setup, from)
+            && m == self.store.progress.applied
+        {
+            return self.acknowledge(from, current, setup, effects);
+        }
+        UNCHANGED
+    }
+
+    /// Sends the current put to the backups that have not answered.
+    fn spread(&self, current: Request, setup: &Setup, effects: &mut Effects<BackupMsg>)
+        requires setup { IsSetup setup.now }
+        requires placed { IsPlacedPrimary setup.now.hosts self.now.store.progress self.now.current }
+        requires empty { effects.old ≡ asked_for setup.now [] }
+        ensures room { length effects.new.list ≤ setup.now.servers }
+        ensures effects { effects.new ≡ asked_for setup.now (spread current setup.now self.now) }
+    {
+        let put = self.store.last_put();
+        send_to_missing(1, setup, current.answers, put, effects);
+    }
+
+    /// The timer.
+    fn timed_out(&self, setup: &Setup, effects: &mut Effects<BackupMsg>)
+        requires setup { IsSetup setup.now }
+        requires placed { IsPlacedPrimary setup.now.hosts self.now.store.progress self.now.current }
+        requires empty { effects.old ≡ asked_for setup.now [] }
+        ensures { effects.new ≡ asked_for setup.now (primary_timer self.now.current setup.now self.now).1 }
+    {
+        if let Some(current) = self.current {
+            if self.store.progress.unsure == 0 {
+                self.spread(current, setup, effects);
+            }
+            effects.timer(PATIENCE);
+        }
+    }
+
+    /// A sync has come: where it is settled, it spreads its put.
+    fn synced(&mut self, setup: &Setup, effects: &mut Effects<BackupMsg>)
+        requires setup { IsSetup setup.now }
+        requires placed { IsPlacedPrimary setup.now.hosts self.old.store.progress self.old.current }
+        requires empty { effects.old ≡ asked_for setup.now [] }
+        ensures state { self.new ≡ (primary_synced setup.now self.old).0 }
+        ensures placed { IsPlacedPrimary setup.now.hosts self.new.store.progress self.new.current }
+        ensures effects { effects.new ≡ asked_for setup.now (primary_synced setup.now self.old).1 }
+    {
+        let settled = self.store.synced();
+        if let Some(current) = self.current
+            && settled
+        {
+            self.spread(current, setup, effects);
+            effects.timer(PATIENCE);
+        }
+    }
+
+    /// It reacts to an input: the answer is what a cell held and what a host waited with, where that has changed.
+    pub fn react(
+        &mut self,
+        setup: &Setup,
+        input: &Input<BackupMsg>,
+        effects: &mut Effects<BackupMsg>,
+    ) -> Changes
+        requires setup { IsSetup setup.now }
+        requires sender { IsFrom setup.now.hosts input.now }
+        requires placed { IsPlacedPrimary setup.now.hosts self.old.store.progress self.old.current }
+        requires empty { effects.old ≡ asked_for setup.now [] }
+        ensures state { self.new ≡ (react_primary setup.now self.old input.now).0 }
+        ensures placed { IsPlacedPrimary setup.now.hosts self.new.store.progress self.new.current }
+        ensures effects { effects.new ≡ asked_for setup.now (react_primary setup.now self.old input.now).1 }
+        ensures changes { IsPlacedChanges result }
+        ensures back { primary_before self.old.store.progress self.old.current result self.new ≡ self.old }
+    {
+        let mut changes = UNCHANGED;
+        match input {
+            Input::Start => self.start(setup, effects),
+            Input::Timer => self.timed_out(setup, effects),
+            Input::Synced => self.synced(setup, effects),
+            Input::Message { sender, msg } => match msg {
+                BackupMsg::Put(i, val) => {
+                    let put = Waiter {
+                        number: *i,
+                        val: *val,
+                    };
+                    changes = self.put_by(*sender, put, setup, effects);
+                }
+                BackupMsg::Ack(m) => changes = self.acked(*sender, *m, setup, effects),
+                _ => {}
+            },
+        }
+        changes
+    }
+
+    /// Takes a reaction back.
+    pub fn take_back(&mut self, progress: Progress, current: Option<Request>, changes: Changes)
+        requires { IsPlacedChanges changes }
+        ensures { self.new ≡ primary_before progress current changes self.old }
+    {
+        self.store.take_back(progress, changes.cell);
+        self.current = current;
+        if let Some(before) = changes.slot {
+            self.waiting[before.host as usize] = before.waiter;
+        }
+    }
+}

@@ -1,0 +1,143 @@
+ghost use Rattle.std.specs.Prelude.{◌≡◌, ◌+◌, ◌<◌, ◌++◌, [], ◌∷◌, length, Some};
+ghost use Rattle.sim_hosts.specs.Bytes.{bytes_of};
+ghost use Rattle.sim_hosts.specs.Numbers.{is_settled};
+ghost use Rattle.sim_primary_backup.specs.PrimaryBackup.{cells_on, store_on, with_put, saved, apply_of, after_sync};
+ghost use Rattle.sim_primary_backup.specs.PrimaryBackupRecords.{IsPlacedStore, IsPlacedCell, restored_cell, store_before};
+
+use crate::{BackupMsg, Cell, Progress, Store};
+use sim_hosts::{byte_at, number_at, put_number};
+use sim_node::Effects;
+
+/// The cells that a disk holds.
+fn cells_on(disk: &[u8]) -> [u64; 16]
+    ensures { result ≡ cells_on disk.now }
+{
+    [
+        number_at(disk, 0),
+        number_at(disk, 8),
+        number_at(disk, 16),
+        number_at(disk, 24),
+        number_at(disk, 32),
+        number_at(disk, 40),
+        number_at(disk, 48),
+        number_at(disk, 56),
+        number_at(disk, 64),
+        number_at(disk, 72),
+        number_at(disk, 80),
+        number_at(disk, 88),
+        number_at(disk, 96),
+        number_at(disk, 104),
+        number_at(disk, 112),
+        number_at(disk, 120),
+    ]
+}
+
+impl Progress {
+    /// Its 9 bytes: how many puts are applied, and the last cell.
+    fn bytes(&self) -> [u8; 9]
+        ensures { result ≡ bytes_of self.now.applied ++ self.now.last ∷ [] }
+    {
+        let mut bytes = [0; 9];
+        put_number(&mut bytes, 0, self.applied);
+        bytes[8] = self.last;
+        bytes
+    }
+}
+
+impl Store {
+    /// What a disk holds.
+    pub fn on(disk: &[u8]) -> Store
+        ensures store { result ≡ store_on disk.now }
+        ensures placed { IsPlacedStore result.progress }
+    {
+        Store {
+            cells: cells_on(disk),
+            progress: Progress {
+                applied: number_at(disk, 128),
+                last: byte_at(disk, 136) % 16,
+                unsure: 0,
+            },
+        }
+    }
+
+    /// Puts a value into a cell, as put number n; the answer is what the cell held.
+    fn put(&mut self, n: u64, place: u8, val: u64) -> Cell
+        requires { place < 16 }
+        ensures state { self.new ≡ with_put n place val self.old }
+        ensures placed { IsPlacedStore self.new.progress }
+        ensures cell { result.place < 16 }
+        ensures back { restored_cell (Some result) self.new.cells ≡ self.old.cells }
+    {
+        let before = Cell {
+            place,
+            val: self.cells[place as usize],
+        };
+        self.cells[place as usize] = val;
+        self.progress = Progress {
+            applied: n,
+            last: place,
+            unsure: self.progress.unsure.saturating_add(1),
+        };
+        before
+    }
+
+    /// Writes the last put to the disk, and asks for a sync.
+    fn save(&self, effects: &mut Effects<BackupMsg>)
+        requires placed { IsPlacedStore self.now.progress }
+        requires room { length effects.old.list < 36 }
+        ensures { effects.new ≡ record effects.old { list = effects.old.list ++ saved self.now } }
+    {
+        let val = self.cells[self.progress.last as usize];
+        effects.write(8 * self.progress.last as u32, &val.to_le_bytes());
+        effects.write(128, &self.progress.bytes());
+        effects.sync();
+    }
+
+    /// Puts a value into a cell, and writes that to the disk; the answer is what the cell held.
+    pub fn apply(&mut self, n: u64, place: u8, val: u64, effects: &mut Effects<BackupMsg>) -> Cell
+        requires place { place < 16 }
+        requires room { length effects.old.list < 36 }
+        ensures state { self.new ≡ with_put n place val self.old }
+        ensures placed { IsPlacedStore self.new.progress }
+        ensures effects { effects.new ≡ record effects.old { list = effects.old.list ++ saved self.new } }
+        ensures cell { result.place < 16 }
+        ensures back { restored_cell (Some result) self.new.cells ≡ self.old.cells }
+    {
+        let before = self.put(n, place, val);
+        self.save(effects);
+        before
+    }
+
+    /// The last put, for the backups.
+    pub fn last_put(&self) -> BackupMsg
+        requires { IsPlacedStore self.now.progress }
+        ensures { result ≡ apply_of self.now }
+    {
+        let progress = &self.progress;
+        BackupMsg::Apply(
+            progress.applied,
+            progress.last,
+            self.cells[progress.last as usize],
+        )
+    }
+
+    /// A sync has come. The answer is whether it is settled.
+    pub fn synced(&mut self) -> bool
+        ensures state { self.new ≡ after_sync self.old }
+        ensures settled { result ≡ is_settled self.new.progress.unsure }
+    {
+        self.progress.unsure = self.progress.unsure.saturating_sub(1);
+        self.progress.unsure == 0
+    }
+
+    /// Takes a reaction back.
+    pub fn take_back(&mut self, progress: Progress, cell: Option<Cell>)
+        requires { IsPlacedCell cell }
+        ensures { self.new ≡ store_before progress cell self.old }
+    {
+        self.progress = progress;
+        if let Some(before) = cell {
+            self.cells[before.place as usize] = before.val;
+        }
+    }
+}

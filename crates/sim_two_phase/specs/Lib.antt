@@ -1,0 +1,2 @@
+pub mod TwoPhase
+pub mod TwoPhaseRecords

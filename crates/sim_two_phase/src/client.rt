@@ -1,0 +1,61 @@
+ghost use Rattle.std.specs.Prelude.{◌≡◌, ◌<◌, []};
+ghost use Rattle.sim_hosts.specs.Reactions.{asked_for};
+ghost use Rattle.sim_two_phase.specs.TwoPhase.{client_asks, client_answered, react_client};
+
+use crate::CommitMsg;
+use sim_node::{Effects, Input, Setup};
+
+/// How long a client waits for an answer before it asks again, in milliseconds.
+const PATIENCE: u32 = 200;
+
+/// The client asks for a transaction for its operation of this number, which it then waits for.
+fn ask(setup: &Setup, next: u64, effects: &mut Effects<CommitMsg>) -> u64
+    requires hosts { 0 < setup.now.hosts }
+    requires empty { effects.old ≡ asked_for setup.now [] }
+    ensures next { result ≡ (client_asks next).0 }
+    ensures effects { effects.new ≡ asked_for setup.now (client_asks next).1 }
+{
+    effects.send(0, CommitMsg::Begin(next));
+    effects.timer(PATIENCE);
+    next
+}
+
+/// The answer to the operation has come.
+fn answered(setup: &Setup, ops: u64, next: u64, effects: &mut Effects<CommitMsg>) -> u64
+    requires hosts { 0 < setup.now.hosts }
+    requires empty { effects.old ≡ asked_for setup.now [] }
+    ensures next { result ≡ (client_answered ops next).0 }
+    ensures effects { effects.new ≡ asked_for setup.now (client_answered ops next).1 }
+{
+    let following = next.saturating_add(1);
+    if next == ops {
+        effects.done();
+        following
+    } else {
+        ask(setup, following, effects)
+    }
+}
+
+/// A client with so many operations, which waits for the one of number `next`, reacts: the operation that it waits for then.
+pub fn react(
+    setup: &Setup,
+    ops: u64,
+    next: u64,
+    input: &Input<CommitMsg>,
+    effects: &mut Effects<CommitMsg>,
+) -> u64
+    requires hosts { 0 < setup.now.hosts }
+    requires empty { effects.old ≡ asked_for setup.now [] }
+    ensures next { result ≡ (react_client ops next input.now).0 }
+    ensures effects { effects.new ≡ asked_for setup.now (react_client ops next input.now).1 }
+{
+    match input {
+        Input::Start => ask(setup, 1, effects),
+        Input::Timer if 1 <= next && next <= ops => ask(setup, next, effects),
+        Input::Message {
+            msg: CommitMsg::Answer(i, _),
+            ..
+        } if *i == next => { answered(setup, ops, next, effects) }
+        _ => next,
+    }
+}

@@ -1,0 +1,249 @@
+ghost use Rattle.std.specs.Prelude.{◌≡◌, ◌+◌, ◌<◌, ◌≤◌, [], Some, IfSome, slice_set};
+ghost use Rattle.sim_node.specs.Node.{IsSetup, IsFrom};
+ghost use Rattle.sim_hosts.specs.Reactions.{asked_for};
+ghost use Rattle.sim_two_phase.specs.TwoPhase.{presumed, coordinator_at_boot, is_of_this, begun_for, begun, is_voting_for, asked_by, coordinator_timer, heard, react_coordinator};
+ghost use Rattle.sim_two_phase.specs.TwoPhaseRecords.{IsPlacedConduct, IsPlacedSlots, restored, coordinator_before};
+
+use crate::conduct::PATIENCE;
+use crate::disk::first_of_byte;
+use crate::{CommitMsg, Conduct, Coordinator, First, Phase, Slot, Slots};
+use sim_hosts::{HostSet, byte_at, is_other, lowest_waiting, number_at};
+use sim_node::{Effects, Input, Setup};
+
+/// Nobody's waiting has changed.
+const UNCHANGED: Slots = Slots {
+    asked: None,
+    begun: None,
+};
+
+/// What became of transaction 1, at a boot: where it has begun and is open, it is presumed to be aborted.
+fn presumed(transaction: u64, first: First) -> First
+    ensures { result ≡ presumed transaction first }
+{
+    if first == First::Open && 1 <= transaction {
+        First::Aborted
+    } else {
+        first
+    }
+}
+
+impl Coordinator {
+    /// The coordinator that starts from these bytes of its disk.
+    pub fn at_boot(disk: &[u8]) -> Coordinator
+        ensures { result ≡ coordinator_at_boot disk.now }
+    {
+        let transaction = number_at(disk, 0);
+        Coordinator {
+            conduct: Conduct {
+                transaction,
+                commits: byte_at(disk, 8) == 1,
+                first: presumed(transaction, first_of_byte(byte_at(disk, 9))),
+                phase: Phase::Resting,
+                unsure: 0,
+                owed: None,
+            },
+            waiting: [None; 32],
+        }
+    }
+
+    /// The host waits with this from now on; the answer is what it waited with.
+    fn put(&mut self, host: u16, number: Option<u64>) -> Slot
+        requires { host < 32 }
+        ensures state { self.new ≡ record self.old { waiting = slice_set self.old.waiting host number } }
+        ensures back { restored (Some result) self.new.waiting ≡ self.old.waiting }
+        ensures host { result.host < 32 }
+    {
+        let before = Slot {
+            host,
+            number: self.waiting[host as usize],
+        };
+        self.waiting[host as usize] = number;
+        before
+    }
+
+    /// Begins a transaction for this operation of a client.
+    fn begin_for(
+        &mut self,
+        client: u16,
+        number: u64,
+        setup: &Setup,
+        effects: &mut Effects<CommitMsg>,
+    ) -> Slot
+        requires setup { IsSetup setup.now }
+        requires client { client < setup.now.hosts }
+        requires placed { IsPlacedConduct setup.now.hosts self.old.conduct }
+        requires empty { effects.old ≡ asked_for setup.now [] }
+        ensures state { self.new ≡ (begun_for (client, number) self.old).0 }
+        ensures placed { IsPlacedConduct setup.now.hosts self.new.conduct }
+        ensures effects { effects.new ≡ asked_for setup.now (begun_for (client, number) self.old).1 }
+        ensures back { restored (Some result) self.new.waiting ≡ self.old.waiting }
+        ensures host { result.host < 32 }
+    {
+        let before = self.put(client, None);
+        self.conduct.transaction = self.conduct.transaction.saturating_add(1);
+        self.conduct.commits = false;
+        self.conduct.phase = Phase::Voting {
+            client,
+            number,
+            votes: HostSet::nobody(),
+        };
+        self.conduct.unsure = self.conduct.unsure.saturating_add(1);
+        self.conduct.force(effects);
+        effects.timer(PATIENCE);
+        before
+    }
+
+    /// Begins a transaction for the lowest host that waits, where one does.
+    fn begin(&mut self, setup: &Setup, effects: &mut Effects<CommitMsg>) -> Option<Slot>
+        requires setup { IsSetup setup.now }
+        requires placed { IsPlacedConduct setup.now.hosts self.old.conduct }
+        requires empty { effects.old ≡ asked_for setup.now [] }
+        ensures state { self.new ≡ (begun setup.now self.old).0 }
+        ensures placed { IsPlacedConduct setup.now.hosts self.new.conduct }
+        ensures effects { effects.new ≡ asked_for setup.now (begun setup.now self.old).1 }
+        ensures back { restored result self.new.waiting ≡ self.old.waiting }
+        ensures host { IfSome result (λ s. s.host < 32) }
+    {
+        match lowest_waiting(setup, &self.waiting) {
+            None => None,
+            Some((client, number)) => Some(self.begin_for(client, number, setup, effects)),
+        }
+    }
+
+    fn is_voting_for(&self, host: u16) -> bool
+        ensures { result ≡ is_voting_for host self.now.conduct.phase }
+    {
+        match self.conduct.phase {
+            Phase::Voting { client, .. } => client == host,
+            _ => false,
+        }
+    }
+
+    /// A host asks for a transaction.
+    fn asked_by(
+        &mut self,
+        from: u16,
+        number: u64,
+        setup: &Setup,
+        effects: &mut Effects<CommitMsg>,
+    ) -> Slots
+        requires setup { IsSetup setup.now }
+        requires from { from < setup.now.hosts }
+        requires placed { IsPlacedConduct setup.now.hosts self.old.conduct }
+        requires empty { effects.old ≡ asked_for setup.now [] }
+        ensures state { self.new ≡ (asked_by from number setup.now self.old).0 }
+        ensures placed { IsPlacedConduct setup.now.hosts self.new.conduct }
+        ensures effects { effects.new ≡ asked_for setup.now (asked_by from number setup.now self.old).1 }
+        ensures back { coordinator_before self.old.conduct result self.new ≡ self.old }
+        ensures slots { IsPlacedSlots result }
+    {
+        if self.is_voting_for(from) {
+            return UNCHANGED;
+        }
+        let asked = Some(self.put(from, Some(number)));
+        let begun = match self.conduct.phase {
+            Phase::Resting => self.begin(setup, effects),
+            _ => None,
+        };
+        Slots { asked, begun }
+    }
+
+    /// The timer.
+    fn timed_out(&mut self, setup: &Setup, effects: &mut Effects<CommitMsg>) -> Option<Slot>
+        requires setup { IsSetup setup.now }
+        requires placed { IsPlacedConduct setup.now.hosts self.old.conduct }
+        requires empty { effects.old ≡ asked_for setup.now [] }
+        ensures state { self.new ≡ (coordinator_timer self.old.conduct.phase setup.now self.old).0 }
+        ensures placed { IsPlacedConduct setup.now.hosts self.new.conduct }
+        ensures effects { effects.new ≡ asked_for setup.now (coordinator_timer self.old.conduct.phase setup.now self.old).1 }
+        ensures back { restored result self.new.waiting ≡ self.old.waiting }
+        ensures host { IfSome result (λ s. s.host < 32) }
+    {
+        if self.conduct.phase == Phase::Resting {
+            return self.begin(setup, effects);
+        }
+        self.conduct.timed_out(setup, effects);
+        None
+    }
+
+    /// Whether the message is one of a participant about the transaction that is under way.
+    fn is_of_this(&self, from: u16, u: u64, setup: &Setup) -> bool
+        ensures { result ≡ is_of_this from u setup.now self.now.conduct }
+    {
+        is_other(setup, from) && u == self.conduct.transaction
+    }
+
+    /// It reacts to a message that does not change who waits.
+    fn hear(&mut self, from: u16, msg: &CommitMsg, setup: &Setup, effects: &mut Effects<CommitMsg>)
+        requires setup { IsSetup setup.now }
+        requires from { from < setup.now.hosts }
+        requires placed { IsPlacedConduct setup.now.hosts self.old.conduct }
+        requires empty { effects.old ≡ asked_for setup.now [] }
+        ensures state { self.new ≡ (heard from msg.now setup.now self.old).0 }
+        ensures placed { IsPlacedConduct setup.now.hosts self.new.conduct }
+        ensures effects { effects.new ≡ asked_for setup.now (heard from msg.now setup.now self.old).1 }
+        ensures waiting { self.new.waiting ≡ self.old.waiting }
+    {
+        match msg {
+            CommitMsg::Vote(u, agrees) if self.is_of_this(from, *u, setup) => {
+                self.conduct.voted(from, *agrees, setup, effects)
+            }
+            CommitMsg::Seen(u) if self.is_of_this(from, *u, setup) => {
+                self.conduct.seen(from, setup, effects)
+            }
+            CommitMsg::Inquire(u) => self.conduct.inquired(from, *u, setup, effects),
+            _ => {}
+        }
+    }
+
+    /// It reacts to an input; the answer is what those waited with whose waiting has changed.
+    pub fn react(
+        &mut self,
+        setup: &Setup,
+        input: &Input<CommitMsg>,
+        effects: &mut Effects<CommitMsg>,
+    ) -> Slots
+        requires setup { IsSetup setup.now }
+        requires sender { IsFrom setup.now.hosts input.now }
+        requires placed { IsPlacedConduct setup.now.hosts self.old.conduct }
+        requires empty { effects.old ≡ asked_for setup.now [] }
+        ensures state { self.new ≡ (react_coordinator setup.now self.old input.now).0 }
+        ensures placed { IsPlacedConduct setup.now.hosts self.new.conduct }
+        ensures effects { effects.new ≡ asked_for setup.now (react_coordinator setup.now self.old input.now).1 }
+        ensures back { coordinator_before self.old.conduct result self.new ≡ self.old }
+        ensures slots { IsPlacedSlots result }
+    {
+        let mut slots = UNCHANGED;
+        match input {
+            Input::Start => self.conduct.start(setup, effects),
+            Input::Timer => slots.begun = self.timed_out(setup, effects),
+            Input::Synced => self.conduct.synced(setup, effects),
+            Input::Message {
+                sender,
+                msg: CommitMsg::Begin(number),
+            } => slots = self.asked_by(*sender, *number, setup, effects),
+            Input::Message { sender, msg } => self.hear(*sender, msg, setup, effects),
+        }
+        slots
+    }
+
+    /// Takes a reaction back: the conduct before, and what those waited with whose waiting has changed.
+    pub fn take_back(&mut self, conduct: Conduct, slots: Slots)
+        requires { IsPlacedSlots slots }
+        ensures { self.new ≡ coordinator_before conduct slots self.old }
+    {
+        self.conduct = conduct;
+        self.put_back(slots.begun);
+        self.put_back(slots.asked);
+    }
+
+    /// A host waits again with what it waited with.
+    fn put_back(&mut self, slot: Option<Slot>)
+        requires { IfSome slot (λ s. s.host < 32) }
+        ensures { self.new ≡ record self.old { waiting = restored slot self.old.waiting } }
+    {
+        if let Some(before) = slot {
+            self.waiting[before.host as usize] = before.number;
+        }
+    }
+}

@@ -1,0 +1,16 @@
+//! Two-phase commit with presumed abort. Server 0 is the coordinator, the other servers are the participants.
+#![tactic(auto)]
+
+mod client;
+mod conduct;
+mod coordinator;
+mod disk;
+mod node;
+mod participant;
+mod roles;
+
+pub use node::TwoPhase;
+pub use roles::{
+    CommitMsg, CommitUndo, Conduct, Coordinator, First, Owed, Participant, Phase, Role, Slot,
+    Slots, State, Status,
+};

@@ -1,0 +1,138 @@
+use crate::disk::byte_of_first;
+use crate::{CommitMsg, CommitUndo, Coordinator, Participant, Role, State, client};
+use sim_node::{Effects, Input, Meter, NoMemory, Node, Setup};
+use std::alloc::Global;
+use std::marker::{Model, PhantomData};
+
+/// A host of two-phase commit. Contracts see its state.
+#[derive(Drop)]
+pub struct TwoPhase<T> {
+    state: State,
+    meter: PhantomData<T>,
+}
+
+impl<T> Model for TwoPhase<T> {
+    ghost use Rattle.std.specs.Prelude.{◌<◌};
+    ghost use Rattle.sim_node.specs.Node.{IsSetup};
+    ghost use Rattle.sim_two_phase.specs.TwoPhaseRecords.{IsPlaced};
+    ghost use Rattle.sim_two_phase.specs.declared.roles.State.{State};
+
+    ghost Value = { State };
+
+    ghost view = { λ node. node.state };
+
+    ghost invariant = { λ node. IsSetup node.state.setup × (node.state.me < node.state.setup.hosts) × IsPlaced node.state.setup.hosts node.state.role };
+}
+
+impl<T: Meter> Node for TwoPhase<T> {
+    type Msg = CommitMsg;
+
+    type Undo = CommitUndo;
+
+    type Meter = T;
+
+    const PROBES: u8 = 2;
+
+    ghost use Rattle.sim_two_phase.specs.TwoPhase.{two_phase};
+    ghost use Rattle.sim_two_phase.specs.TwoPhaseRecords.{commit_records};
+
+    ghost PROBES = { 2 };
+
+    ghost laws = { two_phase };
+
+    ghost told = { λ state. state.setup };
+
+    ghost records = { commit_records };
+
+    fn boot(
+        _alloc: Global,
+        setup: &Setup,
+        me: u16,
+        disk: &[u8],
+        meter: &mut T,
+    ) -> Result<Self, NoMemory> {
+        meter.turn();
+        let role = if me >= setup.servers {
+            Role::Client { next: 0 }
+        } else if me == 0 {
+            Role::Coordinator(Coordinator::at_boot(disk))
+        } else {
+            Role::Participant(Participant::at_boot(disk))
+        };
+        Ok(TwoPhase {
+            state: State {
+                setup: *setup,
+                me,
+                role,
+            },
+            meter: PhantomData,
+        })
+    }
+
+    fn act(
+        &mut self,
+        _alloc: Global,
+        _now: u64,
+        input: &Input<CommitMsg>,
+        word: u32,
+        effects: &mut Effects<CommitMsg>,
+        meter: &mut T,
+    ) -> Result<CommitUndo, NoMemory> {
+        meter.turn(); // one turn, whatever the input
+        let setup = &self.state.setup;
+        let undo = match &mut self.state.role {
+            Role::Client { next } => {
+                let before = *next;
+                let ops = setup.ops[self.state.me as usize] as u64;
+                *next = client::react(setup, ops, before, input, effects);
+                CommitUndo::Client { next: before }
+            }
+            Role::Coordinator(coordinator) => {
+                let conduct = coordinator.conduct;
+                let slots = coordinator.react(setup, input, effects);
+                CommitUndo::Coordinator { conduct, slots }
+            }
+            Role::Participant(participant) => {
+                let before = *participant;
+                participant.react(setup, input, word, effects);
+                CommitUndo::Participant(before)
+            }
+        };
+        Ok(undo)
+    }
+
+    fn undo(&mut self, _alloc: Global, undo: CommitUndo, meter: &mut T) -> Result<(), NoMemory> {
+        meter.undone();
+        match undo {
+            CommitUndo::Client { next } => self.state.role = Role::Client { next },
+            CommitUndo::Participant(before) => self.state.role = Role::Participant(before),
+            CommitUndo::Coordinator { conduct, slots } => {
+                if let Role::Coordinator(coordinator) = &mut self.state.role {
+                    coordinator.take_back(conduct, slots);
+                }
+            }
+        }
+        Ok(())
+    }
+
+    fn copy(&self, _alloc: Global, meter: &mut T) -> Result<Self, NoMemory> {
+        meter.copied();
+        Ok(TwoPhase {
+            state: self.state,
+            meter: PhantomData,
+        })
+    }
+
+    fn probe(&self, k: u8) -> u64 {
+        match (&self.state.role, k) {
+            (Role::Client { next }, 0) => *next,
+            (Role::Coordinator(coordinator), 1) => byte_of_first(coordinator.conduct.first) as u64,
+            (Role::Participant(participant), 1) => byte_of_first(participant.first) as u64,
+            _ => 0,
+        }
+    }
+
+    fn copy_msg(_alloc: Global, msg: &CommitMsg) -> Result<CommitMsg, NoMemory> {
+        Ok(*msg)
+    }
+}

@@ -1,0 +1,136 @@
+use sim_hosts::HostSet;
+use sim_node::Setup;
+
+/// A message. A transaction is counted from 1 by the coordinator, an operation from 1 by its client.
+#[derive(Clone, Copy, Debug, PartialEq, Eq)]
+pub enum CommitMsg {
+    /// A client asks for a transaction, for its operation of this number.
+    Begin(u64),
+    /// The transaction for this operation of the client is committed, or aborted.
+    Answer(u64, bool),
+    /// The coordinator asks for a vote on this transaction.
+    Prepare(u64),
+    /// A participant is for this transaction, or against it.
+    Vote(u64, bool),
+    /// This transaction is committed, or aborted.
+    Decide(u64, bool),
+    /// A participant has seen that this transaction is committed.
+    Seen(u64),
+    /// A participant asks what became of this transaction.
+    Inquire(u64),
+}
+
+/// What became of transaction 1.
+#[derive(Clone, Copy, Debug, PartialEq, Eq)]
+pub enum First {
+    Open,
+    Committed,
+    Aborted,
+}
+
+/// What the coordinator does.
+#[derive(Clone, Copy, Debug, PartialEq, Eq)]
+pub enum Phase {
+    /// Nothing.
+    Resting,
+    /// It asks for votes on the transaction for this operation of a client; those in the set are for it.
+    Voting {
+        client: u16,
+        number: u64,
+        votes: HostSet,
+    },
+    /// It tells that the transaction is committed; those in the set have seen it.
+    Telling {
+        told: HostSet,
+    },
+}
+
+/// A client that is answered when the commit is stable, and the number of its operation.
+#[derive(Clone, Copy, Debug, PartialEq, Eq)]
+pub struct Owed {
+    pub client: u16,
+    pub number: u64,
+}
+
+/// The coordinator's last transaction, and what it does with it.
+#[derive(Clone, Copy, Debug, PartialEq, Eq)]
+pub struct Conduct {
+    /// The number of the transaction, 0 before the first.
+    pub transaction: u64,
+    /// Whether it commits.
+    pub commits: bool,
+    pub first: First,
+    pub phase: Phase,
+    /// How many syncs it waits for.
+    pub unsure: u64,
+    pub owed: Option<Owed>,
+}
+
+/// The coordinator: its conduct, and with which operation each host waits.
+#[derive(Clone, Copy, Debug)]
+pub struct Coordinator {
+    pub conduct: Conduct,
+    pub waiting: [Option<u64>; 32],
+}
+
+/// What a participant has voted or learned of its transaction.
+#[derive(Clone, Copy, Debug, PartialEq, Eq)]
+pub enum Status {
+    Idle,
+    Prepared,
+    Committed,
+    Aborted,
+}
+
+/// A participant.
+#[derive(Clone, Copy, Debug, PartialEq, Eq)]
+pub struct Participant {
+    /// The transaction that it was asked for last, 0 before the first.
+    pub transaction: u64,
+    pub status: Status,
+    pub first: First,
+    /// How many syncs it waits for.
+    pub unsure: u64,
+}
+
+/// What a host is.
+#[derive(Clone, Copy, Debug)]
+pub enum Role {
+    /// A client waits for the answer to this operation, counted from 1.
+    Client { next: u64 },
+    Coordinator(Coordinator),
+    Participant(Participant),
+}
+
+/// The state of a host.
+#[derive(Clone, Copy, Debug)]
+pub struct State {
+    pub setup: Setup,
+    pub me: u16,
+    pub role: Role,
+}
+
+/// What a host waited with before a reaction.
+#[derive(Clone, Copy, Debug, PartialEq, Eq)]
+pub struct Slot {
+    pub host: u16,
+    pub number: Option<u64>,
+}
+
+/// What those hosts waited with whose waiting a reaction has changed: the one that asked, and the one for which a
+/// transaction was begun after that.
+#[derive(Clone, Copy, Debug, PartialEq, Eq)]
+pub struct Slots {
+    pub asked: Option<Slot>,
+    pub begun: Option<Slot>,
+}
+
+/// The record of a reaction: what the host was before it.
+#[derive(Clone, Copy, Debug, PartialEq, Eq)]
+pub enum CommitUndo {
+    /// A client waited for this operation.
+    Client { next: u64 },
+    /// The coordinator had this conduct, and hosts waited with this.
+    Coordinator { conduct: Conduct, slots: Slots },
+    Participant(Participant),
+}
