@@ -3,6 +3,7 @@ pub mod Limits
 pub mod Events
 pub mod Acts
 pub mod Clock
+pub mod Memory
 pub mod Looks
 pub mod Records
 pub mod Sound

@@ -1,11 +1,12 @@
 //! Events of a world, forwards and backwards.
-ghost use Rattle.std.specs.Prelude.{◌≡◌, ℕ, ◌+◌, ◌-◌, ◌^◌, ◌<◌, ◌≤◌, [], ◌++◌, length, IfOk, OnOk, IsSome, Some, None, slice_index_or, if◌then◌else◌};
+ghost use Rattle.std.specs.Prelude.{◌≡◌, ℕ, ◌+◌, ◌-◌, ◌^◌, ◌<◌, ◌≤◌, [], ◌++◌, length, IfOk, OnOk, IsOk, IsTrue, IsSome, Some, None, slice_index_or, if◌then◌else◌};
 ghost use Rattle.std.specs.List.{count_by};
 ghost use Rattle.sim_queue.specs.Pending.{first};
 ghost use Rattle.sim_world.specs.World.{at_time};
 ghost use Rattle.sim_world.specs.Events.{rules, after, next, refusal_of, stepped};
 ghost use Rattle.sim_world.specs.Acts.{acts, turns_of};
 ghost use Rattle.sim_world.specs.Clock.{clock_after};
+ghost use Rattle.sim_world.specs.Memory.{is_for_stopped};
 ghost use Rattle.sim_world.specs.Index.{IsIndex, first_host, stopped_host, changing_host, LeadsBack};
 ghost use Rattle.sim_world.specs.Records.{AnswersFor, Fits, back};
 ghost use Rattle.sim_world.specs.Room.{IsReady};
@@ -91,6 +92,7 @@ impl<N: Node> Parts<N> {
         requires ready { IsReady N.told sc.now.setup self.old.world }
         requires index { IsIndex index.old self.old.world }
         ensures world { OnOk result (self.new ≡ record self.old { world = after (rules N.laws N.PROBES sc.now) (Event.Fault fault) self.old.world }) }
+        ensures stopped { IsTrue (is_for_stopped (Event.Fault fault) self.old.world) → IsOk result }
         ensures trail { IfOk result (λ t. IsTrail N.records t.items self.old.world self.new.world) }
         ensures acted { IfOk result (λ t. count_by is_reaction t.items ≡ 0) }
         ensures lawful { OnOk result (IsLawfulEvent N.told (rules N.laws N.PROBES sc.now) (Event.Fault fault) self.old.world) }
@@ -118,6 +120,7 @@ impl<N: Node> Parts<N> {
         requires index { IsIndex index.old self.old.world }
         requires empty { effects.old ≡ record { hosts = sc.now.setup.hosts; list = [] } }
         ensures world { OnOk result (self.new ≡ record self.old { world = after (rules N.laws N.PROBES sc.now) event self.old.world }) }
+        ensures stopped { IsTrue (is_for_stopped event self.old.world) → IsOk result }
         ensures trail { IfOk result (λ r. IsTrail N.records (taken_changes r.0 ++ r.1.items) self.old.world self.new.world) }
         ensures acted { IfOk result (λ r. count_by is_reaction (taken_changes {State = N} {Undo = N.Undo} r.0 ++ r.1.items) ≡ (if acts self.old.world event then 1 else 0)) }
         ensures lawful { OnOk result (IsLawfulEvent N.told (rules N.laws N.PROBES sc.now) event self.old.world) }
@@ -175,6 +178,7 @@ impl<N: Node> Cluster<N> {
         ensures age { OnOk result (self.new.age ≡ self.old.age + 1) }
         ensures clock { OnOk result (self.new.parts.world.clock ≡ clock_after event self.old.parts.world) }
         ensures on { OnOk result (self.old.parts.world.clock ≤ self.new.parts.world.clock) }
+        ensures stopped { IsTrue (is_for_stopped event self.old.parts.world) → IsOk result }
         ensures leads { IfOk result (λ undo. LeadsBack N.told N.records undo (in_hand self.new)) }
         ensures acted { IfOk result (λ undo. count_by is_reaction undo.changes ≡ (if acts self.old.parts.world event then 1 else 0)) }
         ensures work { OnOk result (N.Meter.work meter.new ≡ record (N.Meter.work meter.old) { turns = (N.Meter.work meter.old).turns + turns_of self.old.parts.world event }) }
@@ -245,6 +249,7 @@ impl<N: Node> World<N> {
         ensures answers { IfOk result (λ r. AnswersFor (rules N.laws N.PROBES self.scenario) N.records r.1.changes self.world event r.0.world) }
         ensures clock { IfOk result (λ r. r.0.world.clock ≡ clock_after event self.world) }
         ensures on { IfOk result (λ r. self.world.clock ≤ r.0.world.clock) }
+        ensures stopped { IsTrue (is_for_stopped event self.world) → IsOk result }
         ensures scenario { IfOk result (λ r. r.0.scenario ≡ self.scenario) }
         ensures age { IfOk result (λ r. r.0.age ≡ self.age + 1) }
         ensures leads { IfOk result (λ r. LeadsBack N.told N.records r.1 r.0) }
