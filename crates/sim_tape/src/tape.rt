@@ -1,0 +1,396 @@
+//! A run as a tape.
+ghost use Rattle.std.specs.Prelude.{◌≡◌, ℕ, ◌+◌, ◌-◌, ◌*◌, ◌/◌, ◌%◌, ◌==◌, ◌<◌, ◌≤◌, [], ◌∷◌, ◌++◌, ◌≢◌, true, false, length, take, map, min, IfOk, OnOk, OnErr, IsOk, IsSome, Some, None, IsTrue, MatchOption, if◌then◌else◌};
+ghost use Rattle.std.specs.Vec.{vec_len, vec_capacity};
+ghost use Rattle.std.specs.Bool.{OnTrue};
+ghost use Rattle.std.specs.Arc.{arc_value};
+ghost use Rattle.sim_world.specs.Acts.{running};
+ghost use Rattle.sim_world.specs.Clock.{clock_after};
+ghost use Rattle.sim_world.specs.Events.{rules, run, start, refusal_of};
+ghost use Rattle.sim_tape.specs.Tape.{opened, at, with_world, first_events, with_event, raised, is_within_reach};
+ghost use Rattle.sim_tape.specs.Inside.{IsRun};
+ghost use Rattle.sim_tape.specs.Places.{events_of, world_at, world_of, acting, IsAt, AreCheckpoints};
+ghost use Rattle.sim_tape.specs.Works.{undone_by, OnlyTurns, Plays, TakesAtMost, nodes_below, nodes_at_end};
+
+use crate::NoMemory;
+use crate::entry::Entry;
+use crate::event_list::EventList;
+use crate::frozen::Frozen;
+use crate::log::Log;
+use crate::walk::Walk;
+use circular_buffer::HeapCircularBuffer;
+use sim_node::Node;
+use sim_world::{Event, Scenario, World};
+use std::alloc::Global;
+use std::marker::Model;
+use std::sync::Arc;
+
+/// The kept events of a run, a place among them, and where memory allowed it the world there, with the records of the last
+/// events before it. A checkpoint, which is shared and never changed, stands at the start and after each interval of events.
+#[derive(Drop)]
+pub struct Tape<N: Node> {
+    log: Log,
+    checkpoints: Vec<Arc<World<N>>>,
+    place: u32,
+    walk: Walk<N>,
+}
+
+impl<N: Node> Model for Tape<N> {
+    ghost use Rattle.std.specs.Prelude.{◌≡◌, length, is_some, map};
+    ghost use Rattle.std.specs.Arc.{arc_value};
+    ghost use Rattle.sim_world.specs.Events.{rules};
+    ghost use Rattle.sim_tape.specs.Tape.{Tape as TapeView};
+    ghost use Rattle.sim_tape.specs.Places.{events_of, AreCheckpoints};
+    ghost use Rattle.sim_tape.specs.Inside.{IsRun, IsWalk};
+
+    ghost Value = { TapeView };
+
+    ghost view = { λ t. record {
+      scenario = t.log.scenario;
+      events = events_of t.log.entries;
+      place = t.place;
+      warm = is_some t.walk.world;
+      reach = length t.walk.ring.items;
+    } };
+
+    ghost invariant = { λ t.
+        IsRun (rules N.laws N.PROBES t.log.scenario) t.log.entries
+        × AreCheckpoints (rules N.laws N.PROBES t.log.scenario) (events_of t.log.entries) (map arc_value t.checkpoints.items)
+        × IsWalk N.told N.records (rules N.laws N.PROBES t.log.scenario) (events_of t.log.entries) t.place t.walk.world t.walk.ring.items
+        × (t.walk.ring.capacity ≡ t.log.scenario.window) };
+}
+
+impl<N: Node> Tape<N> {
+    /// A tape of no events, at the start. The only error is want of memory.
+    pub fn new(
+        alloc: Global,
+        scenario: &Scenario,
+        meter: &mut N::Meter,
+    ) -> Result<Tape<N>, NoMemory>
+        ensures { IfOk result (λ t. t ≡ opened scenario.now) }
+    {
+        let world = World::start(alloc, scenario, meter)?;
+        let first = Arc::new(alloc, world.copy(alloc, meter)?)?;
+        let mut checkpoints = Vec::new(alloc);
+        checkpoints.push(first)?;
+        let log = Log::new(alloc, Arc::new(alloc, scenario.copy())?)?;
+        let mut walk = Walk::cold(alloc, log.window())?;
+        walk.world = Some(world);
+        let _limits = log.interval();
+        Ok(Tape {
+            log,
+            checkpoints,
+            place: 0,
+            walk,
+        })
+    }
+
+    /// How many of the kept events led to the tape's world.
+    pub fn place(&self) -> u32
+        ensures value { result ≡ self.now.place }
+        ensures within { self.now.place ≤ length self.now.events }
+    {
+        let _run = &self.log;
+        self.place
+    }
+
+    /// How many events are kept.
+    pub fn len(&self) -> u32
+        ensures value { result ≡ length self.now.events }
+        ensures few { length self.now.events ≤ 65536 }
+    {
+        self.log.len() as u32
+    }
+
+    /// Whether the world at the place is there. Where it is not, no event can be taken back by its record.
+    pub fn warm(&self) -> bool
+        ensures value { result ≡ self.now.warm }
+        ensures cold { self.now.warm ≡ false → self.now.reach ≡ 0 }
+        ensures reach { self.now.reach ≤ self.now.scenario.window }
+    {
+        let _room = self.walk.ring.capacity();
+        self.walk.world.is_some()
+    }
+
+    /// The clock of the world at the place (ms).
+    pub fn clock(&self) -> u64
+        ensures value { result ≡ (world_of (rules N.laws N.PROBES self.now.scenario) self.now).clock }
+        ensures small { result ≤ 60000 * 65536 }
+    {
+        if self.place == 0 {
+            return 0;
+        }
+        self.log.entry(self.place as usize - 1).clock
+    }
+
+    /// The world at the place, which is there.
+    pub fn here(&self) -> &World<N>
+        requires { IsTrue self.now.warm }
+        ensures run { run (rules N.laws N.PROBES self.now.scenario) (take self.now.place self.now.events) ≡ Some result.now.world }
+        ensures world { result.now.world ≡ world_of (rules N.laws N.PROBES self.now.scenario) self.now }
+        ensures scenario { result.now.scenario ≡ self.now.scenario }
+    {
+        match &self.walk.world {
+            Some(world) => world,
+            None => unreachable!(),
+        }
+    }
+
+    /// Drops the events past the place, and their checkpoints.
+    pub fn cut(&mut self)
+        ensures { self.new ≡ first_events self.old.place self.old }
+    {
+        let place = self.place as usize;
+        self.log.truncate(place);
+        self.checkpoints.truncate(place / self.log.interval() + 1);
+    }
+
+    /// Goes to a place by the nearest way: it takes events back within the reach, walks on, or makes the world anew from the
+    /// checkpoint at or below the place, with fewer turns than the interval. The only error is want of memory; the tape may be
+    /// cold then.
+    pub fn goto(&mut self, alloc: Global, to: u32, meter: &mut N::Meter) -> Result<(), NoMemory>
+        requires { to ≤ length self.old.events }
+        ensures ok { OnOk result (self.new ≡ with_world true self.new.reach (at to self.old)) }
+        ensures within { OnOk result (IsTrue (is_within_reach to self.old) → self.new.reach ≡ self.old.reach - (self.old.place - to)) }
+        ensures undos { OnOk result (IsTrue (is_within_reach to self.old) → N.Meter.work meter.new ≡ undone_by (acting (rules N.laws N.PROBES self.old.scenario) to (self.old.place - to) self.old.events) (N.Meter.work meter.old)) }
+        ensures work { OnOk result (TakesAtMost (self.old.scenario.interval - 1) (nodes_below (rules N.laws N.PROBES self.old.scenario) to self.old.events) (N.Meter.work meter.old) (N.Meter.work meter.new)) }
+        ensures anew { OnOk result (self.old.warm ≡ false → Plays (self.old.scenario.interval - 1) (nodes_below (rules N.laws N.PROBES self.old.scenario) to self.old.events) (N.Meter.work meter.old) (N.Meter.work meter.new)) }
+        ensures err { OnErr result (self.new ≡ with_world self.new.warm self.new.reach self.old) }
+    {
+        let place = self.place as usize;
+        let target = to as usize;
+        let interval = self.log.interval();
+        if self.walk.world.is_some() {
+            if target <= place && place - target <= self.walk.ring.len() {
+                self.walk
+                    .back(alloc, &self.log, place, place - target, meter)?;
+                self.place = to;
+                return Ok(());
+            }
+            if place < target && target - place <= target % interval {
+                self.walk.on(alloc, &self.log, place, target, meter)?;
+                self.place = to;
+                return Ok(());
+            }
+        }
+        let whole = target / interval;
+        let checkpoint = &*self.checkpoints[whole];
+        self.walk.anew(
+            alloc,
+            &self.log,
+            checkpoint,
+            whole * interval,
+            target,
+            meter,
+        )?;
+        self.place = to;
+        Ok(())
+    }
+
+    /// Makes sure of the world at the place. The only error is want of memory, on a tape that is cold.
+    pub fn make_warm(&mut self, alloc: Global, meter: &mut N::Meter) -> Result<(), NoMemory>
+        ensures ok { OnOk result (self.new ≡ with_world true self.new.reach self.old) }
+        ensures warm { IsTrue self.old.warm → IsOk result × (self.new ≡ self.old) × (N.Meter.work meter.new ≡ N.Meter.work meter.old) }
+        ensures cold { OnOk result (self.old.warm ≡ false → Plays (self.old.scenario.interval - 1) (nodes_below (rules N.laws N.PROBES self.old.scenario) self.old.place self.old.events) (N.Meter.work meter.old) (N.Meter.work meter.new)) }
+        ensures err { OnErr result (self.new ≡ with_world self.new.warm self.new.reach self.old) }
+    {
+        if self.walk.world.is_some() {
+            return Ok(());
+        }
+        let place = self.place();
+        self.goto(alloc, place, meter)
+    }
+
+    /// Goes back by so many events. Within the reach it takes them back by their records; further back it makes the world anew
+    /// from a checkpoint. The only error is want of memory; the tape may be cold then.
+    pub fn back(&mut self, alloc: Global, count: u32, meter: &mut N::Meter) -> Result<(), NoMemory>
+        requires { count ≤ self.old.place }
+        ensures ok { OnOk result (self.new ≡ with_world true self.new.reach (at (self.old.place - count) self.old)) }
+        ensures within { OnOk result (IsTrue self.old.warm → count ≤ self.old.reach → self.new.reach ≡ self.old.reach - count) }
+        ensures undos { OnOk result (IsTrue self.old.warm → count ≤ self.old.reach → N.Meter.work meter.new ≡ undone_by (acting (rules N.laws N.PROBES self.old.scenario) (self.old.place - count) count self.old.events) (N.Meter.work meter.old)) }
+        ensures work { OnOk result (TakesAtMost (self.old.scenario.interval - 1) (nodes_below (rules N.laws N.PROBES self.old.scenario) (self.old.place - count) self.old.events) (N.Meter.work meter.old) (N.Meter.work meter.new)) }
+        ensures err { OnErr result (self.new ≡ with_world self.new.warm self.new.reach self.old) }
+    {
+        let place = self.place();
+        self.goto(alloc, place - count, meter)
+    }
+
+    /// Goes forward by so many events. From a warm tape it walks over each, and keeps the records of the last ones; a cold one is
+    /// made warm there. The only error is want of memory; the tape may be cold then.
+    pub fn forward(
+        &mut self,
+        alloc: Global,
+        count: u32,
+        meter: &mut N::Meter,
+    ) -> Result<(), NoMemory>
+        requires { self.old.place + count ≤ length self.old.events }
+        ensures ok { OnOk result (self.new ≡ with_world true self.new.reach (at (self.old.place + count) self.old)) }
+        ensures reach { OnOk result (IsTrue self.old.warm → self.new.reach ≡ raised count self.old) }
+        ensures work { OnOk result (IsTrue self.old.warm → OnlyTurns count (N.Meter.work meter.old) (N.Meter.work meter.new)) }
+        ensures cold { OnOk result (self.old.warm ≡ false → Plays (self.old.scenario.interval - 1) (nodes_below (rules N.laws N.PROBES self.old.scenario) (self.old.place + count) self.old.events) (N.Meter.work meter.old) (N.Meter.work meter.new)) }
+        ensures err { OnErr result (self.new ≡ with_world self.new.warm self.new.reach self.old) }
+    {
+        let to = self.place() + count;
+        if !self.warm() {
+            return self.goto(alloc, to, meter);
+        }
+        self.walk
+            .on(alloc, &self.log, self.place as usize, to as usize, meter)?;
+        self.place = to;
+        Ok(())
+    }
+
+    /// Adds an event that can happen, at the end. The clock never goes back. On a tape that is warm a refused growth of the lists
+    /// leaves it so. After another error the tape may be cold. The only error is want of memory.
+    pub fn add(&mut self, alloc: Global, event: Event, meter: &mut N::Meter) -> Result<(), NoMemory>
+        requires end { self.old.place ≡ length self.old.events }
+        requires room { length self.old.events < 65536 }
+        requires can { refusal_of (rules N.laws N.PROBES self.old.scenario) event (world_of (rules N.laws N.PROBES self.old.scenario) self.old) ≡ None }
+        ensures ok { OnOk result (self.new ≡ with_world true self.new.reach (with_event event self.old)) }
+        ensures clock { OnOk result ((world_of (rules N.laws N.PROBES self.old.scenario) self.new).clock ≡ clock_after event (world_of (rules N.laws N.PROBES self.old.scenario) self.old)) }
+        ensures on { OnOk result ((world_of (rules N.laws N.PROBES self.old.scenario) self.old).clock ≤ (world_of (rules N.laws N.PROBES self.old.scenario) self.new).clock) }
+        ensures reach { OnOk result (IsTrue self.old.warm → self.new.reach ≡ raised 1 self.old) }
+        ensures work { OnOk result (IsTrue self.old.warm → Plays 1 (nodes_at_end (rules N.laws N.PROBES self.old.scenario) event self.old) (N.Meter.work meter.old) (N.Meter.work meter.new)) }
+        ensures err { OnErr result (self.new ≡ with_world self.new.warm self.new.reach self.old) }
+    {
+        self.make_warm(alloc, meter)?;
+        self.add_warm(alloc, event, meter)
+    }
+
+    // Adds an event that can happen, at the end of a tape that is warm.
+    fn add_warm(
+        &mut self,
+        alloc: Global,
+        event: Event,
+        meter: &mut N::Meter,
+    ) -> Result<(), NoMemory>
+        requires warm { IsTrue self.old.warm }
+        requires end { self.old.place ≡ length self.old.events }
+        requires room { length self.old.events < 65536 }
+        requires can { refusal_of (rules N.laws N.PROBES self.old.scenario) event (world_of (rules N.laws N.PROBES self.old.scenario) self.old) ≡ None }
+        ensures ok { OnOk result (self.new ≡ with_world true (raised 1 self.old) (with_event event self.old)) }
+        ensures clock { OnOk result ((world_of (rules N.laws N.PROBES self.old.scenario) self.new).clock ≡ clock_after event (world_of (rules N.laws N.PROBES self.old.scenario) self.old)) }
+        ensures on { OnOk result ((world_of (rules N.laws N.PROBES self.old.scenario) self.old).clock ≤ (world_of (rules N.laws N.PROBES self.old.scenario) self.new).clock) }
+        ensures work { OnOk result (Plays 1 (nodes_at_end (rules N.laws N.PROBES self.old.scenario) event self.old) (N.Meter.work meter.old) (N.Meter.work meter.new)) }
+        ensures err { OnErr result (self.new ≡ with_world self.new.warm self.new.reach self.old) }
+    {
+        self.log.reserve(alloc)?;
+        self.checkpoints.reserve(1)?;
+        let is_whole = (self.place as usize + 1) % self.log.interval() == 0;
+        let (clock, copy) = self.walk.step(alloc, &self.log, event, is_whole, meter)?;
+        self.log.push(Entry { event, clock });
+        keep(&mut self.checkpoints, copy);
+        self.place += 1;
+        Ok(())
+    }
+
+    /// Sets the place alone; the events stay. The tape is cold then, but where the place was there before.
+    pub fn rest(&mut self, to: u32)
+        requires { to ≤ length self.old.events }
+        ensures place { self.new ≡ with_world self.new.warm self.new.reach (at to self.old) }
+        ensures same { to ≡ self.old.place → self.new ≡ self.old }
+        ensures cold { to ≢ self.old.place → self.new.warm ≡ false }
+    {
+        if to != self.place {
+            self.walk.leave();
+            self.place = to;
+        }
+    }
+
+    /// Drops the events past a place, with their checkpoints, and goes there. The tape is cold then, but where the place was there
+    /// before.
+    pub fn truncate(&mut self, to: u32)
+        requires end { self.old.place ≡ length self.old.events }
+        requires within { to ≤ self.old.place }
+        ensures events { self.new ≡ with_world self.new.warm self.new.reach (at to (first_events to self.old)) }
+        ensures warm { to ≡ self.old.place → (self.new.warm ≡ self.old.warm) × (self.new.reach ≡ self.old.reach) }
+        ensures cold { to ≢ self.old.place → self.new.warm ≡ false }
+    {
+        self.rest(to);
+        self.cut();
+    }
+
+    // A cold tape of these events and checkpoints.
+    pub(crate) fn cold(
+        alloc: Global,
+        log: Log,
+        checkpoints: Vec<Arc<World<N>>>,
+        place: u32,
+    ) -> Result<Tape<N>, NoMemory>
+        requires runs { IsRun (rules N.laws N.PROBES log.scenario) log.entries }
+        requires checkpoints { AreCheckpoints (rules N.laws N.PROBES log.scenario) (events_of log.entries) (map arc_value checkpoints.items) }
+        requires within { place ≤ length log.entries }
+        ensures { IfOk result (λ t. t ≡ record { scenario = log.scenario; events = events_of log.entries; place = place; warm = false; reach = 0 }) }
+    {
+        let walk = Walk::cold(alloc, log.window())?;
+        Ok(Tape {
+            log,
+            checkpoints,
+            place,
+            walk,
+        })
+    }
+
+    // Lets the records go.
+    pub(crate) fn forget(&mut self)
+        ensures { self.new ≡ with_world self.old.warm 0 self.old }
+    {
+        self.walk.ring.clear();
+    }
+
+    /// A tape of the first events, at their end, which shares the full segments and the checkpoints; it is cold. The only error is
+    /// want of memory.
+    pub fn split(&self, alloc: Global, to: u32) -> Result<Tape<N>, NoMemory>
+        requires { to ≤ length self.now.events }
+        ensures { IfOk result (λ t. t ≡ with_world false 0 (at to (first_events to self.now))) }
+    {
+        let count = to as usize;
+        let all = self.checkpoints.as_slice();
+        let log = self.log.split(alloc, count)?;
+        let checkpoints = shared(alloc, all, count / self.log.interval() + 1)?;
+        Tape::cold(alloc, log, checkpoints, to)
+    }
+
+    /// All kept events, shared. The only error is want of memory.
+    pub fn events(&self, alloc: Global) -> Result<EventList, NoMemory>
+        ensures { IfOk result (λ l. l ≡ self.now.events) }
+    {
+        self.log.events(alloc)
+    }
+
+    /// All kept events and checkpoints, shared: no world is copied. The only error is want of memory.
+    pub fn freeze(&self, alloc: Global) -> Result<Frozen<N>, NoMemory>
+        ensures { IfOk result (λ f. f ≡ record { scenario = self.now.scenario; events = self.now.events }) }
+    {
+        let all = self.checkpoints.as_slice();
+        let checkpoints = shared(alloc, all, all.len())?;
+        let log = self.log.split(alloc, self.log.len())?;
+        let list = self.log.events(alloc)?;
+        Ok(Frozen::of(log, list, checkpoints))
+    }
+}
+
+// Keeps a world, where there is one, as the last.
+fn keep<N: Node>(worlds: &mut Vec<Arc<World<N>>>, world: Option<Arc<World<N>>>)
+    requires { vec_len worlds.old < vec_capacity worlds.old }
+    ensures { MatchOption world (worlds.new.items ≡ worlds.old.items) (λ w. worlds.new.items ≡ worlds.old.items ++ w ∷ []) }
+{
+    if let Some(world) = world {
+        worlds.push_reserved(world);
+    }
+}
+
+// The first worlds, shared. The only error is want of memory.
+pub(crate) fn shared<N: Node>(
+    alloc: Global,
+    worlds: &[Arc<World<N>>],
+    n: usize,
+) -> Result<Vec<Arc<World<N>>>, NoMemory>
+    requires { n ≤ length worlds.now }
+    ensures { IfOk result (λ shared. map arc_value shared.items ≡ take n (map arc_value worlds.now)) }
+{
+    let mut shared = Vec::with_capacity(alloc, n)?;
+    for i in 0..n {
+        shared.push(Arc::try_clone(&worlds[i])?)?;
+    }
+    Ok(shared)
+}

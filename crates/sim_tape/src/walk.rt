@@ -1,0 +1,319 @@
+//! A world that walks along the events of a log, forwards and back.
+ghost use Rattle.std.specs.Prelude.{◌≡◌, ℕ, ◌+◌, ◌-◌, ◌*◌, ◌<◌, ◌≤◌, [], ◌∷◌, ◌++◌, length, min, IfOk, OnOk, OnErr, IsSome, Some, None, IsTrue, is_some, true, false, MatchOption, if◌then◌else◌};
+ghost use Rattle.std.specs.Arc.{arc_value};
+ghost use Rattle.std.specs.List.{count_by};
+ghost use Rattle.sim_world.specs.Acts.{acts, running};
+ghost use Rattle.sim_world.specs.Clock.{clock_after};
+ghost use Rattle.sim_world.specs.Events.{rules, run, next, refusal_of};
+ghost use Rattle.sim_world.specs.Index.{LeadsBack};
+ghost use Rattle.sim_world.specs.Records.{AnswersFor};
+ghost use Rattle.sim_world.specs.Undone.{is_reaction};
+ghost use Rattle.circular_buffer.specs.Buffer.{buffer, keep_last};
+ghost use Rattle.sim_tape.specs.Inside.{IsRun, IsWalk};
+ghost use Rattle.sim_tape.specs.Places.{events_of, world_at, acting, IsAt, AreRecords};
+ghost use Rattle.sim_tape.specs.Works.{undone_by, OnlyTurns, Plays};
+
+use crate::NoMemory;
+use crate::log::Log;
+use circular_buffer::HeapCircularBuffer;
+use sim_node::Node;
+use sim_world::{Event, Undo, World};
+use std::alloc::Global;
+use std::sync::Arc;
+
+/// The records of the last events.
+pub(crate) type Ring<N> = HeapCircularBuffer<Undo<N>>;
+
+/// The world at a place of a log, where it is there, and the records of the last events before it.
+#[derive(Drop)]
+pub(crate) struct Walk<N: Node> {
+    pub world: Option<World<N>>,
+    pub ring: Ring<N>,
+}
+
+// Keeps a record as the newest. Of a full ring the oldest goes.
+fn keep<N: Node>(ring: &mut Ring<N>, undo: Undo<N>)
+    ensures { ring.new ≡ buffer (keep_last ring.old.capacity (ring.old.items ++ undo ∷ [])) ring.old.capacity }
+{
+    ring.push_back(undo);
+}
+
+// A copy of a world that can be shared, where one is asked for.
+fn copied<N: Node>(
+    alloc: Global,
+    world: &World<N>,
+    asked: bool,
+    meter: &mut N::Meter,
+) -> Result<Option<Arc<World<N>>>, NoMemory>
+    ensures copy { IfOk result (λ copy. MatchOption copy (asked ≡ false) (λ c. (asked ≡ true) × (arc_value c ≡ world.now))) }
+    ensures work { OnOk result (N.Meter.work meter.new ≡ record (N.Meter.work meter.old) { copies = (N.Meter.work meter.old).copies + (if asked then running world.now.world else 0) }) }
+{
+    if !asked {
+        return Ok(None);
+    }
+    let copy = world.copy(alloc, meter)?;
+    Ok(Some(Arc::new(alloc, copy)?))
+}
+
+// The world after an event that can happen, the record of the event, and where it is asked for a copy of that world.
+fn stepped<N: Node>(
+    alloc: Global,
+    world: World<N>,
+    event: Event,
+    asked: bool,
+    meter: &mut N::Meter,
+) -> Result<(World<N>, Undo<N>, Option<Arc<World<N>>>), NoMemory>
+    requires can { IsSome (next (rules N.laws N.PROBES world.scenario) world.world event) }
+    requires young { world.age < 65536 }
+    ensures answers { IfOk result (λ r. AnswersFor (rules N.laws N.PROBES world.scenario) N.records r.1.changes world.world event r.0.world) }
+    ensures clock { IfOk result (λ r. r.0.world.clock ≡ clock_after event world.world) }
+    ensures on { IfOk result (λ r. world.world.clock ≤ r.0.world.clock) }
+    ensures scenario { IfOk result (λ r. r.0.scenario ≡ world.scenario) }
+    ensures age { IfOk result (λ r. r.0.age ≡ world.age + 1) }
+    ensures leads { IfOk result (λ r. LeadsBack N.told N.records r.1 r.0) }
+    ensures acted { IfOk result (λ r. count_by is_reaction r.1.changes ≡ (if acts world.world event then 1 else 0)) }
+    ensures copy { IfOk result (λ r. MatchOption r.2 (asked ≡ false) (λ c. (asked ≡ true) × (arc_value c ≡ r.0))) }
+    ensures work { IfOk result (λ r. Plays 1 (if asked then running r.0.world else 0) (N.Meter.work meter.old) (N.Meter.work meter.new)) }
+{
+    let (after, record) = world.apply(alloc, event, meter)?;
+    let copy = copied(alloc, &after, asked, meter)?;
+    Ok((after, record, copy))
+}
+
+impl Log {
+    // The world after the events from a place up to `to`, whose records are kept.
+    fn play<N: Node>(
+        &self,
+        alloc: Global,
+        place: usize,
+        to: usize,
+        world: World<N>,
+        ring: &mut Ring<N>,
+        meter: &mut N::Meter,
+    ) -> Result<World<N>, NoMemory>
+        requires runs { IsRun (rules N.laws N.PROBES self.now.scenario) self.now.entries }
+        requires order { place ≤ to }
+        requires within { to ≤ length self.now.entries }
+        requires here { IsAt (rules N.laws N.PROBES self.now.scenario) (events_of self.now.entries) place world }
+        requires records { AreRecords N.told N.records (rules N.laws N.PROBES self.now.scenario) (events_of self.now.entries) place ring.old.items }
+        requires room { length ring.old.items ≤ ring.old.capacity }
+        ensures here { IfOk result (λ w. IsAt (rules N.laws N.PROBES self.now.scenario) (events_of self.now.entries) to w) }
+        ensures records { OnOk result (AreRecords N.told N.records (rules N.laws N.PROBES self.now.scenario) (events_of self.now.entries) to ring.new.items) }
+        ensures reach { OnOk result (length ring.new.items ≡ min ring.old.capacity (length ring.old.items + (to - place))) }
+        ensures capacity { ring.new.capacity ≡ ring.old.capacity }
+        ensures work { OnOk result (OnlyTurns (to - place) (N.Meter.work meter.old) (N.Meter.work meter.new)) }
+    {
+        let mut world = world;
+        for i in place..to {
+            let event = self.entry(i).event;
+            let (after, record) = world.apply(alloc, event, meter)?;
+            world = after;
+            keep(ring, record);
+        }
+        Ok(world)
+    }
+
+    // The world before the last `count` events, which are taken back by their records.
+    fn unwind<N: Node>(
+        &self,
+        alloc: Global,
+        place: usize,
+        count: usize,
+        world: World<N>,
+        ring: &mut Ring<N>,
+        meter: &mut N::Meter,
+    ) -> Result<World<N>, NoMemory>
+        requires here { IsAt (rules N.laws N.PROBES self.now.scenario) (events_of self.now.entries) place world }
+        requires records { AreRecords N.told N.records (rules N.laws N.PROBES self.now.scenario) (events_of self.now.entries) place ring.old.items }
+        requires reach { count ≤ length ring.old.items }
+        ensures here { IfOk result (λ w. IsAt (rules N.laws N.PROBES self.now.scenario) (events_of self.now.entries) (place - count) w) }
+        ensures records { OnOk result (AreRecords N.told N.records (rules N.laws N.PROBES self.now.scenario) (events_of self.now.entries) (place - count) ring.new.items) }
+        ensures reach { OnOk result (length ring.new.items ≡ length ring.old.items - count) }
+        ensures capacity { ring.new.capacity ≡ ring.old.capacity }
+        ensures work { OnOk result (N.Meter.work meter.new ≡ undone_by (acting (rules N.laws N.PROBES self.now.scenario) (place - count) count (events_of self.now.entries)) (N.Meter.work meter.old)) }
+    {
+        let mut world = world;
+        for _ in 0..count {
+            let Some(record) = ring.pop_back() else {
+                unreachable!()
+            };
+            world = world.undo(alloc, record, meter)?;
+        }
+        Ok(world)
+    }
+}
+
+impl<N: Node> Walk<N> {
+    /// No world, with room for so many records. The only error is want of memory.
+    pub fn cold(alloc: Global, window: usize) -> Result<Walk<N>, NoMemory>
+        ensures world { IfOk result (λ w. w.world ≡ None) }
+        ensures ring { IfOk result (λ w. w.ring ≡ buffer [] window) }
+    {
+        let ring = HeapCircularBuffer::with_capacity(alloc, window)?;
+        Ok(Walk { world: None, ring })
+    }
+
+    /// Lets the world go, and the records.
+    pub fn leave(&mut self)
+        ensures world { self.new.world ≡ None }
+        ensures ring { self.new.ring ≡ buffer [] self.old.ring.capacity }
+    {
+        self.world = None;
+        self.ring.clear();
+    }
+
+    /// Walks on to a place. After an error, which can only be want of memory, there is no world.
+    pub fn on(
+        &mut self,
+        alloc: Global,
+        log: &Log,
+        place: usize,
+        to: usize,
+        meter: &mut N::Meter,
+    ) -> Result<(), NoMemory>
+        requires runs { IsRun (rules N.laws N.PROBES log.now.scenario) log.now.entries }
+        requires walk { IsWalk N.told N.records (rules N.laws N.PROBES log.now.scenario) (events_of log.now.entries) place self.old.world self.old.ring.items }
+        requires warm { IsSome self.old.world }
+        requires order { place ≤ to }
+        requires within { to ≤ length log.now.entries }
+        ensures ok { OnOk result (IsWalk N.told N.records (rules N.laws N.PROBES log.now.scenario) (events_of log.now.entries) to self.new.world self.new.ring.items) }
+        ensures warm { OnOk result (IsSome self.new.world) }
+        ensures reach { OnOk result (length self.new.ring.items ≡ min self.old.ring.capacity (length self.old.ring.items + (to - place))) }
+        ensures work { OnOk result (OnlyTurns (to - place) (N.Meter.work meter.old) (N.Meter.work meter.new)) }
+        ensures capacity { self.new.ring.capacity ≡ self.old.ring.capacity }
+        ensures err { OnErr result (IsWalk N.told N.records (rules N.laws N.PROBES log.now.scenario) (events_of log.now.entries) place self.new.world self.new.ring.items) }
+    {
+        let _room = self.ring.capacity();
+        let Some(world) = self.world.take() else {
+            unreachable!()
+        };
+        match log.play(alloc, place, to, world, &mut self.ring, meter) {
+            Ok(after) => {
+                self.world = Some(after);
+                Ok(())
+            }
+            Err(refused) => {
+                self.ring.clear();
+                Err(refused)
+            }
+        }
+    }
+
+    /// Walks back by so many events, of which there are the records. After an error, which can only be want of memory, there is
+    /// no world.
+    pub fn back(
+        &mut self,
+        alloc: Global,
+        log: &Log,
+        place: usize,
+        count: usize,
+        meter: &mut N::Meter,
+    ) -> Result<(), NoMemory>
+        requires walk { IsWalk N.told N.records (rules N.laws N.PROBES log.now.scenario) (events_of log.now.entries) place self.old.world self.old.ring.items }
+        requires warm { IsSome self.old.world }
+        requires reach { count ≤ length self.old.ring.items }
+        ensures ok { OnOk result (IsWalk N.told N.records (rules N.laws N.PROBES log.now.scenario) (events_of log.now.entries) (place - count) self.new.world self.new.ring.items) }
+        ensures warm { OnOk result (IsSome self.new.world) }
+        ensures reach { OnOk result (length self.new.ring.items ≡ length self.old.ring.items - count) }
+        ensures work { OnOk result (N.Meter.work meter.new ≡ undone_by (acting (rules N.laws N.PROBES log.now.scenario) (place - count) count (events_of log.now.entries)) (N.Meter.work meter.old)) }
+        ensures capacity { self.new.ring.capacity ≡ self.old.ring.capacity }
+        ensures err { OnErr result (IsWalk N.told N.records (rules N.laws N.PROBES log.now.scenario) (events_of log.now.entries) place self.new.world self.new.ring.items) }
+    {
+        let Some(world) = self.world.take() else {
+            unreachable!()
+        };
+        match log.unwind(alloc, place, count, world, &mut self.ring, meter) {
+            Ok(after) => {
+                self.world = Some(after);
+                Ok(())
+            }
+            Err(refused) => {
+                self.ring.clear();
+                Err(refused)
+            }
+        }
+    }
+
+    /// Makes the world of a place anew, from a checkpoint at or below it, which is copied. The only error is want of memory. Where
+    /// the copy is refused nothing changes; after another error there is no world.
+    pub fn anew(
+        &mut self,
+        alloc: Global,
+        log: &Log,
+        checkpoint: &World<N>,
+        from: usize,
+        to: usize,
+        meter: &mut N::Meter,
+    ) -> Result<(), NoMemory>
+        requires runs { IsRun (rules N.laws N.PROBES log.now.scenario) log.now.entries }
+        requires checkpoint { IsAt (rules N.laws N.PROBES log.now.scenario) (events_of log.now.entries) from checkpoint.now }
+        requires order { from ≤ to }
+        requires within { to ≤ length log.now.entries }
+        ensures ok { OnOk result (IsWalk N.told N.records (rules N.laws N.PROBES log.now.scenario) (events_of log.now.entries) to self.new.world self.new.ring.items) }
+        ensures warm { OnOk result (IsSome self.new.world) }
+        ensures work { OnOk result (Plays (to - from) (running checkpoint.now.world) (N.Meter.work meter.old) (N.Meter.work meter.new)) }
+        ensures capacity { self.new.ring.capacity ≡ self.old.ring.capacity }
+        ensures err { OnErr result ((place : ℕ) → IsWalk N.told N.records (rules N.laws N.PROBES log.now.scenario) (events_of log.now.entries) place self.old.world self.old.ring.items → IsWalk N.told N.records (rules N.laws N.PROBES log.now.scenario) (events_of log.now.entries) place self.new.world self.new.ring.items) }
+    {
+        let world = checkpoint.copy(alloc, meter)?;
+        self.world = None;
+        self.ring.clear();
+        let world = log.play(alloc, from, to, world, &mut self.ring, meter);
+        match world {
+            Ok(after) => {
+                self.world = Some(after);
+                Ok(())
+            }
+            Err(refused) => {
+                self.ring.clear();
+                Err(refused)
+            }
+        }
+    }
+
+    /// Walks on by an event that is about to be added to the log. It answers the clock after it (ms), and where it is asked for a
+    /// copy of the world after it. After an error, which can only be want of memory, there is no world.
+    pub fn step(
+        &mut self,
+        alloc: Global,
+        log: &Log,
+        event: Event,
+        asked: bool,
+        meter: &mut N::Meter,
+    ) -> Result<(u64, Option<Arc<World<N>>>), NoMemory>
+        requires runs { IsRun (rules N.laws N.PROBES log.now.scenario) log.now.entries }
+        requires walk { IsWalk N.told N.records (rules N.laws N.PROBES log.now.scenario) (events_of log.now.entries) (length log.now.entries) self.old.world self.old.ring.items }
+        requires warm { IsSome self.old.world }
+        requires room { length log.now.entries < 65536 }
+        requires can { refusal_of (rules N.laws N.PROBES log.now.scenario) event (world_at (rules N.laws N.PROBES log.now.scenario) (length log.now.entries) (events_of log.now.entries)) ≡ None }
+        ensures ok { OnOk result (IsWalk N.told N.records (rules N.laws N.PROBES log.now.scenario) (events_of log.now.entries ++ event ∷ []) (length log.now.entries + 1) self.new.world self.new.ring.items) }
+        ensures warm { OnOk result (IsSome self.new.world) }
+        ensures runs { OnOk result (IsSome (run (rules N.laws N.PROBES log.now.scenario) (events_of log.now.entries ++ event ∷ []))) }
+        ensures clock { IfOk result (λ x. x.0 ≡ (world_at (rules N.laws N.PROBES log.now.scenario) (length log.now.entries + 1) (events_of log.now.entries ++ event ∷ [])).clock) }
+        ensures small { IfOk result (λ x. x.0 ≤ 60000 * 65536) }
+        ensures moved { OnOk result ((world_at (rules N.laws N.PROBES log.now.scenario) (length log.now.entries + 1) (events_of log.now.entries ++ event ∷ [])).clock ≡ clock_after event (world_at (rules N.laws N.PROBES log.now.scenario) (length log.now.entries) (events_of log.now.entries))) }
+        ensures on { OnOk result ((world_at (rules N.laws N.PROBES log.now.scenario) (length log.now.entries) (events_of log.now.entries)).clock ≤ (world_at (rules N.laws N.PROBES log.now.scenario) (length log.now.entries + 1) (events_of log.now.entries ++ event ∷ [])).clock) }
+        ensures copy { IfOk result (λ x. MatchOption x.1 (asked ≡ false) (λ c. (asked ≡ true) × IsAt (rules N.laws N.PROBES log.now.scenario) (events_of log.now.entries ++ event ∷ []) (length log.now.entries + 1) (arc_value c))) }
+        ensures reach { OnOk result (length self.new.ring.items ≡ min self.old.ring.capacity (length self.old.ring.items + 1)) }
+        ensures work { OnOk result (Plays 1 (if asked then running (world_at (rules N.laws N.PROBES log.now.scenario) (length log.now.entries + 1) (events_of log.now.entries ++ event ∷ [])) else 0) (N.Meter.work meter.old) (N.Meter.work meter.new)) }
+        ensures capacity { self.new.ring.capacity ≡ self.old.ring.capacity }
+        ensures err { OnErr result (IsWalk N.told N.records (rules N.laws N.PROBES log.now.scenario) (events_of log.now.entries) (length log.now.entries) self.new.world self.new.ring.items) }
+    {
+        let _room = self.ring.capacity();
+        let Some(world) = self.world.take() else {
+            unreachable!()
+        };
+        match stepped(alloc, world, event, asked, meter) {
+            Ok((after, record, copy)) => {
+                let clock = after.clock();
+                keep(&mut self.ring, record);
+                self.world = Some(after);
+                Ok((clock, copy))
+            }
+            Err(refused) => {
+                self.ring.clear();
+                Err(refused)
+            }
+        }
+    }
+}
