@@ -1,4 +1,4 @@
-ghost use Rattle.std.specs.Prelude.{◌≡◌, ◌<◌, ◌≤◌, ◌+◌, ◌*◌, [], ◌∷◌, ◌++◌, length, IfOk, OnOk, OnErr};
+ghost use Rattle.std.specs.Prelude.{◌≡◌, ◌<◌, ◌≤◌, ◌+◌, ◌-◌, ◌*◌, ◌^◌, [], ◌∷◌, ◌++◌, length, min, IfOk, OnOk, OnErr};
 ghost use Rattle.std.specs.Fn.{FnReturnsAt};
 
 use crate::direction::Direction;
@@ -61,15 +61,15 @@ impl<M> Links<M> {
         direction.state()
     }
 
-    /// How many messages the direction from host a to host b holds; both hosts are below 32, and it holds at most 4,096.
+    /// How many messages the direction from host a to host b holds, both hosts below 32. The greatest number of 32 bits
+    /// stands for more than that.
     pub fn held(&self, a: u16, b: u16) -> u32
         requires from { a < 32 }
         requires to { b < 32 }
-        requires few { length (link a b self.now).held ≤ 4096 }
-        ensures { result ≡ length (link a b self.now).held }
+        ensures { result ≡ min (length (link a b self.now).held) (2 ^ 32 - 1) }
     {
         let direction = &self.table[place(a, b)];
-        direction.count() as u32
+        direction.count().min(u32::MAX as usize) as u32
     }
 
     /// Changes the direction from host a to host b, both below 32. Answers the record of the change, and the messages that
