@@ -55,6 +55,9 @@ impl Outlet {
     }
 
     /// Writes all that waits, and flushes the writer. Where the writer fails a part was written, and the rest is not kept for it.
+    ///
+    /// Of a flush the clause says that the writer holds what it held, which is all that std's contract tells: that one is made
+    /// where all was written, and that its failure is answered, shows in no clause.
     pub fn flush<W: Write>(&mut self, writer: &mut W) -> Result<(), WriterFault>
         ensures { WritesAll (W.contents writer.old) (W.contents writer.new) self.old self.new result }
     {
