@@ -8,32 +8,25 @@ use Rattle.sim_node.specs.declared.Setup.{Setup}
 use Rattle.sim_node.specs.Node.{IsSetup}
 use Rattle.sim_world.specs.Limits.{IsScenario}
 
-abbrev echo_setup : ℕ → Setup
-echo_setup hosts = record { servers = 1; hosts = hosts; ops = replicate 32 1000 }
+is_way : (w : Way) → IsWay w → (a b : ℕ) → a < 32 → b < 32 → IsWay (way a b (all w))
+is_way w within a b from to = rw (get_or-replicate 1024 (32 * a + b) w at_once (omega arith)) within
 
-abbrev late : Way
-late = record { latency_min = 10; latency_max = 20; loss = 0 }
-
-is_way : (a b : ℕ) → a < 32 → b < 32 → IsWay (way a b (all late))
-is_way a b from to =
-    rw (get_or-replicate 1024 (32 * a + b) late at_once (omega arith))
-    (record { order = omega arith; latency = omega arith; loss = omega arith })
-
-is_setup : (hosts : ℕ) → 2 ≤ hosts → hosts ≤ 32 → IsSetup (echo_setup hosts)
-is_setup hosts least most = record {
-  servers = omega arith;
-  clients = omega arith;
+pub is_setup : (servers hosts : ℕ) → 1 ≤ servers → servers < hosts → hosts ≤ 32
+    → IsSetup (record { servers = servers; hosts = hosts; ops = replicate 32 1000 })
+is_setup servers hosts least clients most = record {
+  servers = least;
+  clients = clients;
   hosts = most;
   ops = λ h from to. rw (get_or-replicate {A = ℕ} 32 h 1000 0 (omega arith)) (omega arith, omega arith);
 }
 
-pub is_scenario : (hosts : ℕ) → 2 ≤ hosts → hosts ≤ 32
-    → IsScenario (record { seed = replicate 32 7; tick = 100; ways = all late; disk_latency = 0; setup = echo_setup hosts; interval = 64; window = 64 })
-is_scenario hosts least most = record {
+pub is_scenario : (w : Way) (setup : Setup) → IsWay w → IsSetup setup
+    → IsScenario (record { seed = replicate 32 7; tick = 100; ways = all w; disk_latency = 0; setup = setup; interval = 64; window = 64 })
+is_scenario w setup within is_setup = record {
   tick = (omega arith, omega arith);
-  ways = is_way;
+  ways = is_way w within;
   disk_latency = omega arith;
-  setup = is_setup hosts least most;
+  setup = is_setup;
   interval = (omega arith, omega arith);
   window = (omega arith, omega arith);
 }

@@ -3,8 +3,8 @@
 //! With the word `quiet` each measure takes few turns and no time is written, so that what is written is always the same.
 #![tactic(auto)]
 
-mod links;
 mod queue;
+mod ring;
 mod streams;
 mod world;
 
@@ -21,23 +21,25 @@ const QUIET_TURNS: u32 = 1_000;
 ///     `Undraws`      three draws and two undraws of one word, of two streams
 ///     `QueueTurns`   `first`, `take_first` and `insert`, with so many pending
 ///     `QueueUndos`   `take_first`, `insert`, `uninsert` and `put_back`, with so many pending
-///     `LinkUndos`    a change of a direction that holds messages, and its undo
 ///     `WorldSteps`   a step of a cluster of echo; a run that has ended starts anew
 ///     `WorldUndos`   a step, its undo, and the step again
 ///     `WorldCopies`  a copy of a world in the midst of a run
+///     `RingSteps`    a step whose record is kept until so many younger ones are
+///     `RingUndos`    an event where so many steps are taken and then taken back, again and again
 #[derive(Clone, Copy)]
 enum Measure {
     Draws,
     Undraws,
     QueueTurns(u32),
     QueueUndos(u32),
-    LinkUndos,
     WorldSteps(Cluster),
     WorldUndos(Cluster),
     WorldCopies(Cluster),
+    RingSteps(u32),
+    RingUndos(u32),
 }
 
-const MEASURES: [(&'static str, u32, Measure); 13] = [
+const MEASURES: [(&'static str, u32, Measure); 16] = [
     ("draws", 10_000_000, Measure::Draws),
     ("draws and undraws", 5_000_000, Measure::Undraws),
     (
@@ -60,7 +62,6 @@ const MEASURES: [(&'static str, u32, Measure); 13] = [
         1_000_000,
         Measure::QueueUndos(4096),
     ),
-    ("link changes and undos", 5_000_000, Measure::LinkUndos),
     (
         "world steps, 2 hosts",
         1_000_000,
@@ -91,6 +92,26 @@ const MEASURES: [(&'static str, u32, Measure); 13] = [
         50_000,
         Measure::WorldCopies(Cluster::ThirtyTwo),
     ),
+    (
+        "forward, 256 records kept",
+        1_000_000,
+        Measure::RingSteps(256),
+    ),
+    (
+        "forward, 1024 records kept",
+        1_000_000,
+        Measure::RingSteps(1_024),
+    ),
+    (
+        "256 forward and back",
+        1_000_000,
+        Measure::RingUndos(256),
+    ),
+    (
+        "1024 forward and back",
+        1_000_000,
+        Measure::RingUndos(1_024),
+    ),
 ];
 
 impl Measure {
@@ -101,10 +122,11 @@ impl Measure {
             Measure::Undraws => Ok(streams::undraws(turns)),
             Measure::QueueTurns(pending) => queue::turns(alloc, pending, turns),
             Measure::QueueUndos(pending) => queue::undos(alloc, pending, turns),
-            Measure::LinkUndos => links::undos(alloc, turns),
             Measure::WorldSteps(cluster) => world::steps(alloc, cluster, turns),
             Measure::WorldUndos(cluster) => world::undos(alloc, cluster, turns),
             Measure::WorldCopies(cluster) => world::copies(alloc, cluster, turns),
+            Measure::RingSteps(records) => ring::steps(alloc, records as usize, turns),
+            Measure::RingUndos(depth) => ring::undos(alloc, depth, turns),
         }
     }
 }

@@ -1,4 +1,6 @@
-ghost use Rattle.std.specs.Prelude.{◌≡◌, ◌≤◌, IfOk};
+ghost use Rattle.std.specs.Prelude.{◌≡◌, ◌<◌, ◌≤◌, IfOk};
+ghost use Rattle.sim_links.specs.Ways.{IsWay};
+ghost use Rattle.sim_node.specs.Node.{IsSetup};
 
 use crate::mixed;
 use sim_links::{Way, Ways};
@@ -8,53 +10,72 @@ use sim_tally::Tally;
 use sim_world::{Event, NoMemory, Query, Scenario, View, World};
 use std::alloc::Global;
 
-/// A cluster of echo: host 0 is the server, each other host a client with 1,000 operations.
+/// A cluster of echo, each of whose clients has 1,000 operations.
 #[derive(Clone, Copy)]
 pub enum Cluster {
-    /// one server and one client
+    /// one server and one client, a message takes 10 to 20 ms
     Two,
-    /// one server and 31 clients
+    /// one server and 31 clients, a message takes 10 to 20 ms
     ThirtyTwo,
+    /// four servers and 28 clients, a message takes 5 to 15 ms
+    FourServers,
 }
 
-type EchoWorld = World<Echo<Tally>>;
+pub type EchoWorld = World<Echo<Tally>>;
 
 /// The most events that lead to a world.
-const MOST_EVENTS: u32 = 65_536;
+pub const MOST_EVENTS: u32 = 65_536;
 
 /// After how many steps a world is copied.
 const STEPS_BEFORE_COPY: u32 = 100;
 
-// A message takes 10 to 20 ms, and none is lost.
-const WAY: Way = Way {
-    latency_min: 10,
-    latency_max: 20,
-    loss: 0,
-};
-
-impl Cluster {
-    fn hosts(self) -> u16
-        ensures least { 2 ≤ result }
-        ensures most { result ≤ 32 }
-    {
-        match self {
-            Cluster::Two => 2,
-            Cluster::ThirtyTwo => 32,
-        }
-    }
-
-    fn scenario(self) -> Scenario {
-        let setup = Setup {
-            servers: 1,
-            hosts: self.hosts(),
-            ops: [1_000; 32],
-        };
-        Scenario::new([7; 32], 100, Ways::all(WAY), 0, setup, 64, 64).unwrap()
+// So many servers and hosts, and 1,000 operations for each client.
+fn echo_setup(servers: u16, hosts: u16) -> Setup
+    requires servers { 1 ≤ servers }
+    requires clients { servers < hosts }
+    requires hosts { hosts ≤ 32 }
+    ensures { IsSetup result }
+{
+    Setup {
+        servers,
+        hosts,
+        ops: [1_000; 32],
     }
 }
 
-// A number that depends on what a summary of the world shows.
-fn shown(world: &EchoWorld) -> u64 {
+impl Cluster {
+    fn setup(self) -> Setup
+        ensures { IsSetup result }
+    {
+        match self {
+            Cluster::Two => echo_setup(1, 2),
+            Cluster::ThirtyTwo => echo_setup(1, 32),
+            Cluster::FourServers => echo_setup(4, 32),
+        }
+    }
+
+    // How its messages go; none is lost.
+    fn way(self) -> Way
+        ensures { IsWay result }
+    {
+        let (latency_min, latency_max) = match self {
+            Cluster::Two | Cluster::ThirtyTwo => (10, 20),
+            Cluster::FourServers => (5, 15),
+        };
+        Way {
+            latency_min,
+            latency_max,
+            loss: 0,
+        }
+    }
+
+    pub fn scenario(self) -> Scenario {
+        Scenario::new([7; 32], 100, Ways::all(self.way()), 0, self.setup(), 64, 64).unwrap()
+    }
+}
+
+/// A number that depends on what a summary of the world shows.
+pub fn shown(world: &EchoWorld) -> u64 {
     match world.look(Query::Summary) {
         View::Summary {
             clock,
