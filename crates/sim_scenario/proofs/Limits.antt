@@ -1,14 +1,17 @@
 -- A text that is accepted is within the limits.
-use Rattle.std.proofs.Common.{◌≡◌, ℕ, ◌+◌, ◌-◌, ◌<◌, ◌≤◌, zero, suc, Bool, true, false, cond, List, [], ◌∷◌, ◌++◌, length, map, replicate, get_or, Option, Some, None, Result, Ok, Err, refl, sym, ap, subst, ◌∙◌, codes, length-append, arith}
+use Rattle.std.proofs.Common.{◌≡◌, ℕ, ◌+◌, ◌-◌, ◌<◌, ◌≤◌, zero, suc, Bool, true, false, cond, List, [], ◌∷◌, ◌++◌, length, map, replicate, get_or, set, Option, Some, None, Result, Ok, Err, refl, sym, ap, subst, ◌∙◌, codes, length-append, arith}
 use Rattle.std.specs.Prelude.{pos, negsuc, nat_lt, nat_le, ◌||◌, if◌then◌else◌}
 use Rattle.std.specs.Option.{unwrap_or, option_map, option_and_then}
 use Rattle.std.proofs.lemmas.Bool.{and_parts, leb-true, ltb-false}
 use Rattle.std.proofs.lemmas.List.{length-map, length-replicate, get_or-replicate, get_or-append_right, get_or-take}
-use Rattle.toml.specs.Data.{Data, Members, string, integer, float, boolean, datetime, array, table, get_member, as_integer, as_str, as_table}
+use Rattle.toml.specs.Data.{Data, Members, same_key, string, integer, float, boolean, datetime, array, table, get_member, as_integer, as_str, as_table}
 use Rattle.toml.specs.Parse.{parse_document}
-use Rattle.sim_links.specs.Ways.{at_once, IsWay}
+use Rattle.std.specs.List.{AllByRecursion, position}
+use Rattle.sim_links.specs.declared.Way.{Way}
+use Rattle.sim_links.specs.Ways.{Ways, all, way, with_way, at_once, IsWay}
+use Rattle.sim_scenario.proofs.Linking.{all_some-each, between-found}
 use Rattle.sim_links.specs.Link.{direction}
-use Rattle.sim_scenario.specs.Scenario.{Fault, ScenarioText, first_some, key_faults, count_fault, repeated_fault, document_fault, scenario_of, read, read_document, text_fault, unknown_key, top_keys, client_keys, at_key, keyed, whole_fault, string_fault, list_fault, list_of, names_fault, client_fault, clients_fault, is_within, is_empty, is_name, out_of_range, whole, server_names, clients, host_names, least_servers, protocol_of, first_32, way_of}
+use Rattle.sim_scenario.specs.Scenario.{Fault, ScenarioText, first_some, key_faults, count_fault, repeated_fault, document_fault, scenario_of, read, read_document, text_fault, unknown_key, known_keys, client_keys, at_key, keyed, whole_fault, string_fault, list_fault, list_of, names_fault, client_fault, clients_fault, is_within, is_empty, is_name, out_of_range, whole, server_names, clients, host_names, least_servers, protocol_of, first_32, way_of, is_format_2, link_fault, links_fault, link_keys, link_text, links, links_of, link_between, host_fault, pair_fault, with_links, ways_of, LinkText, Link, wrong_type}
 use Rattle.sim_scenario.specs.Limits.{IsWithinLimits}
 
 -- the first fault of several is none: so are all
@@ -103,7 +106,70 @@ none_at (None ∷ xs) h (suc k) = none_at xs h k
 none_at (Some x ∷ xs) h k = cc
 
 abbrev faults_of : Members → List (Option Fault)
-faults_of doc = option_map (λ key. record { number = 3; key = key }) (unknown_key top_keys doc) ∷ first_some (key_faults doc) ∷ count_fault doc ∷ repeated_fault doc ∷ []
+faults_of doc = option_map (λ key. record { number = 3; key = key }) (unknown_key (known_keys doc) doc) ∷ first_some (key_faults doc) ∷ count_fault doc ∷ repeated_fault doc
+    ∷ host_fault (links_of doc) ∷ pair_fault (unwrap_or (links_of doc) []) ∷ []
+
+-- the ways of links without a fault
+link_within : (link : Members) → link_fault link ≡ None → IsWay (way_of link)
+link_within link h =
+    let keys = no_first (option_map (λ _. 3) (unknown_key link_keys link)) _ h in
+    let source = no_first (string_fault (λ _. true) wrong_type (get_member (codes "source") link)) _ keys.1 in
+    let target = no_first (string_fault (λ _. true) wrong_type (get_member (codes "target") link)) _ source.1 in
+    let least = no_first (whole_fault (is_within 0 60000) out_of_range (get_member (codes "latency_min") link)) _ target.1 in
+    let greatest = no_first (whole_fault (is_within (whole (codes "latency_min") link) 60000) out_of_range (get_member (codes "latency_max") link)) _ least.1 in
+    let loss = no_first (whole_fault (is_within 0 1000) out_of_range (get_member (codes "loss") link)) [] greatest.1 in
+    let latency = number_within (whole (codes "latency_min") link) 60000 out_of_range (get_member (codes "latency_max") link) greatest.0 in
+    record { order = latency.0; latency = latency.1; loss = (number_within 0 1000 out_of_range (get_member (codes "loss") link) loss.0).1 }
+
+abbrev HasWay : LinkText → Type 0
+HasWay link = IsWay link.way
+
+abbrev GoesBy : Link → Type 0
+GoesBy link = IsWay link.way
+
+links_within : (tables : List Members) → first_some (map link_fault tables) ≡ None → AllByRecursion HasWay (map link_text tables)
+links_within [] h = tt
+links_within (link ∷ more) h = let first = no_first (link_fault link) (map link_fault more) h in (link_within link first.0, links_within more first.1)
+
+links_listed : (found : Option (List Members)) → (elim found as (λ _. Option ℕ) [ None ↦ Some wrong_type | Some tables ↦ first_some (map link_fault tables) ]) ≡ None
+    → AllByRecursion HasWay (map link_text (unwrap_or found []))
+links_listed None h = tt
+links_listed (Some tables) h = links_within tables h
+
+links_found : (o : Option Data) → links_fault o ≡ None → AllByRecursion HasWay (map link_text (unwrap_or (option_and_then (list_of as_table) o) []))
+links_found None h = tt
+links_found (Some d) h = links_listed (list_of as_table d) h
+
+links_in_limits : (two : Bool) (o : Option Data) → (if two then keyed (codes "link") (links_fault o) else None) ≡ None
+    → AllByRecursion HasWay (if two then map link_text (unwrap_or (option_and_then (list_of as_table) o) []) else [])
+links_in_limits true o h = links_found o (no_keyed (codes "link") (links_fault o) h)
+links_in_limits false o h = tt
+
+has_way : (names : List (List ℕ)) (text : LinkText) (x : Link) → HasWay text → link_between names text ≡ Some x → GoesBy x
+has_way names text x within h = subst IsWay (sym (between-found text.way (position (same_key text.source) names) (position (same_key text.target) names) x h).2) within
+
+links_of-within : (doc : Members) (o : Option (List Link)) → AllByRecursion HasWay (links doc) → links_of doc ≡ o → AllByRecursion GoesBy (unwrap_or o [])
+links_of-within doc None within h = tt
+links_of-within doc (Some found) within h = all_some-each (link_between (host_names doc)) HasWay GoesBy (has_way (host_names doc)) (links doc) found within h
+
+-- a table with another way in it
+set_keeps : (P : Way → Type 0) (ways : List Way) (i j : ℕ) (new d : Way) → P new → P (get_or ways i d) → P (get_or (set ways j new) i d)
+set_keeps P [] i j new d n h = h
+set_keeps P (x ∷ ways) zero zero new d n h = n
+set_keeps P (x ∷ ways) (suc i) zero new d n h = h
+set_keeps P (x ∷ ways) zero (suc j) new d n h = h
+set_keeps P (x ∷ ways) (suc i) (suc j) new d n h = set_keeps P ways i j new d n h
+
+with_links-within : (links : List Link) (ways : Ways) (a b : ℕ) → AllByRecursion GoesBy links → IsWay (way a b ways) → IsWay (way a b (with_links links ways))
+with_links-within [] ways a b each h = h
+with_links-within (link ∷ more) ways a b each h =
+    with_links-within more (with_way link.source link.target link.way ways) a b each.1
+    (set_keeps IsWay ways (direction a b) (direction link.source link.target) link.way at_once each.0 h)
+
+latency_within : (two : Bool) (doc : Members) → (if two then at_key (codes "disk_latency") doc (whole_fault (is_within 0 60000) out_of_range) else None) ≡ None
+    → (if two then whole (codes "disk_latency") doc else 0) ≤ 60000
+latency_within true doc h = (whole_within (codes "disk_latency") 0 60000 out_of_range doc h).1
+latency_within false doc h = omega arith
 
 -- a document without a fault says a scenario within the limits
 scenario_of-limits : (doc : Members) → document_fault doc ≡ None → IsWithinLimits (scenario_of doc)
@@ -127,8 +193,9 @@ scenario_of-limits doc h =
     record {
       tick = tick;
       ways = λ a b below_a below_b.
-          subst IsWay (sym (get_or-replicate 1024 (direction a b) (way_of doc) at_once (omega arith))) (record { order = latency_max.0; latency = latency_max.1; loss = loss.1 });
-      disk_latency = omega arith;
+          with_links-within (unwrap_or (links_of doc) []) (all (way_of doc)) a b (links_of-within doc (links_of doc) (links_in_limits (is_format_2 doc) (get_member (codes "link") doc) (keys 12)) refl)
+          (subst IsWay (sym (get_or-replicate 1024 (direction a b) (way_of doc) at_once (omega arith))) (record { order = latency_max.0; latency = latency_max.1; loss = loss.1 }));
+      disk_latency = latency_within (is_format_2 doc) doc (keys 11);
       servers = servers.0;
       clients = omega (arith, size, clients_are.0);
       hosts = hosts;

@@ -1,7 +1,7 @@
 -- The faults that the reader answers, as the faults of the format.
 use Rattle.std.specs.Prelude.{◌≡◌, ◌≢◌, ℕ, List, codes, Result, Ok, Err, string_bytes}
 use Rattle.sim_scenario.specs.declared.fault.Key.{Key}
-use Rattle.sim_scenario.specs.declared.fault.Key.TheVariants.{Format, Seed, Protocol, Tick, LatencyMin, LatencyMax, Loss, Servers, Checkpoint, Window, Client}
+use Rattle.sim_scenario.specs.declared.fault.Key.TheVariants.{Format, Seed, Protocol, Tick, LatencyMin, LatencyMax, Loss, Servers, Checkpoint, Window, Client, DiskLatency, Link}
 use Rattle.sim_scenario.specs.declared.fault.ScenarioFault.{ScenarioFault}
 use Rattle.sim_scenario.specs.declared.fault.ScenarioFault.TheVariants as reader
 use Rattle.sim_scenario.specs.Scenario.{Fault, text_fault}
@@ -19,6 +19,8 @@ key_text Servers = codes "servers"
 key_text Checkpoint = codes "checkpoint"
 key_text Window = codes "window"
 key_text Client = codes "client"
+key_text DiskLatency = codes "disk_latency"
+key_text Link = codes "link"
 
 -- The number of a fault and the key that is written with it. Want of memory is no fault of the text, and has the number 0.
 abbrev pub fault_of : ScenarioFault → Fault
@@ -26,6 +28,7 @@ fault_of reader.TooLong = text_fault 1
 fault_of reader.NotToml = text_fault 2
 fault_of (reader.UnknownKey key) = record { number = 3; key = string_bytes key }
 fault_of reader.UnknownClientKey = record { number = 3; key = codes "client" }
+fault_of reader.UnknownLinkKey = record { number = 3; key = codes "link" }
 fault_of (reader.Missing key) = record { number = 4; key = key_text key }
 fault_of (reader.WrongType key) = record { number = 5; key = key_text key }
 fault_of reader.BadSeed = record { number = 6; key = codes "seed" }
@@ -35,6 +38,8 @@ fault_of (reader.OutOfRange key) = record { number = 9; key = key_text key }
 fault_of (reader.BadName key) = record { number = 10; key = key_text key }
 fault_of reader.HostCount = record { number = 11; key = codes "servers" }
 fault_of (reader.EqualNames key) = record { number = 12; key = key_text key }
+fault_of reader.BadLink = record { number = 13; key = codes "link" }
+fault_of reader.RepeatedLink = record { number = 14; key = codes "link" }
 fault_of reader.NoMemory = record { number = 0; key = codes "memory" }
 
 -- What a step of the reader answers is what the format says, unless memory was refused.

@@ -1,12 +1,13 @@
 -- The parts of a document, one after the other: the value of a part, or its fault.
-use Rattle.std.specs.Prelude.{ℕ, nat_lt, ◌||◌, codes, List, [], ◌∷◌, ◌++◌, length, map, replicate, Option, Some, None, is_some, Result, Ok, Err, if◌then◌else◌}
+use Rattle.std.specs.Prelude.{ℕ, true, nat_lt, ◌||◌, codes, List, [], ◌∷◌, ◌++◌, length, map, replicate, Option, Some, None, is_some, Result, Ok, Err, if◌then◌else◌}
 use Rattle.std.specs.Option.{unwrap_or, option_map}
 use Rattle.std.specs.Result.{result_ok}
 use Rattle.hex.specs.Hex.{decode_of}
 use Rattle.toml.specs.Data.{Members, get_member, as_str, as_table}
-use Rattle.sim_links.specs.Ways.{all}
+use Rattle.sim_links.specs.declared.Way.{Way}
+use Rattle.sim_links.specs.Ways.{Ways, all}
 use Rattle.sim_scenario.specs.declared.Protocol.{Protocol}
-use Rattle.sim_scenario.specs.Scenario.{Fault, ScenarioText, top_keys, client_keys, unknown_key, keyed, at_key, whole_fault, string_fault, list_fault, names_fault, clients_fault, is_name, is_within, out_of_range, is_seed, protocol_named, protocol_of, least_servers, whole, text_at, server_names, clients, repeated_from, first_32}
+use Rattle.sim_scenario.specs.Scenario.{Fault, ScenarioText, LinkText, Link, known_keys, client_keys, link_keys, is_format_2, links_fault, link_text, link_tables, links, links_between, host_fault, pair_fault, with_links, unknown_key, keyed, at_key, whole_fault, string_fault, list_fault, names_fault, clients_fault, is_name, is_within, wrong_type, out_of_range, is_seed, protocol_named, protocol_of, least_servers, whole, text_at, server_names, clients, repeated_from, first_32}
 
 -- a value, where there is no fault
 abbrev pub checked : {A : Type 0} → Option Fault → A → Result A Fault
@@ -19,10 +20,10 @@ abbrev pub ◌>>=◌ : {A B : Type 0} → Result A Fault → (A → Result B Fau
 (Err e) >>= f = Err e
 
 unfoldable pub keys_of : Members → Result (Unit {0}) Fault
-keys_of doc = checked (option_map (λ key. record { number = 3; key = key }) (unknown_key top_keys doc)) tt
+keys_of doc = checked (option_map (λ key. record { number = 3; key = key }) (unknown_key (known_keys doc) doc)) tt
 
 unfoldable pub format_of : Members → Result (Unit {0}) Fault
-format_of doc = checked (at_key (codes "format") doc (whole_fault (is_within 1 1) 8)) tt
+format_of doc = checked (at_key (codes "format") doc (whole_fault (is_within 1 2) 8)) tt
 
 unfoldable pub seed_of : Members → Result (List ℕ) Fault
 seed_of doc = checked (at_key (codes "seed") doc (string_fault is_seed 6)) (unwrap_or (result_ok (decode_of (text_at (codes "seed") doc))) [])
@@ -63,6 +64,54 @@ unfoldable pub clients_of : List (List ℕ) → Members → Result (List (List �
 clients_of names doc =
     checked (at_key (codes "client") doc (list_fault clients_fault as_table)) (names ++ map (text_at (codes "name")) (clients doc), map (whole (codes "ops")) (clients doc))
 
+-- how long a sync takes, which only format 2 says
+unfoldable pub disk_latency_of : Members → Result ℕ Fault
+disk_latency_of doc = if is_format_2 doc then number_of (codes "disk_latency") (codes "disk_latency") 0 60000 doc else Ok 0
+
+-- a link's keys, its hosts, and then its way
+unfoldable pub link_keys_of : Members → Result (Unit {0}) Fault
+link_keys_of link = checked (keyed (codes "link") (option_map (λ _. 3) (unknown_key link_keys link))) tt
+
+unfoldable pub link_host_of : List ℕ → Members → Result (List ℕ) Fault
+link_host_of name link = checked (keyed (codes "link") (string_fault (λ _. true) wrong_type (get_member name link))) (text_at name link)
+
+unfoldable pub link_number_of : List ℕ → ℕ → ℕ → Members → Result ℕ Fault
+link_number_of name low high link = number_of name (codes "link") low high link
+
+unfoldable pub link_way_of : Members → Result Way Fault
+link_way_of link = do
+  latency_min ← link_number_of (codes "latency_min") 0 60000 link
+  latency_max ← link_number_of (codes "latency_max") latency_min 60000 link
+  loss ← link_number_of (codes "loss") 0 1000 link
+  Ok (record { latency_min = latency_min; latency_max = latency_max; loss = loss })
+
+unfoldable pub link_of : Members → Result LinkText Fault
+link_of link = do
+  known ← link_keys_of link
+  source ← link_host_of (codes "source") link
+  target ← link_host_of (codes "target") link
+  way ← link_way_of link
+  Ok (record { source = source; target = target; way = way })
+
+-- some links after those that are there
+unfoldable pub linked : List LinkText → List Members → Result (List LinkText) Fault
+linked done [] = Ok done
+linked done (link ∷ more) = do
+  first ← link_of link
+  linked (done ++ first ∷ []) more
+
+-- the links, which only format 2 has
+unfoldable pub links_in : Members → Result (List LinkText) Fault
+links_in doc = checked (if is_format_2 doc then at_key (codes "link") doc links_fault else None) (links doc)
+
+-- each link goes from one host to another
+unfoldable pub placed : List (List ℕ) → List LinkText → Result (List Link) Fault
+placed names links = checked (host_fault (links_between names links)) (unwrap_or (links_between names links) [])
+
+-- no two links are those of one pair
+unfoldable pub linked_ways : Way → List Link → Result Ways Fault
+linked_ways way links = checked (pair_fault links) (with_links links (all way))
+
 -- there are as many hosts, and servers, as may be
 unfoldable pub count_of : Protocol → ℕ → ℕ → Result (Unit {0}) Fault
 count_of protocol servers hosts = checked (if nat_lt 32 hosts || nat_lt servers (least_servers protocol) then Some (record { number = 11; key = codes "servers" }) else None) tt
@@ -87,15 +136,19 @@ scenario_in doc = do
   checkpoint ← number_of (codes "checkpoint") (codes "checkpoint") 1 1024 doc
   window ← number_of (codes "window") (codes "window") 1 4096 doc
   hosts ← clients_of servers doc
+  disk_latency ← disk_latency_of doc
+  links ← links_in doc
   fitting ← count_of protocol (length servers) (length hosts.0)
   names ← differing (length servers) hosts.0
+  between ← placed names links
+  ways ← linked_ways (record { latency_min = latency_min; latency_max = latency_max; loss = loss }) between
   Ok (record {
     names = names;
     protocol = protocol;
     seed = seed;
     tick = tick;
-    ways = all (record { latency_min = latency_min; latency_max = latency_max; loss = loss });
-    disk_latency = 0;
+    ways = ways;
+    disk_latency = disk_latency;
     servers = length servers;
     ops = first_32 (replicate (length servers) 0 ++ hosts.1);
     checkpoint = checkpoint;

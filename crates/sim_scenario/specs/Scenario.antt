@@ -2,14 +2,15 @@
 use Rattle.std.specs.Prelude.{ℕ, ◌+◌, ◌==◌, nat_lt, nat_le, Bool, true, false, ◌&&◌, ◌||◌, ℤ, pos, negsuc, codes, List, [], ◌∷◌, ◌++◌, length, map, take, replicate, Option, Some, None, is_some, Result, Ok, Err, if◌then◌else◌}
 use Rattle.std.specs.Option.{unwrap_or, option_map, option_and_then}
 use Rattle.std.specs.Result.{result_ok}
-use Rattle.std.specs.List.{list_any, list_all}
+use Rattle.std.specs.Str.{bytes_eq}
+use Rattle.std.specs.List.{list_any, list_all, position}
 use Rattle.hex.specs.Hex.{decode_of, is_hex_digit}
 use Rattle.toml.specs.Data.{Data, Items, Members, string, integer, no_items, item, no_members, member, same_key, get_member, as_str, as_integer, as_array, as_table}
 use Rattle.toml.specs.Parse.{parse_document}
 use Rattle.sim_links.specs.declared.Way.{Way}
-use Rattle.sim_links.specs.Ways.{Ways, all}
+use Rattle.sim_links.specs.Ways.{Ways, all, with_way}
 use Rattle.sim_scenario.specs.declared.Protocol.{Protocol}
-use Rattle.sim_scenario.specs.declared.Protocol.TheVariants.{Echo}
+use Rattle.sim_scenario.specs.declared.Protocol.TheVariants.{Echo, PrimaryBackup, Abd, TwoPhase}
 
 -- what a scenario says
 --     names            the hosts in the order of their numbers, the servers first
@@ -41,11 +42,17 @@ pub record Fault : Type 0 where
 
 abbrev pub least_servers : Protocol → ℕ
 least_servers Echo = 1
+least_servers PrimaryBackup = 2
+least_servers Abd = 1
+least_servers TwoPhase = 2
 
 abbrev pub protocol_named : List ℕ → Option Protocol
 protocol_named name =
-    if same_key name (codes "echo") then Some Echo
-    else None
+    if bytes_eq name (codes "echo") then Some Echo
+    else (if bytes_eq name (codes "primary_backup") then Some PrimaryBackup
+    else (if bytes_eq name (codes "abd") then Some Abd
+    else (if bytes_eq name (codes "two_phase") then Some TwoPhase
+    else None)))
 
 -- a name is 1 to 16 bytes, small letters and digits, the first a letter
 abbrev pub is_letter : ℕ → Bool
@@ -66,6 +73,13 @@ abbrev pub top_keys : List (List ℕ)
 top_keys =
     codes "format" ∷ codes "seed" ∷ codes "protocol" ∷ codes "tick" ∷ codes "latency_min" ∷ codes "latency_max" ∷ codes "loss"
     ∷ codes "servers" ∷ codes "checkpoint" ∷ codes "window" ∷ codes "client" ∷ []
+
+-- a text of format 2 may have two more
+abbrev pub format_2_keys : List (List ℕ)
+format_2_keys = codes "disk_latency" ∷ codes "link" ∷ []
+
+abbrev pub link_keys : List (List ℕ)
+link_keys = codes "source" ∷ codes "target" ∷ codes "latency_min" ∷ codes "latency_max" ∷ codes "loss" ∷ []
 
 abbrev pub client_keys : List (List ℕ)
 client_keys = codes "name" ∷ codes "ops" ∷ []
@@ -164,9 +178,93 @@ host_names doc = server_names doc ++ map (text_at (codes "name")) (clients doc)
 abbrev pub protocol_of : Members → Protocol
 protocol_of doc = unwrap_or (protocol_named (text_at (codes "protocol") doc)) Echo
 
--- the way of every pair of hosts
+-- the way that a table says: the latencies and the loss
 abbrev pub way_of : Members → Way
 way_of members = record { latency_min = whole (codes "latency_min") members; latency_max = whole (codes "latency_max") members; loss = whole (codes "loss") members }
+
+-- a text of format 2, which may have links
+abbrev pub is_format_2 : Members → Bool
+is_format_2 doc = whole (codes "format") doc == 2
+
+abbrev pub known_keys : Members → List (List ℕ)
+known_keys doc = if is_format_2 doc then top_keys ++ format_2_keys else top_keys
+
+-- a link: an unknown key, then its keys
+abbrev pub link_fault : Members → Option ℕ
+link_fault link = first_some
+    (option_map (λ _. 3) (unknown_key link_keys link)
+    ∷ string_fault (λ _. true) wrong_type (get_member (codes "source") link)
+    ∷ string_fault (λ _. true) wrong_type (get_member (codes "target") link)
+    ∷ whole_fault (is_within 0 60000) out_of_range (get_member (codes "latency_min") link)
+    ∷ whole_fault (is_within (whole (codes "latency_min") link) 60000) out_of_range (get_member (codes "latency_max") link)
+    ∷ whole_fault (is_within 0 1000) out_of_range (get_member (codes "loss") link)
+    ∷ [])
+
+-- there may be no links at all
+abbrev pub links_fault : Option Data → Option ℕ
+links_fault None = None
+links_fault (Some d) = elim (list_of as_table d) [ None ↦ Some wrong_type | Some tables ↦ first_some (map link_fault tables) ]
+
+-- a link by the names of its hosts, and how messages go from the source to the target
+pub record LinkText : Type 0 where
+  pub source : List ℕ
+  pub target : List ℕ
+  pub way : Way
+
+abbrev pub link_text : Members → LinkText
+link_text link = record { source = text_at (codes "source") link; target = text_at (codes "target") link; way = way_of link }
+
+abbrev pub link_tables : Members → List Members
+link_tables doc = unwrap_or (option_and_then (list_of as_table) (get_member (codes "link") doc)) []
+
+abbrev pub links : Members → List LinkText
+links doc = if is_format_2 doc then map link_text (link_tables doc) else []
+
+-- a link by the numbers of its hosts
+pub record Link : Type 0 where
+  pub source : ℕ
+  pub target : ℕ
+  pub way : Way
+
+-- between two hosts, of which neither is the other
+abbrev pub between : Way → Option ℕ → Option ℕ → Option Link
+between way None target = None
+between way (Some a) None = None
+between way (Some a) (Some b) = if a == b then None else Some (record { source = a; target = b; way = way })
+
+-- the link among hosts with these names, or none where its source or its target is no host, or both are one
+abbrev pub link_between : List (List ℕ) → LinkText → Option Link
+link_between names link = between link.way (position (same_key link.source) names) (position (same_key link.target) names)
+
+abbrev pub links_between : List (List ℕ) → List LinkText → Option (List Link)
+links_between names links = all_some (link_between names) links
+
+abbrev pub host_fault : Option (List Link) → Option Fault
+host_fault None = Some (record { number = 13; key = codes "link" })
+host_fault (Some links) = None
+
+-- two links go from one host to one other
+abbrev pub is_same_pair : Link → Link → Bool
+is_same_pair x y = (x.source == y.source) && (x.target == y.target)
+
+abbrev pub is_repeated : List Link → Bool
+is_repeated [] = false
+is_repeated (link ∷ more) = list_any (is_same_pair link) more || is_repeated more
+
+abbrev pub pair_fault : List Link → Option Fault
+pair_fault links = if is_repeated links then Some (record { number = 14; key = codes "link" }) else None
+
+-- the ways with those of some links in place of theirs
+abbrev pub with_links : List Link → Ways → Ways
+with_links [] ways = ways
+with_links (link ∷ more) ways = with_links more (with_way link.source link.target link.way ways)
+
+abbrev pub links_of : Members → Option (List Link)
+links_of doc = links_between (host_names doc) (links doc)
+
+-- the way of each ordered pair of hosts: what its link says, and where it has none what the text says for all
+abbrev pub ways_of : Members → Ways
+ways_of doc = with_links (unwrap_or (links_of doc) []) (all (way_of doc))
 
 abbrev pub is_seed : List ℕ → Bool
 is_seed text = (length text == 64) && list_all is_hex_digit text
@@ -180,7 +278,7 @@ at_key key doc fault = keyed key (fault (get_member key doc))
 
 abbrev pub key_faults : Members → List (Option Fault)
 key_faults doc =
-    at_key (codes "format") doc (whole_fault (is_within 1 1) 8)
+    at_key (codes "format") doc (whole_fault (is_within 1 2) 8)
     ∷ at_key (codes "seed") doc (string_fault is_seed 6)
     ∷ at_key (codes "protocol") doc (string_fault (λ s. is_some (protocol_named s)) 7)
     ∷ at_key (codes "tick") doc (whole_fault (is_within 1 60000) out_of_range)
@@ -191,6 +289,8 @@ key_faults doc =
     ∷ at_key (codes "checkpoint") doc (whole_fault (is_within 1 1024) out_of_range)
     ∷ at_key (codes "window") doc (whole_fault (is_within 1 4096) out_of_range)
     ∷ at_key (codes "client") doc (list_fault clients_fault as_table)
+    ∷ (if is_format_2 doc then at_key (codes "disk_latency") doc (whole_fault (is_within 0 60000) out_of_range) else None)
+    ∷ (if is_format_2 doc then at_key (codes "link") doc links_fault else None)
     ∷ []
 
 -- the first name, in the order of the hosts, that an earlier host has: its place
@@ -209,10 +309,12 @@ count_fault doc =
 
 abbrev pub document_fault : Members → Option Fault
 document_fault doc = first_some
-    (option_map (λ key. record { number = 3; key = key }) (unknown_key top_keys doc)
+    (option_map (λ key. record { number = 3; key = key }) (unknown_key (known_keys doc) doc)
     ∷ first_some (key_faults doc)
     ∷ count_fault doc
     ∷ repeated_fault doc
+    ∷ host_fault (links_of doc)
+    ∷ pair_fault (unwrap_or (links_of doc) [])
     ∷ [])
 
 abbrev pub first_32 : List ℕ → List ℕ
@@ -224,8 +326,8 @@ scenario_of doc = record {
   protocol = protocol_of doc;
   seed = unwrap_or (result_ok (decode_of (text_at (codes "seed") doc))) [];
   tick = whole (codes "tick") doc;
-  ways = all (way_of doc);
-  disk_latency = 0;
+  ways = ways_of doc;
+  disk_latency = if is_format_2 doc then whole (codes "disk_latency") doc else 0;
   servers = length (server_names doc);
   ops = first_32 (replicate (length (server_names doc)) 0 ++ map (whole (codes "ops")) (clients doc));
   checkpoint = whole (codes "checkpoint") doc;

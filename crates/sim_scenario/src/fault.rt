@@ -19,6 +19,8 @@ pub enum Key {
     Checkpoint,
     Window,
     Client,
+    DiskLatency,
+    Link,
 }
 
 impl Key {
@@ -38,6 +40,8 @@ impl Key {
             Key::Checkpoint => "checkpoint",
             Key::Window => "window",
             Key::Client => "client",
+            Key::DiskLatency => "disk_latency",
+            Key::Link => "link",
         }
     }
 }
@@ -53,6 +57,8 @@ pub enum ScenarioFault {
     UnknownKey(String),
     #[error("a client has an unknown key")]
     UnknownClientKey,
+    #[error("a link has an unknown key")]
+    UnknownLinkKey,
     #[error("there is no key `{}`", .0.text())]
     Missing(Key),
     #[error("a value has the wrong type, at `{}`", .0.text())]
@@ -71,6 +77,10 @@ pub enum ScenarioFault {
     HostCount,
     #[error("two names are equal, the second at `{}`", .0.text())]
     EqualNames(Key),
+    #[error("a link's source or target is no host, or both are one")]
+    BadLink,
+    #[error("two links go from one host to one other")]
+    RepeatedLink,
     #[error("out of memory")]
     NoMemory,
 }
@@ -96,14 +106,16 @@ impl<T: Drop> From<AllocFailed<T>> for ScenarioFault {
 }
 
 impl ScenarioFault {
-    /// The number of the fault, 1 to 12. Want of memory, which is no fault of the text, has the number 0.
+    /// The number of the fault, 1 to 14. Want of memory, which is no fault of the text, has the number 0.
     pub fn number(&self) -> u8
         ensures { result ≡ (fault_of self.now).number }
     {
         match self {
             ScenarioFault::TooLong => 1,
             ScenarioFault::NotToml => 2,
-            ScenarioFault::UnknownKey(_) | ScenarioFault::UnknownClientKey => 3,
+            ScenarioFault::UnknownKey(_)
+            | ScenarioFault::UnknownClientKey
+            | ScenarioFault::UnknownLinkKey => 3,
             ScenarioFault::Missing(_) => 4,
             ScenarioFault::WrongType(_) => 5,
             ScenarioFault::BadSeed => 6,
@@ -113,6 +125,8 @@ impl ScenarioFault {
             ScenarioFault::BadName(_) => 10,
             ScenarioFault::HostCount => 11,
             ScenarioFault::EqualNames(_) => 12,
+            ScenarioFault::BadLink => 13,
+            ScenarioFault::RepeatedLink => 14,
             ScenarioFault::NoMemory => 0,
         }
     }
@@ -135,6 +149,8 @@ impl ScenarioFault {
             ScenarioFault::UnknownFormat => Key::Format.text(),
             ScenarioFault::HostCount => Key::Servers.text(),
             ScenarioFault::UnknownClientKey => Key::Client.text(),
+            ScenarioFault::UnknownLinkKey | ScenarioFault::BadLink | ScenarioFault::RepeatedLink =>
+                Key::Link.text(),
             ScenarioFault::NoMemory => "memory",
         }
     }

@@ -95,15 +95,36 @@ pub fn number(table: &Table, key: Key, low: u32, high: u32) -> Result<u32, Scena
     number_at(table, key.text(), key, low, high)
 }
 
-/// The format, which is 1.
+/// Whether the format is the whole number 2.
+pub fn is_format_2(table: &Table) -> bool
+    ensures { result ≡ scenario.is_format_2 (table_view table.now) }
+{
+    match field(table, "format") {
+        Some(value) => value.as_integer() == Some(2),
+        None => false,
+    }
+}
+
+/// The format, which is 1 or 2.
 #[tactic(auto, unfolding(crate::specs::Parts::format_of))]
 pub fn format(table: &Table) -> Result<(), ScenarioFault>
     ensures { faults.Gives (λ n. n) result (parts.format_of (table_view table.now)) }
 {
-    if integer_at(table, "format", Key::Format)? == 1 {
-        Ok(())
+    match integer_at(table, "format", Key::Format)? {
+        1 | 2 => Ok(()),
+        _ => Err(ScenarioFault::UnknownFormat),
+    }
+}
+
+/// How long a sync takes, which only format 2 says.
+#[tactic(auto, unfolding(crate::specs::Parts::disk_latency_of))]
+pub fn disk_latency(table: &Table) -> Result<u32, ScenarioFault>
+    ensures { faults.Gives (λ n. n) result (parts.disk_latency_of (table_view table.now)) }
+{
+    if is_format_2(table) {
+        number(table, Key::DiskLatency, 0, 60_000)
     } else {
-        Err(ScenarioFault::UnknownFormat)
+        Ok(0)
     }
 }
 
@@ -130,25 +151,39 @@ pub fn protocol(table: &Table) -> Result<Protocol, ScenarioFault>
     }
 }
 
+/// The keys that a scenario may have, and last the two that only format 2 has.
+static KEYS: [&str; 13] = [
+    "format",
+    "seed",
+    "protocol",
+    "tick",
+    "latency_min",
+    "latency_max",
+    "loss",
+    "servers",
+    "checkpoint",
+    "window",
+    "client",
+    "disk_latency",
+    "link",
+];
+
+fn keys(table: &Table) -> &'static [&'static str]
+    ensures { map (λ k. k.now) result.now ≡ scenario.known_keys (table_view table.now) }
+{
+    if is_format_2(table) {
+        &KEYS
+    } else {
+        &KEYS[..11]
+    }
+}
+
 /// Each key of a scenario is one that it may have, or else the fault names the first that is not.
 #[tactic(auto, unfolding(crate::specs::Parts::keys_of))]
 pub fn known_keys(alloc: Global, table: &Table) -> Result<(), ScenarioFault>
     ensures { faults.Gives (λ n. n) result (parts.keys_of (table_view table.now)) }
 {
-    let known = [
-        "format",
-        "seed",
-        "protocol",
-        "tick",
-        "latency_min",
-        "latency_max",
-        "loss",
-        "servers",
-        "checkpoint",
-        "window",
-        "client",
-    ];
-    match unknown_key(table, &known) {
+    match unknown_key(table, keys(table)) {
         Some(key) => Err(ScenarioFault::UnknownKey(String::from_str(alloc, key)?)),
         None => Ok(()),
     }

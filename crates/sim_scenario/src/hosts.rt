@@ -16,8 +16,8 @@ use indexmap::IndexMap;
 use std::alloc::Global;
 use toml::{Table, Value};
 
-/// Whether a text is the name of a host.
-fn is_name(text: &str) -> bool
+/// Whether a text is a name: 1 to 16 small letters and digits, the first a letter.
+pub fn is_name(text: &str) -> bool
     ensures { result ≡ scenario.is_name text.now }
 {
     let bytes = text.as_bytes();
@@ -65,7 +65,7 @@ fn item_texts(alloc: Global, items: &[Value]) -> Result<Option<Vec<String>>, NoM
 }
 
 /// The tables of an array of tables, or none where the value is anything else.
-fn tables(alloc: Global, value: &Value) -> Result<Option<Vec<&Table>>, NoMemory>
+pub fn tables(alloc: Global, value: &Value) -> Result<Option<Vec<&Table>>, NoMemory>
     ensures { IfOk result (λ found. option_map (λ tables. map (λ t. table_view t.now) tables.items) found ≡ scenario.list_of as_table (view value.now)) }
 {
     match value.as_array() {

@@ -4,6 +4,7 @@
 mod fault;
 mod fields;
 mod hosts;
+mod links;
 mod reading;
 #[cfg(test)]
 mod tests;
@@ -12,7 +13,7 @@ ghost use Rattle.std.specs.Prelude.{◌≡◌};
 ghost use Rattle.sim_scenario.specs.Scenario as scenario;
 
 pub use fault::{Key, ScenarioFault};
-pub use hosts::{host_name, host_number};
+pub use hosts::{host_name, host_number, is_name};
 use indexmap::IndexMap;
 pub use reading::read;
 use sim_links::Ways;
@@ -22,6 +23,9 @@ pub use std::alloc::AllocError as NoMemory;
 #[derive(Clone, Copy, Debug, PartialEq, Eq)]
 pub enum Protocol {
     Echo,
+    PrimaryBackup,
+    Abd,
+    TwoPhase,
 }
 
 impl Protocol {
@@ -31,6 +35,12 @@ impl Protocol {
     {
         if name == "echo" {
             Some(Protocol::Echo)
+        } else if name == "primary_backup" {
+            Some(Protocol::PrimaryBackup)
+        } else if name == "abd" {
+            Some(Protocol::Abd)
+        } else if name == "two_phase" {
+            Some(Protocol::TwoPhase)
         } else {
             None
         }
@@ -41,7 +51,8 @@ impl Protocol {
         ensures { result ≡ scenario.least_servers self }
     {
         match self {
-            Protocol::Echo => 1,
+            Protocol::Echo | Protocol::Abd => 1,
+            Protocol::PrimaryBackup | Protocol::TwoPhase => 2,
         }
     }
 }
@@ -57,7 +68,7 @@ pub struct ScenarioText {
     pub tick: u32,
     /// The latencies and the loss of each ordered pair of hosts.
     pub ways: Ways,
-    /// How long a sync takes: 0 ms.
+    /// How long a sync takes, 0 to 60,000 ms.
     pub disk_latency: u32,
     /// How many servers there are.
     pub servers: u16,

@@ -10,9 +10,10 @@ ghost use Rattle.sim_scenario.specs.Seen.{seen};
 
 use crate::ScenarioText;
 use crate::fault::{Key, ScenarioFault};
-use crate::fields::{format, known_keys, number, protocol, seed};
+use crate::fields::{disk_latency, format, known_keys, number, protocol, seed};
 use crate::hosts::{all_hosts, fitting, host_operations, number_hosts, server_names};
-use sim_links::{Way, Ways};
+use crate::links::{linked_ways, links, placed};
+use sim_links::Way;
 use std::alloc::Global;
 use toml::Table;
 
@@ -61,20 +62,25 @@ fn read_table(alloc: Global, table: &Table) -> Result<ScenarioText, ScenarioFaul
     let checkpoint = number(table, Key::Checkpoint, 1, 1_024)?;
     let window = number(table, Key::Window, 1, 4_096)?;
     let hosts = all_hosts(alloc, table, server_names)?;
+    let disk_latency = disk_latency(table)?;
+    let links = links(alloc, table)?;
     fitting(protocol, servers, hosts.names.len())?;
     let ops = host_operations(servers, hosts.operations.as_slice());
     let names = number_hosts(alloc, hosts.names, servers)?;
+    let between = placed(alloc, &names, links.as_slice())?;
+    let way = Way {
+        latency_min,
+        latency_max,
+        loss,
+    };
+    let ways = linked_ways(way, between.as_slice())?;
     Ok(ScenarioText {
         names,
         protocol,
         seed,
         tick,
-        ways: Ways::all(Way {
-            latency_min,
-            latency_max,
-            loss,
-        }),
-        disk_latency: 0,
+        ways,
+        disk_latency,
         servers: servers as u16,
         ops,
         checkpoint,
