@@ -26,6 +26,7 @@ use crate::world::World;
 use crate::{Event, Fault, NoMemory};
 use sim_node::{Effects, Node};
 use std::alloc::Global;
+use std::mem;
 
 // The host whose timer a fault can change, else any.
 fn stopped_by(fault: Fault) -> u16
@@ -66,12 +67,12 @@ impl<N: Node> Parts<N> {
 
     // The clock goes on to a time (ms).
     #[inline(never)]
-    fn advance(&mut self, alloc: Global, to: u64) -> Result<Trail<N>, NoMemory>
+    fn advance(&mut self, spare: Trail<N>, to: u64) -> Result<Trail<N>, NoMemory>
         ensures world { OnOk result (self.new ≡ record self.old { world = at_time to self.old.world }) }
         ensures trail { IfOk result (λ t. IsTrail N.records t.items self.old.world self.new.world) }
         ensures acted { IfOk result (λ t. count_by is_reaction t.items ≡ 0) }
     {
-        let mut trail = Trail::new(alloc);
+        let mut trail = Trail::over(spare);
         trail.push(Small::Timed(self.clock))?;
         self.clock = to;
         Ok(trail)
@@ -84,6 +85,7 @@ impl<N: Node> Parts<N> {
         alloc: Global,
         sc: &Scenario,
         index: &mut Index,
+        spare: Trail<N>,
         fault: Fault,
         meter: &mut N::Meter,
     ) -> Result<Trail<N>, NoMemory>
@@ -99,7 +101,7 @@ impl<N: Node> Parts<N> {
         ensures index { OnOk result (IsIndex index.new self.new.world) }
         ensures work { OnOk result (N.Meter.work meter.new ≡ record (N.Meter.work meter.old) { turns = (N.Meter.work meter.old).turns + turns_of self.old.world (Event.Fault fault) }) }
     {
-        let mut trail = Trail::new(alloc);
+        let mut trail = Trail::over(spare);
         self.fault(alloc, sc, index, &mut trail, fault, meter)?;
         Ok(trail)
     }
@@ -111,6 +113,7 @@ impl<N: Node> Parts<N> {
         sc: &Scenario,
         index: &mut Index,
         effects: &mut Effects<N::Msg>,
+        spare: Trail<N>,
         event: Event,
         meter: &mut N::Meter,
     ) -> Result<(Option<Taken<N::Msg>>, Trail<N>), NoMemory>
@@ -130,15 +133,15 @@ impl<N: Node> Parts<N> {
     {
         match event {
             Event::Step => {
-                let (taken, trail) = self.step(alloc, sc, index, effects, meter)?;
+                let (taken, trail) = self.step(alloc, sc, index, effects, spare, meter)?;
                 Ok((Some(taken), trail))
             }
             Event::Advance(to) => {
-                let trail = self.advance(alloc, to)?;
+                let trail = self.advance(spare, to)?;
                 Ok((None, trail))
             }
             Event::Fault(fault) => {
-                let trail = self.fail(alloc, sc, index, fault, meter)?;
+                let trail = self.fail(alloc, sc, index, spare, fault, meter)?;
                 Ok((None, trail))
             }
         }
@@ -184,14 +187,14 @@ impl<N: Node> Cluster<N> {
         ensures work { OnOk result (N.Meter.work meter.new ≡ record (N.Meter.work meter.old) { turns = (N.Meter.work meter.old).turns + turns_of self.old.parts.world event }) }
     {
         let host = self.parts.changing_host(event);
-        let timer = self.index.timers[host as usize];
-        let in_flight = self.index.in_flight;
-        let held = self.index.held;
+        let kept = self.index.beside(host);
+        let spare = mem::replace(&mut self.spare, Trail::new(alloc));
         let (taken, trail) = self.parts.event(
             alloc,
             &self.scenario,
             &mut self.index,
             &mut self.effects,
+            spare,
             event,
             meter,
         )?;
@@ -199,10 +202,7 @@ impl<N: Node> Cluster<N> {
         Ok(Undo {
             taken,
             trail,
-            in_flight,
-            held,
-            host,
-            timer,
+            beside: kept,
         })
     }
 
@@ -219,17 +219,13 @@ impl<N: Node> Cluster<N> {
         let Undo {
             taken,
             trail,
-            in_flight,
-            held,
-            host,
-            timer,
+            beside,
         } = undo;
-        self.parts.take_back_all(alloc, trail, meter)?;
+        let spare = self.parts.take_back_all(alloc, trail, meter)?;
         self.parts.take_back_taken(taken)?;
-        self.index.in_flight = in_flight;
-        self.index.held = held;
-        self.index.timers[host as usize] = timer;
+        self.index.restore(beside);
         self.age -= 1;
+        self.spare.keep_roomier(spare);
         Ok(())
     }
 }
@@ -276,5 +272,13 @@ impl<N: Node> World<N> {
         let World { mut cluster } = self;
         cluster.undo(alloc, undo, meter)?;
         Ok(World { cluster })
+    }
+
+    /// A record that is no longer wanted gives its memory to the next event. The world stays as it is.
+    pub fn reuse(&mut self, undo: Undo<N>)
+        ensures { self.new ≡ self.old }
+    {
+        let Undo { trail, .. } = undo;
+        self.cluster.spare.keep_roomier(trail);
     }
 }

@@ -1,8 +1,8 @@
-use Rattle.std.proofs.Common.{◌≡◌, ◌<◌, ◌≤◌, ◌++◌, None, length, sym, ap, subst, ◌∙◌, arith}
-use Rattle.std.proofs.lemmas.List.{get_or_read}
+use Rattle.std.proofs.Common.{◌+◌, ◌≡◌, ◌<◌, ◌≤◌, ◌++◌, None, length, sym, ap, subst, ◌∙◌, arith}
 use Rattle.sim_world.specs.Clock.{clock_after}
 use Rattle.sim_world.specs.Events.{rules, after, refusal_of}
 use Rattle.sim_world.specs.Held.{IsHeld}
+use Rattle.sim_world.specs.Index.{LeadsBack}
 use Rattle.sim_world.specs.Room.{IsReady}
 use Rattle.sim_world.specs.Sound.{IsLawfulEvent}
 use Rattle.sim_world.specs.Trail.{taken_changes}
@@ -10,8 +10,8 @@ use Rattle.sim_world.proofs.Readies.{ready_of}
 use Rattle.sim_world.proofs.Applied.{changing_there, applied_sound, applied_clock, applied_on, applied_leads}
 use Rattle.sim_world.proofs.cluster.Cluster.apply.Goals as goal
 
-pub index-timer-requires : goal.index-timer-requires
-index-timer-requires g c =
+pub beside-kept-requires : goal.beside-kept-requires
+beside-kept-requires g c =
     let i = c.self.inside in
     let laws = g.N.Node.laws in
     let probes = g.N.Node.PROBES in
@@ -21,7 +21,7 @@ index-timer-requires g c =
     let h = c.changing_host-host.ensures in
     let n = held.sound.hosts in
     let e = held.index.hosts in
-    omega (arith, i.index.timers.ok.0)
+    omega arith
 
 pub event-requires-clause-ready : goal.event-requires-clause-ready
 event-requires-clause-ready g c =
@@ -102,9 +102,9 @@ returns-clause-leads g c =
     let n = held.sound.hosts in
     let m = held.index.hosts in
     let lt : c.changing_host-host.result < length i.parts.world.hosts = omega arith in
-    let within : c.changing_host-host.result < length i.index.timers.items = omega arith in
-    applied_leads told laws probes i.scenario.value i.age i.parts.world held.sound g.N.Node.records c.event.new.self.world c.args.event
+    subst (λ b. LeadsBack told g.N.Node.records (record { changes = taken_changes c.in_ok-taken.taken ++ c.in_ok-taken.trail.items; beside = b })
+    (record { world = c.event.new.self.world; scenario = i.scenario.value; age = i.age + 1 })) (sym c.beside-kept.ensures)
+    (applied_leads told laws probes i.scenario.value i.age i.parts.world held.sound g.N.Node.records c.event.new.self.world c.args.event
     (taken_changes c.in_ok-taken.taken ++ c.in_ok-taken.trail.items)
     young can is law v.trail
-    i.index c.changing_host-host.result c.index-timer.result.now held.index h
-    (get_or_read i.index.timers.items c.changing_host-host.result c.index-timer.result.now within c.index-timer.ensures None) lt
+    i.index c.changing_host-host.result held.index h lt)
