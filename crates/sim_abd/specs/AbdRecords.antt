@@ -1,7 +1,6 @@
 -- The records of the register: the role before a reaction.
 use Rattle.std.specs.Prelude.{ℕ, ◌<◌, IfSome}
 use Rattle.sim_node.specs.Node.{NodeRecords}
-use Rattle.sim_abd.specs.declared.roles.AbdMsg.{AbdMsg}
 use Rattle.sim_abd.specs.declared.roles.Server.{Server}
 use Rattle.sim_abd.specs.declared.roles.Role.{Role}
 use Rattle.sim_abd.specs.declared.roles.Role.TheVariants as role

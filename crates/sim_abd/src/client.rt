@@ -1,8 +1,7 @@
-ghost use Rattle.std.specs.Prelude.{◌≡◌, ◌+◌, ◌<◌, ◌≤◌, []};
+ghost use Rattle.std.specs.Prelude.{◌≡◌, ◌+◌, ◌<◌, []};
 ghost use Rattle.sim_node.specs.Node.{IsSetup, IsFrom};
-ghost use Rattle.sim_hosts.specs.Numbers.{ops_of};
 ghost use Rattle.sim_hosts.specs.Reactions.{asked_for};
-ghost use Rattle.sim_abd.specs.Abd.{untagged, is_greater, client_at_boot, is_write, is_majority, ask_of, store_of, begun, to_be_stored, stores, greater_of, has_told, finished, has_kept, asks_again, is_told, is_kept, react_client};
+ghost use Rattle.sim_abd.specs.Abd.{untagged, is_greater, client_at_boot, is_write, is_majority, ask_of, store_of, begun, stores, has_told, finished, has_kept, asks_again, is_told, is_kept, react_client};
 
 use crate::{AbdMsg, Client, Phase, Tagged};
 use sim_hosts::{HostSet, send_to_all, send_to_missing};
@@ -42,7 +41,7 @@ fn is_write(i: u64) -> bool
 fn is_majority(setup: &Setup, answers: HostSet) -> bool
     ensures { result ≡ is_majority setup.now answers }
 {
-    answers.len() >= (setup.servers / 2 + 1) as u32
+    answers.size() >= (setup.servers / 2 + 1) as u32
 }
 
 impl Client {

@@ -1,7 +1,7 @@
 ghost use Rattle.std.specs.Prelude.{◌≡◌, ◌<◌, []};
-ghost use Rattle.sim_node.specs.Node.{IsSetup, IsFrom};
+ghost use Rattle.sim_node.specs.Node.{IsFrom};
 ghost use Rattle.sim_hosts.specs.Reactions.{asked_for};
-ghost use Rattle.sim_abd.specs.Abd.{server_at_boot, tagged_bytes, takes, stored, paid, server_synced, react_server};
+ghost use Rattle.sim_abd.specs.Abd.{server_at_boot, tagged_bytes, takes, stored, server_synced, react_server};
 ghost use Rattle.sim_abd.specs.AbdRecords.{IsPlacedServer};
 
 use crate::{AbdMsg, Owed, Server, Tagged};

@@ -1,5 +1,5 @@
 -- The first host that waits, one host after the other.
-use Rattle.std.proofs.Common.{ℕ, suc, ◌≡◌, ◌+◌, ◌-◌, ◌<◌, List, Option, None, Some, slice_index_or, ap, arith, ◌∙◌}
+use Rattle.std.proofs.Common.{ℕ, suc, ◌≡◌, ◌+◌, ◌-◌, ◌<◌, List, Option, None, slice_index_or, ap, arith}
 use Rattle.sim_hosts.specs.Waiting.{first_waiting}
 
 module _ {A : Type 0} (waiting : List (Option A)) (host hosts : ℕ) (below : host < hosts) where

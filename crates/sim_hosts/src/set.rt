@@ -36,7 +36,7 @@ impl HostSet {
     }
 
     /// How many hosts are in the set.
-    pub fn len(self) -> u32
+    pub fn size(self) -> u32
         ensures { result ≡ size self }
     {
         self.bits.count_ones()

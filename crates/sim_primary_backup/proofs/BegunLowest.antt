@@ -1,5 +1,5 @@
 -- The primary begins the put of the lowest host that waits.
-use Rattle.std.proofs.Common.{ℕ, ◌≡◌, Option, None, Some, slice_set}
+use Rattle.std.proofs.Common.{ℕ, ◌≡◌, None, Some, slice_set}
 use Rattle.sim_node.specs.declared.Setup.{Setup}
 use Rattle.sim_primary_backup.specs.declared.roles.Waiter.{Waiter}
 use Rattle.sim_primary_backup.specs.declared.roles.Primary.{Primary}

@@ -1,6 +1,6 @@
 -- Primary-backup: clients put values into cells at the primary, which is server 0, and it answers when all backups have them.
 -- A server speaks of what it has applied only when its disk has told that it is stable.
-use Rattle.std.specs.Prelude.{ℕ, ◌+◌, ◌*◌, ◌%◌, ◌==◌, nat_lt, nat_le, Bool, true, false, not, ◌&&◌, List, [], ◌∷◌, ◌++◌, map, replicate, slice_index, slice_set, Option, None, Some, if◌then◌else◌}
+use Rattle.std.specs.Prelude.{ℕ, ◌+◌, ◌*◌, ◌%◌, ◌==◌, nat_lt, nat_le, Bool, true, not, ◌&&◌, List, [], ◌∷◌, ◌++◌, map, replicate, slice_index, slice_set, Option, None, Some, if◌then◌else◌}
 use Rattle.sim_node.specs.declared.Setup.{Setup}
 use Rattle.sim_node.specs.declared.Input.{Input}
 use Rattle.sim_node.specs.declared.Input.TheVariants as input
@@ -9,10 +9,8 @@ use Rattle.sim_node.specs.Effects.{Effect}
 use Rattle.sim_node.specs.Node.{NodeLaws, is_server}
 use Rattle.sim_primary_backup.specs.declared.roles.BackupMsg.{BackupMsg}
 use Rattle.sim_primary_backup.specs.declared.roles.BackupMsg.TheVariants.{Put, Apply, Ack, Fin}
-use Rattle.sim_primary_backup.specs.declared.roles.Progress.{Progress}
 use Rattle.sim_primary_backup.specs.declared.roles.Store.{Store}
 use Rattle.sim_primary_backup.specs.declared.roles.Request.{Request}
-use Rattle.sim_primary_backup.specs.declared.roles.Waiter.{Waiter}
 use Rattle.sim_primary_backup.specs.declared.roles.Primary.{Primary}
 use Rattle.sim_primary_backup.specs.declared.roles.Role.{Role}
 use Rattle.sim_primary_backup.specs.declared.roles.Role.TheVariants as role

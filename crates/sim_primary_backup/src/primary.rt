@@ -1,7 +1,7 @@
 ghost use Rattle.std.specs.Prelude.{ℕ, ◌≡◌, ◌+◌, ◌<◌, ◌≤◌, ◌++◌, [], length, Some, IfSome, slice_set};
 ghost use Rattle.sim_node.specs.Node.{IsSetup, IsFrom};
 ghost use Rattle.sim_hosts.specs.Reactions.{asked_for};
-ghost use Rattle.sim_primary_backup.specs.PrimaryBackup.{primary_at_boot, started, begun, begun_lowest, is_of_another, put_by, fin_of, finished, acknowledged, acked, spread, primary_timer, settled, primary_synced, react_primary};
+ghost use Rattle.sim_primary_backup.specs.PrimaryBackup.{primary_at_boot, started, begun, begun_lowest, is_of_another, put_by, fin_of, acknowledged, acked, spread, primary_timer, settled, primary_synced, react_primary};
 ghost use Rattle.sim_primary_backup.specs.PrimaryBackupRecords.{IsPlacedPrimary, IsPlacedChanges, restored_cell, restored_slot, primary_before};
 
 use crate::{BackupMsg, Cell, Changes, Primary, Progress, Request, Slot, Store, Waiter};

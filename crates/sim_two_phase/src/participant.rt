@@ -1,8 +1,7 @@
-ghost use Rattle.std.specs.Prelude.{◌≡◌, ◌+◌, ◌<◌, ◌≤◌, ◌++◌, [], length};
-ghost use Rattle.sim_node.specs.Node.{IsSetup};
+ghost use Rattle.std.specs.Prelude.{◌≡◌, ◌+◌, ◌<◌, ◌++◌, [], length};
 ghost use Rattle.sim_hosts.specs.Reactions.{asked_for};
 ghost use Rattle.sim_hosts.specs.Numbers.{raised};
-ghost use Rattle.sim_two_phase.specs.TwoPhase.{is_prepared, byte_of_status, status_of_byte, status_of, outcome_of, participant_at_boot, forced_by_participant, inquires, passed_over, votes_yes, votes_no, has_stable_vote, prepares, learns, has_seen, decided, participant_synced, react_participant};
+ghost use Rattle.sim_two_phase.specs.TwoPhase.{is_prepared, byte_of_status, status_of_byte, participant_at_boot, forced_by_participant, inquires, passed_over, votes_yes, votes_no, has_stable_vote, prepares, learns, has_seen, decided, participant_synced, react_participant};
 
 use crate::disk::{first_of_byte, force, noted};
 use crate::{CommitMsg, First, Participant, Status};

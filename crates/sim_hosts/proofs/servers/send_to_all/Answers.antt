@@ -1,4 +1,4 @@
-use Rattle.std.proofs.Common.{◌∙◌, arith, ap, length, length-append}
+use Rattle.std.proofs.Common.{◌∙◌, arith, length-append}
 use Rattle.sim_hosts.proofs.ServerSteps.{to_all-step}
 use Rattle.sim_hosts.proofs.servers.send_to_all.Goals as goal
 

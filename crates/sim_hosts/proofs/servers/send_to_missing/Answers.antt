@@ -1,4 +1,4 @@
-use Rattle.std.proofs.Common.{◌≡◌, ◌∙◌, arith, ap, length, length-append, Bool, true, false}
+use Rattle.std.proofs.Common.{◌≡◌, ◌∙◌, arith, length-append, true, false}
 use Rattle.sim_hosts.specs.Hosts.{is_in}
 use Rattle.sim_hosts.proofs.ServerSteps.{missing-step, missing-skip}
 use Rattle.sim_hosts.proofs.servers.send_to_missing.Goals as goal

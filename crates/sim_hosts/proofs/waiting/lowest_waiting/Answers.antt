@@ -1,4 +1,4 @@
-use Rattle.std.proofs.Common.{◌≡◌, ◌∙◌, ◌<◌, length, None, arith}
+use Rattle.std.proofs.Common.{◌∙◌, ◌<◌, length, None, arith}
 use Rattle.std.proofs.lemmas.List.{get_or_default}
 use Rattle.sim_hosts.proofs.FirstWaiting.{first_waiting-skip}
 use Rattle.sim_hosts.proofs.waiting.lowest_waiting.Goals as goal
