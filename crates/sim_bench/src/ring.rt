@@ -3,7 +3,7 @@ ghost use Rattle.std.specs.Prelude.{◌≡◌, IfOk};
 
 use crate::mixed;
 use crate::world::{Cluster, EchoWorld, MOST_EVENTS, shown};
-use sim_protocols::Echo;
+use sim_echo::Echo;
 use sim_tally::Tally;
 use sim_world::{Event, NoMemory, Scenario, Undo};
 use std::alloc::Global;
