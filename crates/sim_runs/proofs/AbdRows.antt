@@ -1,5 +1,5 @@
 -- A run of the register, worked out: server a and client w with two operations, a write and a read.
-use Rattle.std.specs.Prelude.{◌≡◌, ℕ, [], ◌∷◌, Some, true, false, replicate}
+use Rattle.std.specs.Prelude.{◌≡◌, ◌∷◌, Some, true, replicate}
 use Rattle.std.proofs.Common.{refl}
 use Rattle.sim_world.specs.declared.Query.TheVariants as query
 use Rattle.sim_world.specs.declared.View.TheVariants as view

@@ -1,6 +1,6 @@
 -- What the worked runs of the protocols stand on: servers a and b and a client w with one operation are hosts 0, 1 and 2.
 -- Latencies are of 10 ms, nothing is lost, the seed is of zeros.
-use Rattle.std.specs.Prelude.{ℕ, ◌∷◌, [], List, Option, replicate, ⊤}
+use Rattle.std.specs.Prelude.{ℕ, ◌∷◌, List, Option, replicate, ⊤}
 use Rattle.std.specs.Option.{option_map}
 use Rattle.rand_core.specs.Steps.{u32_at}
 use Rattle.rand_chacha.specs.Block.{quarter_round, column_round, diagonal_round, double_rounds, block_word}

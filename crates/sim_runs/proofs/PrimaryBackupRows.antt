@@ -1,5 +1,5 @@
 -- Runs of primary-backup, worked out.
-use Rattle.std.specs.Prelude.{◌≡◌, ℕ, [], ◌∷◌, ◌++◌, Some, true, false}
+use Rattle.std.specs.Prelude.{◌≡◌, [], ◌∷◌, ◌++◌, Some, true, false}
 use Rattle.std.proofs.Common.{refl}
 use Rattle.sim_world.specs.declared.Event.TheVariants as event
 use Rattle.sim_world.specs.declared.Fault.TheVariants as fault

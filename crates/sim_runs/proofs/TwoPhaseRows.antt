@@ -1,13 +1,13 @@
 -- Runs of two-phase commit, worked out.
-use Rattle.std.specs.Prelude.{◌≡◌, ℕ, [], ◌∷◌, ◌++◌, List, Option, Some, true, false, replicate}
+use Rattle.std.specs.Prelude.{◌≡◌, [], ◌∷◌, ◌++◌, List, Some, true, false, replicate}
 use Rattle.std.specs.Option.{option_map}
 use Rattle.std.proofs.Common.{refl}
-use Rattle.sim_disk.specs.Disk.{Disk}
 use Rattle.sim_world.specs.declared.Event.{Event}
 use Rattle.sim_world.specs.declared.Event.TheVariants as event
 use Rattle.sim_world.specs.declared.Fault.TheVariants as fault
 use Rattle.sim_world.specs.declared.Query.TheVariants as query
 use Rattle.sim_world.specs.declared.View.TheVariants as view
+use Rattle.sim_world.specs.declared.Kind.TheVariants as kind
 use Rattle.sim_world.specs.World.{host_at}
 use Rattle.sim_world.specs.Events.{Rules, rules, run}
 use Rattle.sim_two_phase.specs.declared.roles.CommitMsg.{CommitMsg}
@@ -63,11 +63,26 @@ torn_participant : seen torn (torn_commit ++ steps 2) (query.Probe 1 1) ≡ Some
 unfolding on_rows
 torn_participant = refl
 
+-- the write of the commit is not stable when the coordinator crashes; then its disk has no other write
+unsynced_commit : seen torn (steps 8) (query.HostView 0) ≡ Some (view.HostView 0 true false 4 10 1)
+unfolding on_rows
+unsynced_commit = refl
+
+torn_disk : seen torn torn_commit (query.HostView 0) ≡ Some (view.HostView 0 true false 4 10 0)
+unfolding on_rows
+torn_disk = refl
+
+-- the coordinator tells the participant to commit
+torn_next : seen torn (torn_commit ++ steps 1) query.Next
+    ≡ Some (view.Next (Some (record { due = 50; serial = 15; host = 1; kind = kind.Message })))
+unfolding on_rows
+torn_next = refl
+
 -- a step before they agree still, since the participant has not learned of it
 torn_before : seen torn (torn_commit ++ steps 1) (query.Probe 1 1) ≡ Some (view.Probe 1 1 (Some 0))
 unfolding on_rows
 torn_before = refl
 
-torn_summary : option_map (λ w. w.clock) (run torn (torn_commit ++ steps 2)) ≡ Some 50
+torn_clock : option_map (λ w. w.clock) (run torn (torn_commit ++ steps 2)) ≡ Some 50
 unfolding on_rows
-torn_summary = refl
+torn_clock = refl
