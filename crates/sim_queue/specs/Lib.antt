@@ -1,3 +1,4 @@
 pub mod Pending
 pub mod Items
 pub mod Slots
+pub mod Store
