@@ -80,6 +80,7 @@ impl<M> Links<M> {
         requires to { b < 32 }
         ensures after { self.new ≡ with_link a b (changed change (link a b self.old)) self.old }
         ensures left { result.1.items ≡ let_go change (link a b self.old) }
+        ensures whole { length self.old ≡ 1024 }
         ensures undo { result.0 ≡ record { a = a; b = b; change = change; was = (link a b self.old).state } }
 
         // What an undo of it asks for, and that it leads back.
