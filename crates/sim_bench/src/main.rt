@@ -102,11 +102,7 @@ const MEASURES: [(&'static str, u32, Measure); 16] = [
         1_000_000,
         Measure::RingSteps(1_024),
     ),
-    (
-        "256 forward and back",
-        1_000_000,
-        Measure::RingUndos(256),
-    ),
+    ("256 forward and back", 1_000_000, Measure::RingUndos(256)),
     (
         "1024 forward and back",
         1_000_000,
