@@ -1,0 +1,171 @@
+//! The job that the words of a command line ask for.
+ghost use Rattle.std.specs.Prelude.{◌≡◌, ◌≢◌, ◌⊎◌, ℕ, codes, map, IfOk, MatchOption, MatchResult, Some, option_map};
+ghost use Rattle.clap.specs.Words.{first_of, found_of, kind_of, rows_of, subcommand_rows_of};
+ghost use Rattle.sim_job.specs.CommandLine.{Asks, HasFewWorkers, HasFlag, HasNumber, HasWorkers, IsFault, IsHelp, IsJobOf, IsUsage};
+
+use crate::Job;
+use crate::definition::program;
+use clap::error::ErrorKind;
+use clap::{ArgMatches, Error};
+use std::alloc::Global;
+use std::convert::AsStr;
+
+/// Why a command line asks for no job.
+#[derive(Debug, Drop)]
+pub enum LineFault {
+    /// Help or the version was asked for: its text.
+    Help(String),
+    /// The words are wrong: what is wrong, and how the program is called.
+    Usage(String),
+    NoMemory,
+}
+
+impl LineFault {
+    ghost use Rattle.sim_job.specs.Status.{status_of};
+
+    /// The exit status of the program: 0 for help, 2 for a mistake, and 4 where there was not enough memory.
+    pub fn status(&self) -> u8
+        ensures { result ≡ status_of self.now }
+    {
+        match self {
+            LineFault::Help(_) => 0,
+            LineFault::Usage(_) => 2,
+            LineFault::NoMemory => 4,
+        }
+    }
+}
+
+/// The number that an argument has, or none.
+fn number_of(matches: &ArgMatches<'_>, id: &str) -> Option<u64>
+    ensures { MatchOption result ((n : ℕ) → ¬ HasNumber id.now (rows_of (found_of matches.now)) n)
+        (HasNumber id.now (rows_of (found_of matches.now))) }
+{
+    matches.get_one::<u64>(id)
+}
+
+/// The word that an argument has, or none.
+fn word_of<'a>(matches: &ArgMatches<'a>, id: &str) -> Option<&'a str>
+    ensures { option_map (λ s. s.now) result ≡ first_of id.now (rows_of (found_of matches.now)) }
+{
+    matches.get_str(id)
+}
+
+/// How many workers there are to be, from 1 to 16, or none.
+fn workers_of(matches: &ArgMatches<'_>) -> Option<u64>
+    ensures { MatchOption result ((n : ℕ) → ¬ HasWorkers (rows_of (found_of matches.now)) n)
+        (HasWorkers (rows_of (found_of matches.now))) }
+{
+    let workers = number_of(matches, "workers")?;
+    if 1 <= workers && workers <= 16 {
+        Some(workers)
+    } else {
+        None
+    }
+}
+
+/// Whether the work is to tell how far it is.
+fn progress_of(matches: &ArgMatches<'_>) -> bool
+    ensures { HasFlag (codes "progress") (rows_of (found_of matches.now)) result }
+{
+    matches.get_flag("progress")
+}
+
+/// The search that is asked for, or none where a value is missing.
+fn search_of<'a>(matches: &ArgMatches<'a>) -> Option<Job<'a>>
+    ensures { MatchOption result ((asked : Job) → ¬ Asks (codes "search") (rows_of (found_of matches.now)) asked)
+        (Asks (codes "search") (rows_of (found_of matches.now))) }
+{
+    Some(Job::Search {
+        workers: workers_of(matches)?,
+        progress: progress_of(matches),
+        lo: number_of(matches, "lo")?,
+        hi: number_of(matches, "hi")?,
+        cond: word_of(matches, "cond")?,
+    })
+}
+
+/// The sweep that is asked for, or none where a value is missing.
+fn sweep_of<'a>(matches: &ArgMatches<'a>) -> Option<Job<'a>>
+    ensures { MatchOption result ((asked : Job) → ¬ Asks (codes "sweep") (rows_of (found_of matches.now)) asked)
+        (Asks (codes "sweep") (rows_of (found_of matches.now))) }
+{
+    Some(Job::Sweep {
+        workers: workers_of(matches)?,
+        progress: progress_of(matches),
+        first: number_of(matches, "first")?,
+        count: number_of(matches, "count")?,
+        events: number_of(matches, "events")?,
+        cond: word_of(matches, "cond")?,
+    })
+}
+
+/// The job of a subcommand, or none where a value is missing.
+fn asked_by<'a>(name: &str, matches: &ArgMatches<'a>) -> Option<Job<'a>>
+    ensures { MatchOption result ((asked : Job) → ¬ Asks name.now (rows_of (found_of matches.now)) asked)
+        (Asks name.now (rows_of (found_of matches.now))) }
+{
+    match name {
+        "play" => Some(Job::Play),
+        "search" => search_of(matches),
+        "sweep" => sweep_of(matches),
+        _ => None,
+    }
+}
+
+/// The job of the matches, or none where a value is missing.
+fn asked_in<'a>(matches: &ArgMatches<'a>) -> Option<Job<'a>>
+    ensures { MatchOption result
+        ((name : _) (rows : _) (asked : Job) → subcommand_rows_of matches.now ≡ Some (name, rows) → ¬ Asks name rows asked)
+        (λ asked. (name : _) × (rows : _) × (subcommand_rows_of matches.now ≡ Some (name, rows)) × Asks name rows asked) }
+{
+    let (name, found) = matches.subcommand()?;
+    asked_by(name, found)
+}
+
+/// What a fault of clap's is here.
+fn line_fault(alloc: Global, error: &Error) -> LineFault
+    ensures help { IsHelp result → (kind_of error.now ≡ ErrorKind.DisplayHelp) ⊎ (kind_of error.now ≡ ErrorKind.DisplayVersion) }
+    ensures usage { IsUsage result → (kind_of error.now ≢ ErrorKind.OutOfMemory) × (kind_of error.now ≢ ErrorKind.DisplayHelp)
+        × (kind_of error.now ≢ ErrorKind.DisplayVersion) }
+{
+    if error.kind() == ErrorKind::OutOfMemory {
+        return LineFault::NoMemory;
+    }
+    match format!(in alloc; "{error}") {
+        Ok(text) => {
+            if error.use_stderr() {
+                LineFault::Usage(text)
+            } else {
+                LineFault::Help(text)
+            }
+        }
+        Err(_) => LineFault::NoMemory,
+    }
+}
+
+/// What is told where clap takes the words and yet a value is missing.
+fn missing_value(alloc: Global) -> LineFault
+    ensures { ¬ IsHelp result }
+{
+    match String::from_str(alloc, "error: a value is missing\n") {
+        Ok(text) => LineFault::Usage(text),
+        Err(_) => LineFault::NoMemory,
+    }
+}
+
+/// The job that the words of a command line ask for, the first of which names the program.
+pub fn job<'a, S: AsStr>(alloc: Global, words: &'a [S]) -> Result<Job<'a>, LineFault>
+    ensures answer { MatchResult result (IsJobOf (map S.text words.entry.now)) (IsFault (map S.text words.entry.now)) }
+    ensures workers { IfOk result HasFewWorkers }
+{
+    let Ok(command) = program(alloc) else {
+        return Err(LineFault::NoMemory);
+    };
+    match command.try_get_matches_from(words) {
+        Ok(matches) => match asked_in(&matches) {
+            Some(asked) => Ok(asked),
+            None => Err(missing_value(alloc)),
+        },
+        Err(error) => Err(line_fault(alloc, &error)),
+    }
+}
