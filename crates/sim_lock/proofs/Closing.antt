@@ -1,14 +1,14 @@
 -- What the closed table holds, once one seat has taken in all.
-use Rattle.std.proofs.Common.{◌≡◌, ◌≢◌, ℕ, ◌-◌, ◌<◌, List, [], ◌∷◌, ◌++◌, Option, Some, None, length, get_or, refl, sym, ap, ◌∙◌, subst, arith}
+use Rattle.std.proofs.Common.{◌≡◌, ◌≢◌, ℕ, ◌-◌, List, [], Option, Some, None, length, sym, ap, ◌∙◌, subst}
 use Rattle.std.specs.Prelude.{All, slice_get}
 use mathlib.Core.Option.{some, some-injective}
 use lib.ListN.{get_elem?}
-use Rattle.atomic_table.specs.Table.{State, Final, Seen}
+use Rattle.atomic_table.specs.Table.{Final, Seen}
 use Rattle.sim_lock.specs.declared.kept.Kept.{Ghosts}
 use Rattle.sim_lock.specs.declared.seat.Seat.{Seat}
 use Rattle.sim_lock.specs.declared.rule.Part.{Part}
 use Rattle.sim_lock.specs.Entries.{of_session, Begins, HasEntry}
-use Rattle.sim_lock.specs.Rule.{total, has, Keeps}
+use Rattle.sim_lock.specs.Rule.{Keeps}
 use Rattle.sim_lock.specs.Seats.{session, mine, seen, gathered}
 use Rattle.sim_lock.proofs.Ends.{closes}
 use Rattle.sim_lock.proofs.Gathering.{gathered_long, gathered_idle, gathered_apart, gathered_fits}

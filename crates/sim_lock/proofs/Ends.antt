@@ -1,15 +1,15 @@
 -- The rule as the table opens, and what it says as the table closes.
-use Rattle.std.proofs.Common.{◌≡◌, ◌≢◌, ◌⊎◌, ℕ, zero, suc, ◌+◌, ◌-◌, ◌<◌, ◌≤◌, Bool, true, false, true≢false, cond, List, [], ◌∷◌, ◌++◌, length, get_or, set, Option, Some, None, refl, sym, ap, ◌∙◌, subst, ⊎_elim, arith, eq-eqb, ne_eqb, eqb, length-append}
-use Rattle.std.specs.Prelude.{◌==◌, slice_index}
+use Rattle.std.proofs.Common.{◌≡◌, ◌≢◌, ℕ, zero, suc, ◌+◌, ◌-◌, ◌<◌, ◌≤◌, false, true≢false, cond, List, [], ◌∷◌, length, Option, Some, refl, sym, ap, ◌∙◌, subst, arith, eq-eqb, ne_eqb}
+use Rattle.std.specs.Prelude.{slice_index}
 use mathlib.Core.Logic.{dite}
 use mathlib.Core.Option.{some, some-ne-none, some-injective}
 use native.Mathlib.Decide.{ℕ_discrete, dec_le}
 use lib.ListN.{get_elem?}
 use Rattle.atomic_table.specs.Table.{State, opening}
 use Rattle.sim_lock.specs.declared.rule.Part.{Part}
-use Rattle.sim_lock.specs.Entries.{of_session, Begins}
+use Rattle.sim_lock.specs.Entries.{of_session}
 use Rattle.sim_lock.specs.Rule.{total, Each, part, fresh, sits, has, Fits, Keeps, first_of, rest_of}
-use Rattle.sim_lock.proofs.Lists.{total_at, total_two}
+use Rattle.sim_lock.proofs.Lists.{total_two}
 
 module _ {C E : Type 0} (whose : E → ℕ) where
   fresh_fits : (c : C) (word from count : ℕ) → Each (Fits whose c [] word) (fresh {E = E} c from count)

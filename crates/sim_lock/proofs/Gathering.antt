@@ -1,7 +1,7 @@
 -- What is known once all seats are one.
-use Rattle.std.proofs.Common.{◌≡◌, ◌≢◌, ℕ, zero, suc, ◌+◌, ◌<◌, ◌≤◌, List, [], ◌∷◌, ◌++◌, false, cond, length, get_or, refl, sym, ap, ◌∙◌, subst, arith, length-append, ne_eqb}
+use Rattle.std.proofs.Common.{◌≡◌, ◌≢◌, ℕ, zero, suc, ◌<◌, List, [], ◌∷◌, ◌++◌, false, cond, length, get_or, refl, ap, ◌∙◌, subst, arith, length-append, ne_eqb}
 use Rattle.std.proofs.lemmas.List.{get_or_at}
-use Rattle.std.specs.Prelude.{slice_index_or, All}
+use Rattle.std.specs.Prelude.{All}
 use Rattle.sim_lock.specs.declared.kept.Kept.{Ghosts}
 use Rattle.sim_lock.specs.declared.seat.Seat.{Seat}
 use Rattle.sim_lock.specs.declared.rule.Part.{Part}

@@ -1,13 +1,11 @@
 -- New seats.
-use Rattle.std.proofs.Common.{◌≡◌, ℕ, ◌+◌, ◌<◌, ◌≤◌, List, [], ◌∷◌, ◌++◌, false, length, get_or, refl, sym, ap, ◌∙◌, subst, arith, length-append}
+use Rattle.std.proofs.Common.{◌≡◌, ℕ, ◌<◌, List, [], ◌∷◌, ◌++◌, false, length, refl, sym, ap, subst, arith, length-append}
 use Rattle.std.proofs.lemmas.List.{get_or_append_left, get_or_push}
-use Rattle.std.specs.Prelude.{slice_index_or}
 use mathlib.Core.Logic.{dite}
 use native.Mathlib.Decide.{ℕ_discrete}
 use Rattle.sim_lock.specs.declared.kept.Kept.{Ghosts}
 use Rattle.sim_lock.specs.declared.seat.Seat.{Seat}
 use Rattle.sim_lock.specs.declared.seat.Lock.{Lock}
-use Rattle.sim_lock.specs.declared.rule.Part.{Part}
 use Rattle.sim_lock.specs.Rule.{part, session_in, mine_in, seen_in, ScenarioIs}
 use Rattle.sim_lock.specs.Seats.{IsNew, AreNew}
 

@@ -1,17 +1,17 @@
 -- Each step of the table keeps its rule.
-use Rattle.std.proofs.Common.{◌≡◌, ◌≢◌, ◌⊎◌, ℕ, zero, suc, ◌+◌, ◌<◌, ◌≤◌, Bool, true, false, true≢false, cond, List, [], ◌∷◌, ◌++◌, length, get_or, set, Option, Some, None, refl, sym, ap, ◌∙◌, subst, ⊎_elim, arith, append_assoc, append-nil, eq-eqb, ne_eqb, eqb, length-set, length-append, get_or-set_same}
+use Rattle.std.proofs.Common.{◌≡◌, ◌≢◌, ℕ, suc, ◌+◌, ◌<◌, ◌≤◌, true, false, true≢false, cond, List, [], ◌∷◌, ◌++◌, length, set, Option, Some, None, refl, sym, ap, ◌∙◌, subst, ⊎_elim, arith, append-nil, eq-eqb, length-set, length-append, get_or-set_same}
 use Rattle.std.proofs.lemmas.List.{set-get_or}
 use Rattle.std.specs.Prelude.{◌==◌, slice_index, slice_set}
 use mathlib.Core.Logic.{dite}
 use mathlib.Core.Option.{some, none}
-use native.Mathlib.Decide.{ℕ_discrete, dec_le}
+use native.Mathlib.Decide.{dec_le}
 use prog.Atomic.{either}
 use lib.ListN.{get_elem?}
 use Rattle.atomic_table.specs.Table.{State, Me, Step, step, Act, keeps, takes, gives, stepped, Valid, carried_after, Allows, Splits, Joins}
 use Rattle.atomic_table.proofs.Lists.{at_set, set_here, set_again, exchanged}
 use Rattle.sim_lock.specs.declared.rule.Part.{Part}
 use Rattle.sim_lock.specs.Entries.{of_session, Begins, Grows}
-use Rattle.sim_lock.specs.Rule.{total, Each, part, sits, has, Fits, Keeps, session_in, mine_in, seen_in, holds_in, ScenarioIs, took, gave, first_of, rest_of, Takes, Gives}
+use Rattle.sim_lock.specs.Rule.{total, Each, sits, has, Fits, Keeps, session_in, seen_in, holds_in, ScenarioIs, took, gave, first_of, rest_of, Takes, Gives}
 use Rattle.sim_lock.proofs.Lists.{total_set, total_append, total_at, total_two, each_map, each_append, held_set, held_more}
 use Rattle.sim_lock.proofs.Histories.{begins_self, begins_more, of_append}
 

@@ -36,11 +36,7 @@ pub trait Kept {
         ensures { result ≡ number_of entry.now };
 
     /// Carries out a session's command, and gives its entry.
-    fn turn(
-        &mut self,
-        session: u8,
-        command: Self::Command,
-    ) -> Result<Self::Entry, Self::NotTaken>
+    fn turn(&mut self, session: u8, command: Self::Command) -> Result<Self::Entry, Self::NotTaken>
         ensures scenario { scenario self.new ≡ scenario self.old }
         ensures asked { IfOk result (λ e. (session_of e ≡ session) × (command_of e ≡ command)) }
         ensures number { IfOk result (λ e. number_of e ≡ length (of_session session_of session (entries self.old)) + 1) }

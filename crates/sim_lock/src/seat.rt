@@ -11,7 +11,13 @@ use std::collections::LinkedList;
 /// A value that sessions share.
 #[derive(Drop)]
 pub struct Lock<B: Kept> {
-    pub(crate) table: Table<Option<B>, LinkedList<Part<B::Scenario, B::Entry>>, About<B>, Law<B>, Global>,
+    pub(crate) table: Table<
+        Option<B>,
+        LinkedList<Part<B::Scenario, B::Entry>>,
+        About<B>,
+        Law<B>,
+        Global,
+    >,
     pub(crate) sessions: u8,
     ghost sized: { (table.shared.table_id.words ≡ 1) × (table.shared.table_id.slots ≡ 1) },
     ghost some: { 0 < sessions },

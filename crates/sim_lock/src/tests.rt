@@ -73,8 +73,11 @@ fn place_after(place: u32, ask: Ask) -> Option<u32> {
 
 impl Kept for Plain {
     type Scenario = u64;
+
     type Command = Ask;
+
     type Entry = Note;
+
     type NotTaken = Full;
 
     ghost scenario = { λ p. p.scenario };
@@ -241,7 +244,12 @@ fn two_sessions(rt: HostRuntime) -> Result<(), Fail> {
     assert_eq!(rt; zeros.len(), 12);
     assert_eq!(rt; ones.len(), 100);
     let places = [1, 1, 2, 2, 3, 3, 4, 4, 5, 5, 6, 6];
-    assert!(rt; zeros.iter().map(|e| e.place).eq(places.iter().map(|p| Some(*p))));
+    assert!(rt;
+        zeros
+            .iter()
+            .map(|e| e.place)
+            .eq(places.iter().map(|p| Some(*p)))
+    );
     assert!(rt; find_all(&history, &zeros));
     assert!(rt; find_all(&history, &ones));
     Ok(())

@@ -1,4 +1,4 @@
-use Rattle.std.proofs.Common.{◌≡◌, [], ◌∷◌, ◌++◌, ap, ◌∙◌}
+use Rattle.std.proofs.Common.{[], ◌∷◌, ◌++◌, ap, ◌∙◌}
 use Rattle.std.specs.Prelude.{All}
 use Rattle.sim_lock.specs.declared.tests.Note.{Note}
 use Rattle.sim_lock.specs.Entries.{HasEntry}

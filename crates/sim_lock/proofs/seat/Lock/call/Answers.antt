@@ -1,5 +1,5 @@
-use Rattle.std.proofs.Common.{rules, ◌≡◌, ◌+◌, length, sym, ap, subst, ◌∙◌}
-use Rattle.std.specs.Prelude.{IfOk, IfErr}
+use Rattle.std.proofs.Common.{◌≡◌, ap, subst, ◌∙◌}
+use Rattle.std.specs.Prelude.{IfOk}
 use Rattle.sim_lock.proofs.Histories.{Turned, grows_taken, called, asked_of}
 use Rattle.sim_lock.proofs.seat.Lock.call.Goals as goal
 

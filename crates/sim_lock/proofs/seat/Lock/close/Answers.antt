@@ -1,4 +1,4 @@
-use Rattle.std.proofs.Common.{rules, ◌≡◌, length, sym, ap, subst, ◌∙◌}
+use Rattle.std.proofs.Common.{rules, ◌≡◌, length, ap, subst}
 use Rattle.std.specs.Slots.{slots_items}
 use Rattle.sim_lock.specs.Seats.{told}
 use Rattle.sim_lock.proofs.Closing.{ends, is_the_book, not_none, IsEnd, has_receipt}

@@ -1,5 +1,5 @@
-use Rattle.std.proofs.Common.{rules, ◌≡◌, ◌+◌, ◌-◌, refl, length, [], ◌∷◌, ◌++◌, Some, sym, ap, subst, ◌∙◌}
-use Rattle.sim_lock.specs.Rule.{part, fresh, first_of, rest_of, session_in, holds_in, mine_in, seen_in, ScenarioIs}
+use Rattle.std.proofs.Common.{rules, refl, length, sym, ap, subst, ◌∙◌}
+use Rattle.sim_lock.specs.Rule.{first_of, rest_of, session_in, holds_in, mine_in, seen_in, ScenarioIs}
 use Rattle.sim_lock.specs.Seats.{told}
 use Rattle.sim_lock.proofs.Ends.{fresh_rest, fresh_first}
 use Rattle.sim_lock.proofs.Steps.{cuts}

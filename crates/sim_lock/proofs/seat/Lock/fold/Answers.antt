@@ -1,6 +1,5 @@
-use Rattle.std.proofs.Common.{rules, ◌≡◌, ℕ, List, [], ◌∷◌, ◌++◌, length, Some, sym, ap, subst, ◌∙◌, arith, append_assoc}
-use Rattle.sim_lock.specs.declared.seat.Seat.{Seat}
-use Rattle.sim_lock.specs.Seats.{gathered, IsOf}
+use Rattle.std.proofs.Common.{rules, [], ◌∷◌, ◌++◌, ap, ◌∙◌, append_assoc}
+use Rattle.sim_lock.specs.Seats.{IsOf}
 use Rattle.sim_lock.proofs.Steps.{joins}
 use Rattle.sim_lock.proofs.Gathering.{all_at}
 use Rattle.sim_lock.proofs.seat.Lock.fold.Goals as goal

@@ -1,8 +1,8 @@
-use Rattle.std.proofs.Common.{rules, ◌≡◌, ◌+◌, ◌-◌, ◌++◌, ◌∷◌, [], length, Some, sym, ap, subst, ◌∙◌}
-use Rattle.std.specs.Prelude.{IfOk, IfErr, slice_get}
+use Rattle.std.proofs.Common.{◌≡◌, ◌-◌, ◌++◌, ◌∷◌, [], length, Some, ap, subst, ◌∙◌}
+use Rattle.std.specs.Prelude.{IfOk, slice_get}
 use Rattle.sim_lock.specs.Entries.{EndsWith}
-use Rattle.sim_lock.specs.Rule.{session_in, mine_in, seen_in, ScenarioIs}
-use Rattle.sim_lock.proofs.Histories.{Turned, Receives, grows_taken, called, entry_of, asked_of, turned_more, gives_told, ok_more, err_more, on_err_more}
+use Rattle.sim_lock.specs.Rule.{session_in, mine_in, seen_in}
+use Rattle.sim_lock.proofs.Histories.{Turned, grows_taken, called, entry_of, turned_more, gives_told, ok_more, err_more, on_err_more}
 use Rattle.sim_lock.proofs.seat.Lock.freeze.Goals as goal
 
 pub give-requires-clause-grows : goal.give-requires-clause-grows

@@ -1,4 +1,4 @@
-use Rattle.std.proofs.Common.{◌≡◌, ℕ, true, length, Some, List, [], ◌∷◌, Option, rules, sym, ap, subst, ◌∙◌}
+use Rattle.std.proofs.Common.{length, Some, ◌∷◌, rules, sym, ap, subst, ◌∙◌}
 use Rattle.atomic_table.specs.Table.{rest}
 use Rattle.sim_lock.specs.Entries.{Grows}
 use Rattle.sim_lock.specs.Rule.{session_in, seen_in, holds_in, ScenarioIs}

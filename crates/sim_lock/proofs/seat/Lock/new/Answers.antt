@@ -1,5 +1,4 @@
-use Rattle.std.proofs.Common.{rules, ◌≡◌, ◌+◌, ◌-◌, refl, length, [], ◌∷◌, ◌++◌, Some, sym, ap, subst, ◌∙◌, arith, length-append}
-use Rattle.sim_lock.specs.Rule.{part, fresh}
+use Rattle.std.proofs.Common.{length, [], ◌∷◌, sym, ap, subst, arith, length-append}
 use Rattle.sim_lock.specs.Seats.{told, IsNew, AreNew}
 use Rattle.sim_lock.proofs.Sitting.{are_new_push}
 use Rattle.sim_lock.proofs.seat.Lock.new.Goals as goal

@@ -1,4 +1,4 @@
-use Rattle.std.proofs.Common.{rules, ◌≡◌, [], ◌∷◌, ◌++◌, Some, sym, ap, subst, ◌∙◌}
+use Rattle.std.proofs.Common.{rules, sym, ap}
 use Rattle.sim_lock.proofs.Ends.{opens_at}
 use Rattle.sim_lock.proofs.seat.Lock.open.Goals as goal
 
