@@ -3,9 +3,9 @@ ghost use Rattle.sim_links.specs.Ways.{IsWay};
 ghost use Rattle.sim_node.specs.Node.{IsSetup};
 
 use crate::mixed;
+use sim_echo::Echo;
 use sim_links::{Way, Ways};
 use sim_node::Setup;
-use sim_echo::Echo;
 use sim_tally::Tally;
 use sim_world::{Event, NoMemory, Query, Scenario, View, World};
 use std::alloc::Global;
