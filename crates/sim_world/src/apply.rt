@@ -4,7 +4,7 @@ ghost use Rattle.std.specs.List.{count_by};
 ghost use Rattle.sim_queue.specs.Pending.{first};
 ghost use Rattle.sim_world.specs.World.{at_time};
 ghost use Rattle.sim_world.specs.Events.{rules, after, next, refusal_of, stepped};
-ghost use Rattle.sim_world.specs.Acts.{acts, turns_of};
+ghost use Rattle.sim_world.specs.Acts.{acts, turns_of, turned_by};
 ghost use Rattle.sim_world.specs.Clock.{clock_after};
 ghost use Rattle.sim_world.specs.Memory.{is_for_stopped};
 ghost use Rattle.sim_world.specs.Index.{IsIndex, first_host, stopped_host, changing_host, LeadsBack};
@@ -99,7 +99,7 @@ impl<N: Node> Parts<N> {
         ensures acted { IfOk result (λ t. count_by is_reaction t.items ≡ 0) }
         ensures lawful { OnOk result (IsLawfulEvent N.told (rules N.laws N.PROBES sc.now) (Event.Fault fault) self.old.world) }
         ensures index { OnOk result (IsIndex index.new self.new.world) }
-        ensures work { OnOk result (N.Meter.work meter.new ≡ record (N.Meter.work meter.old) { turns = (N.Meter.work meter.old).turns + turns_of self.old.world (Event.Fault fault) }) }
+        ensures work { OnOk result (N.Meter.work meter.new ≡ turned_by (turns_of self.old.world (Event.Fault fault)) (N.Meter.work meter.old)) }
     {
         let mut trail = Trail::over(spare);
         self.fault(alloc, sc, index, &mut trail, fault, meter)?;
@@ -129,7 +129,7 @@ impl<N: Node> Parts<N> {
         ensures lawful { OnOk result (IsLawfulEvent N.told (rules N.laws N.PROBES sc.now) event self.old.world) }
         ensures index { OnOk result (IsIndex index.new self.new.world) }
         ensures spent { OnOk result (effects.new ≡ effects.old) }
-        ensures work { OnOk result (N.Meter.work meter.new ≡ record (N.Meter.work meter.old) { turns = (N.Meter.work meter.old).turns + turns_of self.old.world event }) }
+        ensures work { OnOk result (N.Meter.work meter.new ≡ turned_by (turns_of self.old.world event) (N.Meter.work meter.old)) }
     {
         match event {
             Event::Step => {
@@ -184,7 +184,7 @@ impl<N: Node> Cluster<N> {
         ensures stopped { IsTrue (is_for_stopped event self.old.parts.world) → IsOk result }
         ensures leads { IfOk result (λ undo. LeadsBack N.told N.records undo (in_hand self.new)) }
         ensures acted { IfOk result (λ undo. count_by is_reaction undo.changes ≡ (if acts self.old.parts.world event then 1 else 0)) }
-        ensures work { OnOk result (N.Meter.work meter.new ≡ record (N.Meter.work meter.old) { turns = (N.Meter.work meter.old).turns + turns_of self.old.parts.world event }) }
+        ensures work { OnOk result (N.Meter.work meter.new ≡ turned_by (turns_of self.old.parts.world event) (N.Meter.work meter.old)) }
     {
         let host = self.parts.changing_host(event);
         let kept = self.index.beside(host);
@@ -250,7 +250,7 @@ impl<N: Node> World<N> {
         ensures age { IfOk result (λ r. r.0.age ≡ self.age + 1) }
         ensures leads { IfOk result (λ r. LeadsBack N.told N.records r.1 r.0) }
         ensures acted { IfOk result (λ r. count_by is_reaction r.1.changes ≡ (if acts self.world event then 1 else 0)) }
-        ensures work { OnOk result (N.Meter.work meter.new ≡ record (N.Meter.work meter.old) { turns = (N.Meter.work meter.old).turns + turns_of self.world event }) }
+        ensures work { OnOk result (N.Meter.work meter.new ≡ turned_by (turns_of self.world event) (N.Meter.work meter.old)) }
     {
         let World { mut cluster } = self;
         let undo = cluster.apply(alloc, event, meter)?;
