@@ -25,9 +25,15 @@ fn a_message_beyond_4096_is_dropped(rt: HostRuntime) -> Result<(), Fail> {
     let world = stepped(&rt, alloc, world, &[0, 0], &mut meter)?;
     let world = faulted(alloc, world, Fault::Hold(0, 1), &mut meter)?;
     let world = started_anew(alloc, world, 4_095, &mut meter)?;
-    assert_eq!(rt; world.look(Query::Summary), summary(0, 4_098, 2, 0, 1, 4_095));
+    assert_eq!(rt;
+        world.look(Query::Summary),
+        summary(0, 4_098, 2, 0, 1, 4_095)
+    );
     let world = started_anew(alloc, world, 1, &mut meter)?;
-    assert_eq!(rt; world.look(Query::Summary), summary(0, 4_099, 2, 0, 1, 4_095));
+    assert_eq!(rt;
+        world.look(Query::Summary),
+        summary(0, 4_099, 2, 0, 1, 4_095)
+    );
     Ok(())
 }
 
