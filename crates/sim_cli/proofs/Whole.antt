@@ -15,7 +15,7 @@ use Rattle.sim_cli.specs.declared.status.Status.TheVariants.{Well, BadScenario, 
 use Rattle.sim_cli.specs.Script.{Text, Names}
 use Rattle.sim_cli.specs.Lines.{fault_line}
 use Rattle.sim_cli.specs.Turns.{Course, beginning}
-use Rattle.sim_cli.specs.Play.{Tells, TellsLines, Ended, Plays, Played, TellsAll, TellsWhole, out_of, read_scenario, names_of}
+use Rattle.sim_cli.specs.Play.{Nodes, Tells, TellsLines, Ended, Plays, Played, TellsAll, TellsWhole, out_of, read_scenario, names_of}
 use Rattle.sim_cli.specs.Answers.{Writes, Faults}
 use Rattle.sim_cli.proofs.Readings.{too_long}
 use Rattle.sim_cli.proofs.Runs.{known, at_end_of, rest_of, tells_lines}
@@ -106,32 +106,32 @@ nothing_left (x ∷ ahead) (Some xs) h = cc
 pub fault_of_given : (given text shown line : Text) → shown ≡ text → read_scenario (head_of given).0 ≡ read_scenario text → Faults shown line → Faults (head_of given).0 line
 fault_of_given given text shown line a e f = record { fault = f.fault; read = e ∙ ap read_scenario (sym a) ∙ f.read; told = f.told }
 
-module _ {State Msg : Type 0} (rules_of : ScenarioText → Rules State Msg) where
+module _ (nodes_of : ScenarioText → Nodes) where
   -- the answers to the lines of a script are what is written for all
   all_tells : (given written : Text) (scenario : ScenarioText) → read_scenario (head_of given).0 ≡ Ok scenario →
-      TellsLines (rules_of scenario) (names_of scenario) beginning (lines (head_of given).1) written → TellsAll rules_of given written
+      TellsLines (nodes_of scenario).rules (names_of nodes_of scenario) beginning (lines (head_of given).1) written → TellsAll nodes_of given written
   all_tells given written scenario e t = record {
     texts = t.texts;
     tells = matches_ok (read_scenario (head_of given).0) scenario
-        (λ s. Tells (rules_of s) (names_of s) beginning (lines (head_of given).1) t.texts written) (λ f. written ≡ fault_line f) e t.tells;
-    plain = λ n. t.tells.plain n ∙ ap (λ s. out_of rules_of s (lines (head_of given).1)) (sym e);
+        (λ s. Tells (nodes_of s).rules (names_of nodes_of s) beginning (lines (head_of given).1) t.texts written) (λ f. written ≡ fault_line f) e t.tells;
+    plain = λ n. t.tells.plain n ∙ ap (λ s. out_of nodes_of s (lines (head_of given).1)) (sym e);
   }
 
   -- so is the line of a fault
-  fault_tells : (given written : Text) (fault : Fault) → read_scenario (head_of given).0 ≡ Err fault → written ≡ fault_line fault → TellsAll rules_of given written
+  fault_tells : (given written : Text) (fault : Fault) → read_scenario (head_of given).0 ≡ Err fault → written ≡ fault_line fault → TellsAll nodes_of given written
   fault_tells given written fault e w = record {
     texts = [];
     tells = matches_err (read_scenario (head_of given).0) fault _ written e w;
-    plain = λ n. w ∙ ap (λ s. out_of rules_of s (lines (head_of given).1)) (sym e);
+    plain = λ n. w ∙ ap (λ s. out_of nodes_of s (lines (head_of given).1)) (sym e);
   }
 
   no_lines : (s : Result ScenarioText Fault) (ls : List Text) → ls ≡ [] →
-      MatchResult s (λ scenario. TellsLines (rules_of scenario) (names_of scenario) beginning ls []) (λ _. ◌≡◌ {A = Text} [] [])
-  no_lines (Ok scenario) ls e = rw e (tells_lines (rules_of scenario) (names_of scenario) beginning beginning [] [] [] refl refl)
+      MatchResult s (λ scenario. TellsLines (nodes_of scenario).rules (names_of nodes_of scenario) beginning ls []) (λ _. ◌≡◌ {A = Text} [] [])
+  no_lines (Ok scenario) ls e = rw e (tells_lines (nodes_of scenario).rules (names_of nodes_of scenario) beginning beginning [] [] [] refl refl)
   no_lines (Err fault) ls e = refl
 
   -- the reader failed before there was a scenario
-  pub fails_in_head : (given : Text) (new left held : Option Text) → HasNoMarker (Some given) new → Ended held held (Played rules_of given left ReaderFailed)
+  pub fails_in_head : (given : Text) (new left held : Option Text) → HasNoMarker (Some given) new → Ended held held (Played nodes_of given left ReaderFailed)
   fails_in_head given new left held h =
       let k = known given h.taken new h.consumed in
       record {
@@ -140,21 +140,21 @@ module _ {State Msg : Type 0} (rules_of : ScenarioText → Rules State Msg) wher
         is = record { read = h.taken; rest = k.0; front = k.2; tells = no_lines (read_scenario (head_of h.taken).0) (whole_lines (head_of h.taken).1) (ap whole_lines h.none) };
       }
 
-  some_text : (given : Text) (s : Result ScenarioText Fault) → read_scenario (head_of given).0 ≡ s → (text : Text) × TellsAll rules_of given text
+  some_text : (given : Text) (s : Result ScenarioText Fault) → read_scenario (head_of given).0 ≡ s → (text : Text) × TellsAll nodes_of given text
   some_text given (Ok scenario) e =
-      let rest = rest_of (rules_of scenario) (names_of scenario) beginning (lines (head_of given).1) in
-      (_, all_tells given _ scenario e (tells_lines (rules_of scenario) (names_of scenario) beginning rest.last (lines (head_of given).1) rest.texts _ rest.run refl))
+      let rest = rest_of (nodes_of scenario).rules (names_of nodes_of scenario) beginning (lines (head_of given).1) in
+      (_, all_tells given _ scenario e (tells_lines (nodes_of scenario).rules (names_of nodes_of scenario) beginning rest.last (lines (head_of given).1) rest.texts _ rest.run refl))
   some_text given (Err fault) e = (fault_line fault, fault_tells given (fault_line fault) fault e refl)
 
   -- memory was wanted before anything was written
-  pub wants_first : (given : Text) (left held holds : Option Text) → Appends held holds [] → Ended held holds (Played rules_of given left MemoryWanted)
+  pub wants_first : (given : Text) (left held holds : Option Text) → Appends held holds [] → Ended held holds (Played nodes_of given left MemoryWanted)
   wants_first given left held holds a =
       let t = some_text given (read_scenario (head_of given).0) refl in
       record { written = []; appended = a; is = record { more = t.0; tells = t.1 } }
 
   -- a bad scenario
   pub told_fault : (given : Text) (left held holds : Option Text) (line : Text) (f : Faults (head_of given).0 line) → Writes held holds line ends.Well →
-      Ended held holds (Played rules_of given left BadScenario)
+      Ended held holds (Played nodes_of given left BadScenario)
   told_fault given left held holds line f a = record {
     written = line;
     appended = a;
@@ -162,7 +162,7 @@ module _ {State Msg : Type 0} (rules_of : ScenarioText → Rules State Msg) wher
   }
 
   pub told_part : (given : Text) (left held holds : Option Text) (line : Text) (f : Faults (head_of given).0 line) → Writes held holds line ends.WriterFailed →
-      Ended held holds (Played rules_of given left WriterFailed)
+      Ended held holds (Played nodes_of given left WriterFailed)
   told_part given left held holds line f a = record {
     written = a.0;
     appended = a.3;
@@ -173,23 +173,23 @@ module _ {State Msg : Type 0} (rules_of : ScenarioText → Rules State Msg) wher
     the_scenario : read_scenario (head_of given).0 ≡ Ok scenario
     the_scenario = ap (λ (p : Text × Text). read_scenario p.0) (whole_cut given text new h) ∙ e
 
-    all_told : (written : Text) → TellsLines (rules_of scenario) (names_of scenario) beginning (lines h.script) written → TellsAll rules_of given written
+    all_told : (written : Text) → TellsLines (nodes_of scenario).rules (names_of nodes_of scenario) beginning (lines h.script) written → TellsAll nodes_of given written
     all_told written t =
         let script : (head_of given).1 ≡ h.script = ap (λ (p : Text × Text). p.1) (whole_cut given text new h) in
         all_tells given written scenario the_scenario (rw script t)
 
-    some_told : (read rest written : Text) → h.script ≡ read ++ rest → TellsLines (rules_of scenario) (names_of scenario) beginning (whole_lines read) written →
-        TellsWhole rules_of (h.taken ++ read) written
+    some_told : (read rest written : Text) → h.script ≡ read ++ rest → TellsLines (nodes_of scenario).rules (names_of nodes_of scenario) beginning (whole_lines read) written →
+        TellsWhole nodes_of (h.taken ++ read) written
     some_told read rest written f t =
         let cut = h.cut read rest f in
         let script : (head_of (h.taken ++ read)).1 ≡ read = ap (λ (p : Text × Text). p.1) cut in
         matches_ok (read_scenario (head_of (h.taken ++ read)).0) scenario
-        (λ s. TellsLines (rules_of s) (names_of s) beginning (whole_lines (head_of (h.taken ++ read)).1) written) (λ _. written ≡ [])
+        (λ s. TellsLines (nodes_of s).rules (names_of nodes_of s) beginning (whole_lines (head_of (h.taken ++ read)).1) written) (λ _. written ≡ [])
         (ap (λ (p : Text × Text). read_scenario p.0) cut ∙ e) (rw script t)
 
     -- what was played of the script was played of what was given
     play_of : (ahead : Text) (left : Option Text) (status : Status) (written : Text) →
-        Plays (rules_of scenario) (names_of scenario) beginning h.script (prepend_known ahead left) status written → Played rules_of given left status written
+        Plays (nodes_of scenario).rules (names_of nodes_of scenario) beginning h.script (prepend_known ahead left) status written → Played nodes_of given left status written
     play_of ahead left Well written p = (is_ok_of (read_scenario (head_of given).0) scenario the_scenario, nothing_left ahead left p.0, all_told written p.1)
     play_of ahead left BadScenario written p = absurd p
     play_of ahead left BadRequest written p = absurd p
@@ -202,8 +202,18 @@ module _ {State Msg : Type 0} (rules_of : ScenarioText → Rules State Msg) wher
     play_of ahead left WriterFailed written p = record { more = p.more; tells = all_told (written ++ p.more) p.tells }
     play_of ahead left MemoryWanted written p = record { more = p.more; tells = all_told (written ++ p.more) p.tells }
 
-    pub play_all : (rules : Rules State Msg) (names : Names) (course : Course) (ahead : Text) (left held holds : Option Text) (status : Status) →
-        rules ≡ rules_of scenario → names ≡ names_of scenario → course ≡ beginning →
-        Ended held holds (Plays rules names course h.script (prepend_known ahead left) status) → Ended held holds (Played rules_of given left status)
-    play_all rules names course ahead left held holds status a b c p =
-        record { written = p.written; appended = p.appended; is = play_of ahead left status p.written (rw (a, b, c) at p.is) }
+    pub play_all : (ahead : Text) (left held holds : Option Text) (status : Status) →
+        Ended held holds (Plays (nodes_of scenario).rules (names_of nodes_of scenario) beginning h.script (prepend_known ahead left) status) → Ended held holds (Played nodes_of given left status)
+    play_all ahead left held holds status p = record { written = p.written; appended = p.appended; is = play_of ahead left status p.written p.is }
+
+-- memory was wanted before a line was answered
+pub wants_script : {State Msg : Type 0} (r : Rules State Msg) (names : Names) (old : Course) (script : Text) (left held holds : Option Text) → Appends held holds [] → Ended held holds (Plays r names old script left MemoryWanted)
+wants_script r names old script left held holds a =
+    let rest = rest_of r names old (lines script) in
+    record { written = []; appended = a; is = record { more = _; tells = tells_lines r names old rest.last (lines script) rest.texts _ rest.run refl } }
+
+-- a session that begins as the scenario says
+pub play_begun : {State Msg : Type 0} (r rules : Rules State Msg) (n names : Names) (course : Course) (script : Text) (left held holds : Option Text) (status : Status) →
+    rules ≡ r → names ≡ n → course ≡ beginning → Ended held holds (Plays rules names course script left status) → Ended held holds (Plays r n beginning script left status)
+play_begun r rules n names course script left held holds status a b c p =
+    record { written = p.written; appended = p.appended; is = rw (a, b, c) at p.is }

@@ -1,9 +1,9 @@
--- How the answer to one line ended, and the opening of a session.
-use Rattle.std.specs.Prelude.{◌≡◌, [], Option, Ok, Err, ◌⊎◌}
+-- How the answer to one line ended.
+use Rattle.std.specs.Prelude.{◌≡◌, [], Option, Err, ◌⊎◌}
 use Rattle.std.specs.Io.KnownBytes.{Appends}
 use Rattle.sim_lines.specs.Left.{AppendsPart, Passes, PassesSome}
 use Rattle.sim_world.specs.Events.{Rules}
-use Rattle.sim_scenario.specs.Scenario.{ScenarioText, Fault}
+use Rattle.sim_scenario.specs.Scenario.{Fault}
 use Rattle.sim_cli.specs.declared.script.ScriptLine.{ScriptLine}
 use Rattle.sim_cli.specs.declared.status.Answered.{Answered}
 use Rattle.sim_cli.specs.declared.status.Answered.TheVariants.{Well, WriterFailed, MemoryWanted}
@@ -11,8 +11,8 @@ use Rattle.sim_cli.specs.declared.status.Status.{Status}
 use Rattle.sim_cli.specs.declared.status.Status.TheVariants as status
 use Rattle.sim_cli.specs.Script.{Text, Names}
 use Rattle.sim_cli.specs.Lines.{fault_line}
-use Rattle.sim_cli.specs.Turns.{Course, beginning}
-use Rattle.sim_cli.specs.Play.{Gives, read_scenario, names_of}
+use Rattle.sim_cli.specs.Turns.{Course}
+use Rattle.sim_cli.specs.Play.{Gives, read_scenario}
 
 -- a text was written, or a part from its front, or there was no memory for it
 abbrev pub Writes : Option Text → Option Text → Text → Answered → Type 0
@@ -48,14 +48,6 @@ module _ {State Msg : Type 0} (r : Rules State Msg) (names : Names) where
   Answers old new line held holds waiting left Well = GivesAll old new line held holds waiting left
   Answers old new line held holds waiting left WriterFailed = GivesPart old line held holds waiting
   Answers old new line held holds waiting left MemoryWanted = Passes held holds waiting [] left
-
--- a session begins as the scenario says that a text writes
-pub record Starts {State Msg : Type 0} (rules_of : ScenarioText → Rules State Msg) (text : Text) (rules : Rules State Msg) (course : Course) (names : Names) : Type 0 where
-  pub scenario : ScenarioText
-  pub read : read_scenario text ≡ Ok scenario
-  pub of_scenario : rules ≡ rules_of scenario
-  pub at_beginning : course ≡ beginning
-  pub named : names ≡ names_of scenario
 
 -- a text writes no scenario, and a line tells why
 pub record Faults (text line : Text) : Type 0 where

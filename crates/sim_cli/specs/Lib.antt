@@ -9,6 +9,6 @@ pub mod Answers
 pub mod Opens
 pub mod Walks
 pub mod KeptBook
-pub mod Echoes
+pub mod Protocols
 pub mod Plain
 pub mod Statuses

@@ -1,11 +1,10 @@
 -- What is written where memory was ample.
 use Rattle.std.specs.Prelude.{◌≡◌, ◌++◌, codes, ◌⊎◌}
 use Rattle.sim_scenario.specs.Scenario.{ScenarioText}
-use Rattle.sim_world.specs.Events.{Rules}
 use Rattle.sim_cli.specs.declared.status.Status.{Status}
 use Rattle.sim_cli.specs.declared.status.Status.TheVariants as status
 use Rattle.sim_cli.specs.Script.{Text}
-use Rattle.sim_cli.specs.Play.{out}
+use Rattle.sim_cli.specs.Play.{Nodes, out}
 
 -- a text stands somewhere in another
 abbrev pub StandsIn : Text → Text → Type 0
@@ -20,5 +19,5 @@ abbrev pub IsDone : Status → Type 0
 IsDone ended = (ended ≡ status.Well) ⊎ (ended ≡ status.BadScenario)
 
 -- where no command wanted memory, what was written is `out` of what was given
-abbrev pub IsPlain : {State Msg : Type 0} → (ScenarioText → Rules State Msg) → Text → Text → Type 0
-IsPlain rules_of given written = ¬ (TellsWant written) → written ≡ out rules_of given
+abbrev pub IsPlain : (ScenarioText → Nodes) → Text → Text → Type 0
+IsPlain nodes_of given written = ¬ (TellsWant written) → written ≡ out nodes_of given

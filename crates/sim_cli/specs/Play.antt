@@ -7,11 +7,6 @@ use Rattle.std.specs.Str.Lines.{lines}
 use Rattle.sim_lines.specs.Cut.{head_of, whole_lines}
 use Rattle.sim_world.specs.World.{Scenario}
 use Rattle.sim_world.specs.Events.{Rules}
-use Rattle.sim_protocols.specs.Probes.{probe_names}
-use Rattle.sim_protocols.specs.declared.Protocol.{Protocol}
-use Rattle.sim_protocols.specs.declared.Protocol.TheVariants as protocol
-use Rattle.sim_scenario.specs.declared.Protocol.{Protocol as NamedProtocol}
-use Rattle.sim_scenario.specs.declared.Protocol.TheVariants as named
 use Rattle.sim_scenario.specs.Scenario.{ScenarioText, Fault, read, text_fault}
 use Rattle.sim_cli.specs.declared.reply.Turn.{Turn}
 use Rattle.sim_cli.specs.declared.script.ScriptLine.{ScriptLine}
@@ -116,17 +111,21 @@ scenario s = record {
   disk_latency = s.disk_latency;
 }
 
-abbrev pub protocol_of : NamedProtocol → Protocol
-protocol_of named.Echo = protocol.Echo
+-- The nodes of a run: their rules, and the names of their probes in the order of their numbers.
+pub record Nodes : Type 1 where
+  pub State : Type 0
+  pub Msg : Type 0
+  pub rules : Rules State Msg
+  pub probes : List Text
 
-abbrev pub names_of : ScenarioText → Names
-names_of s = record { hosts = s.names; probes = probe_names (protocol_of s.protocol) }
+-- A scenario stands for the nodes of a run.
+module _ (nodes_of : ScenarioText → Nodes) where
+  abbrev pub names_of : ScenarioText → Names
+  names_of s = record { hosts = s.names; probes = (nodes_of s).probes }
 
--- A scenario stands for the rules of a run.
-module _ {State Msg : Type 0} (rules_of : ScenarioText → Rules State Msg) where
   abbrev pub out_of : Result ScenarioText Fault → List Text → Text
   out_of (Err why) script = fault_line why
-  out_of (Ok s) script = out_from (rules_of s) (names_of s) beginning script
+  out_of (Ok s) script = out_from (nodes_of s).rules (names_of s) beginning script
 
   -- What is written for an input where memory is ample. The scenario is what stands before the first line `---`, and the script's lines follow it.
   abbrev pub out : Text → Text
@@ -136,14 +135,14 @@ module _ {State Msg : Type 0} (rules_of : ScenarioText → Rules State Msg) wher
   pub record TellsAll (given written : Text) : Type 0 where
     pub texts : List Text
     pub tells : MatchResult (read_scenario (head_of given).0)
-        (λ s. Tells (rules_of s) (names_of s) beginning (lines (head_of given).1) texts written) (λ why. written ≡ fault_line why)
+        (λ s. Tells (nodes_of s).rules (names_of s) beginning (lines (head_of given).1) texts written) (λ why. written ≡ fault_line why)
     pub plain : AllByRecursion TellsNoWant texts → written ≡ out given
 
   -- what is written for the whole lines of an input that stopped: nothing where it has no scenario
   abbrev pub TellsWhole : Text → Text → Type 0
   TellsWhole read written =
       MatchResult (read_scenario (head_of read).0)
-      (λ s. TellsLines (rules_of s) (names_of s) beginning (whole_lines (head_of read).1) written) (λ _. written ≡ [])
+      (λ s. TellsLines (nodes_of s).rules (names_of s) beginning (whole_lines (head_of read).1) written) (λ _. written ≡ [])
 
   -- a beginning of what is written for all of an input
   pub record BeginsAll (given written : Text) : Type 0 where

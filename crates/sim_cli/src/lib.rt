@@ -3,14 +3,15 @@
 
 mod answering;
 mod command;
-mod echo;
 #[cfg(test)]
 mod examples;
 mod kept;
 mod lines;
 mod names;
-mod opening;
+mod nodes;
 mod playing;
+#[cfg(test)]
+mod protocol_rows;
 mod reply;
 #[cfg(test)]
 mod rows;
@@ -25,10 +26,9 @@ mod words;
 mod world_session;
 
 pub use command::Command;
-pub use echo::EchoSession;
 pub use names::Names;
-pub use opening::{Opened, Opening};
-pub use playing::{play, play_in};
+pub use nodes::play_nodes;
+pub use playing::play;
 pub use reply::{Refusal, Reply, Stop, Turn};
 pub use script::{ScriptLine, line_of};
 pub use session::Session;

@@ -1,11 +1,14 @@
 //! The names of hosts and probes, by their numbers.
-ghost use Rattle.std.specs.Prelude.{◌≡◌, ◌≤◌, ◌<◌, ◌||◌, length, map, string_bytes, IfSome};
-ghost use Rattle.std.specs.List.{position, list_all};
+ghost use Rattle.std.specs.Prelude.{◌≡◌, ◌≤◌, ◌<◌, false, length, map, string_bytes, IfSome, IfNone, IsTrue};
+ghost use Rattle.std.specs.List.{position};
 ghost use Rattle.std.specs.Str.{bytes_eq};
-ghost use Rattle.sim_scenario.specs.Scenario.{is_name, is_letter, is_digit};
+ghost use Rattle.sim_scenario.specs.Hosts.{IsNumbered, names_in};
+ghost use Rattle.sim_scenario.specs.Scenario.{is_name};
 ghost use Rattle.sim_cli.specs.Script.{named, host, probe};
 ghost use Rattle.sim_cli.specs.Lines.{name_at, host_name, probe_name};
 
+use indexmap::IndexMap;
+use sim_scenario::{host_number, is_name};
 use std::marker::Model;
 
 /// The number that stands for a host that is not there.
@@ -14,44 +17,34 @@ const NO_HOST: u16 = 65_535;
 /// The number that stands for a probe that is not there.
 const NO_PROBE: u8 = 255;
 
-/// The names of the hosts and of the probes, in the order of their numbers: at most 32 hosts, and at most 16 probes.
+/// The names of the hosts, with their numbers, and of the probes, in the order of their numbers: at most 16.
 #[derive(Drop)]
 pub struct Names {
-    hosts: Vec<String>,
+    hosts: IndexMap<String, u16>,
     probes: Vec<String>,
 }
 
 impl Model for Names {
     ghost use Rattle.std.specs.Prelude.{◌≤◌, length, map, string_bytes};
+    ghost use Rattle.sim_scenario.specs.Hosts.{IsNumbered, names_in};
     ghost use Rattle.sim_cli.specs.Script.{Names as NamesValue};
 
     ghost Value = { NamesValue };
 
-    ghost view = { λ n. record { hosts = map string_bytes n.hosts.items; probes = map string_bytes n.probes.items } };
+    ghost view = { λ n. record { hosts = names_in n.hosts; probes = map string_bytes n.probes.items } };
 
-    ghost invariant = { λ n. (length n.hosts.items ≤ 32) × (length n.probes.items ≤ 16) };
+    ghost invariant = { λ n. IsNumbered n.hosts × (length n.probes.items ≤ 16) };
 }
 
-fn is_letter_byte(byte: u8) -> bool
-    ensures { result ≡ is_letter byte }
+/// A word as a text, where it is a name: 1 to 16 small letters and digits, the first a letter.
+fn name_in(word: &[u8]) -> Option<&str>
+    ensures named { IfSome result (λ name. (name.now ≡ word.now) × IsTrue (is_name word.now)) }
+    ensures not { IfNone result (is_name word.now ≡ false) }
 {
-    97 <= byte && byte <= 122
-}
-
-fn are_name_bytes(text: &[u8]) -> bool
-    ensures { result ≡ list_all (λ byte. is_letter byte || is_digit byte) text.now }
-{
-    text.iter().all(|byte| is_letter_byte(*byte) || (48 <= *byte && *byte <= 57))
-}
-
-/// The word is 1 to 16 small letters and digits, the first a letter.
-fn is_name_word(word: &[u8]) -> bool
-    ensures { result ≡ is_name word.now }
-{
-    if word.is_empty() || word.len() > 16 || !is_letter_byte(word[0]) {
-        return false;
-    }
-    are_name_bytes(word)
+    let Ok(name) = str::from_utf8(word) else {
+        return None;
+    };
+    if is_name(name) { Some(name) } else { None }
 }
 
 /// The number of the first of the names that is this word.
@@ -79,25 +72,23 @@ fn name_of(names: &[String], number: usize) -> &str
 }
 
 impl Names {
-    /// The names of at most 32 hosts and at most 16 probes.
-    pub fn new(hosts: Vec<String>, probes: Vec<String>) -> Names
-        requires hosts { length hosts.items ≤ 32 }
+    /// The names of hosts, with their numbers, and of at most 16 probes.
+    pub fn new(hosts: IndexMap<String, u16>, probes: Vec<String>) -> Names
+        requires hosts { IsNumbered hosts }
         requires probes { length probes.items ≤ 16 }
-        ensures { result ≡ record { hosts = map string_bytes hosts.items; probes = map string_bytes probes.items } }
+        ensures { result ≡ record { hosts = names_in hosts; probes = map string_bytes probes.items } }
     {
         Names { hosts, probes }
     }
 
     /// The number of the host that the word names, or 65,535 where none has this name; none where the word is no name.
-    #[tactic(auto, unfolding(crate::specs::Script::named))]
+    #[tactic(auto, unfolding(crate::specs::Script::named), using(crate::proofs::Naming::position_same))]
     pub fn host(&self, word: &[u8]) -> Option<u16>
         ensures { result ≡ host self.now word.now }
     {
-        if !is_name_word(word) {
-            return None;
-        }
-        match position_of(self.hosts.as_slice(), word) {
-            Some(number) => Some(number as u16),
+        let name = name_in(word)?;
+        match host_number(&self.hosts, name) {
+            Some(number) => Some(number),
             None => Some(NO_HOST),
         }
     }
@@ -107,9 +98,7 @@ impl Names {
     pub fn probe(&self, word: &[u8]) -> Option<u8>
         ensures { result ≡ probe self.now word.now }
     {
-        if !is_name_word(word) {
-            return None;
-        }
+        name_in(word)?;
         match position_of(self.probes.as_slice(), word) {
             Some(number) => Some(number as u8),
             None => Some(NO_PROBE),
@@ -120,7 +109,10 @@ impl Names {
     pub fn host_name(&self, host: u16) -> &str
         ensures { result.now ≡ host_name self.now host }
     {
-        name_of(self.hosts.as_slice(), usize::from(host))
+        match sim_scenario::host_name(&self.hosts, host) {
+            Some(name) => name,
+            None => "",
+        }
     }
 
     /// The name of a probe, or no bytes where there is no such probe.

@@ -22,21 +22,29 @@ const EVEN: Net = Net {
     loss: 0,
 };
 
+/// The lines for the format in two scenarios that say the same.
+const FORMATS: [&str; 2] = ["format = 1", "format = 2\ndisk_latency = 0"];
+
 /// A scenario of the server `a` and the client `w`, which sends two pings.
-fn scenario(alloc: Global, net: Net) -> Result<String, AllocError> {
+fn scenario(alloc: Global, format: &str, net: Net) -> Result<String, AllocError> {
     let Net {
         least,
         greatest,
         loss,
     } = net;
     format!(in alloc;
-        "format = 1\nseed = \"{SEED}\"\nprotocol = \"echo\"\ntick = 100\nlatency_min = {least}\nlatency_max = {greatest}\nloss = {loss}\nservers = [\"a\"]\ncheckpoint = 4\nwindow = 2\n[[client]]\nname = \"w\"\nops = 2\n"
+        "{format}\nseed = \"{SEED}\"\nprotocol = \"echo\"\ntick = 100\nlatency_min = {least}\nlatency_max = {greatest}\nloss = {loss}\nservers = [\"a\"]\ncheckpoint = 4\nwindow = 2\n[[client]]\nname = \"w\"\nops = 2\n"
     )
 }
 
-/// The scenario, the line `---` and a script.
+/// A scenario of format 1, the line `---` and a script.
 fn input(alloc: Global, net: Net, script: &[u8]) -> Result<Vec<u8>, AllocError> {
-    let text = scenario(alloc, net)?;
+    input_of(alloc, FORMATS[0], net, script)
+}
+
+/// A scenario, the line `---` and a script.
+fn input_of(alloc: Global, format: &str, net: Net, script: &[u8]) -> Result<Vec<u8>, AllocError> {
+    let text = scenario(alloc, format, net)?;
     let mut input = Vec::from_slice(alloc, text.as_bytes())?;
     input.extend_from_slice(b"---\n")?;
     input.extend_from_slice(script)?;
@@ -116,10 +124,12 @@ fn plays_the_worked_rows(rt: HostRuntime) -> Result<(), Fail> {
         ),
     ];
     for (net, script, want) in rows {
-        let input = input(alloc, net, script)?;
-        let (status, written) = played(alloc, input.as_slice());
-        assert_eq!(rt; status, Status::Well);
-        assert_eq!(rt; str::from_utf8(written.as_slice())?, str::from_utf8(want)?);
+        for format in FORMATS {
+            let input = input_of(alloc, format, net, script)?;
+            let (status, written) = played(alloc, input.as_slice());
+            assert_eq!(rt; status, Status::Well);
+            assert_eq!(rt; str::from_utf8(written.as_slice())?, str::from_utf8(want)?);
+        }
     }
     Ok(())
 }
@@ -152,13 +162,15 @@ fn walks_back_from_the_first_run(rt: HostRuntime) -> Result<(), Fail> {
         whole.extend_from_slice(script)?;
         let mut want = Vec::from_slice(alloc, FIRST_ANSWERS)?;
         want.extend_from_slice(more)?;
-        let input = input(alloc, EVEN, whole.as_slice())?;
-        let (status, written) = played(alloc, input.as_slice());
-        assert_eq!(rt; status, Status::Well);
-        assert_eq!(rt;
-            str::from_utf8(written.as_slice())?,
-            str::from_utf8(want.as_slice())?
-        );
+        for format in FORMATS {
+            let input = input_of(alloc, format, EVEN, whole.as_slice())?;
+            let (status, written) = played(alloc, input.as_slice());
+            assert_eq!(rt; status, Status::Well);
+            assert_eq!(rt;
+                str::from_utf8(written.as_slice())?,
+                str::from_utf8(want.as_slice())?
+            );
+        }
     }
     Ok(())
 }
@@ -186,7 +198,7 @@ fn tells_the_fault_of_a_bad_scenario(rt: HostRuntime) -> Result<(), Fail> {
         assert_eq!(rt; status, Status::BadScenario);
         assert_eq!(rt; str::from_utf8(written.as_slice())?, str::from_utf8(want)?);
     }
-    let text = scenario(alloc, EVEN)?;
+    let text = scenario(alloc, FORMATS[0], EVEN)?;
     let short_seed = text.as_str().replacen(alloc, "00", "0", 1)?;
     let (status, written) = played(alloc, short_seed.as_bytes());
     assert_eq!(rt; status, Status::BadScenario);
@@ -200,7 +212,7 @@ fn tells_the_fault_of_a_bad_scenario(rt: HostRuntime) -> Result<(), Fail> {
 #[test]
 fn writes_nothing_without_a_script(rt: HostRuntime) -> Result<(), Fail> {
     let alloc = rt.alloc();
-    let text = scenario(alloc, EVEN)?;
+    let text = scenario(alloc, FORMATS[1], EVEN)?;
     let (status, written) = played(alloc, text.as_bytes());
     assert_eq!(rt; status, Status::Well);
     assert!(rt; written.is_empty());

@@ -1,16 +1,18 @@
 //! The scenario of a play.
-ghost use Rattle.std.specs.Prelude.{◌≡◌, IfOk, map, string_bytes};
+ghost use Rattle.std.specs.Prelude.{◌≡◌, ◌≤◌, IfOk, map, string_bytes, vec_len};
 ghost use Rattle.sim_protocols.specs.Probes as protocols;
-ghost use Rattle.sim_scenario.specs.Hosts.{names_in};
+ghost use Rattle.sim_cli.specs.Protocols.{protocol_of};
 ghost use Rattle.sim_cli.specs.Opens.{Reads, KeepsLimits, TellsFault};
 
-use indexmap::IndexMap;
-use sim_protocols::Protocol;
+use sim_protocols::{Protocol, probe_name};
 use sim_scenario::ScenarioText;
 use std::alloc::{AllocError, Global};
 
 /// The longest text of a scenario (bytes).
 const LONGEST_TEXT: usize = 65_536;
+
+/// No protocol has more probes.
+const MOST_PROBES: u8 = 16;
 
 /// A scenario that was read, or why there is none.
 #[derive(Drop)]
@@ -56,23 +58,28 @@ pub fn read_scenario(alloc: Global, bytes: &[u8]) -> WasRead
     }
 }
 
-/// The names of the hosts, in the order of their numbers.
-pub fn host_names(alloc: Global, names: IndexMap<String, u16>) -> Result<Vec<String>, AllocError>
-    ensures { IfOk result (λ hosts. map string_bytes hosts.items ≡ names_in names) }
+/// The protocol that a scenario names.
+pub fn protocol_of(protocol: sim_scenario::Protocol) -> Protocol
+    ensures { result ≡ protocol_of protocol }
 {
-    names.into_keys().collect(alloc)
+    match protocol {
+        sim_scenario::Protocol::Echo => Protocol::Echo,
+        sim_scenario::Protocol::PrimaryBackup => Protocol::PrimaryBackup,
+        sim_scenario::Protocol::Abd => Protocol::AbdRegister,
+        sim_scenario::Protocol::TwoPhase => Protocol::TwoPhase,
+    }
 }
 
 /// The names of a protocol's probes, in the order of their numbers.
 pub fn probe_names(alloc: Global, protocol: Protocol) -> Result<Vec<String>, AllocError>
-    ensures { IfOk result (λ probes. map string_bytes probes.items ≡ protocols.probe_names protocol) }
+    ensures names { IfOk result (λ probes. map string_bytes probes.items ≡ protocols.probe_names protocol) }
+    ensures few { IfOk result (λ probes. vec_len probes ≤ 16) }
 {
-    match protocol {
-        Protocol::Echo => {
-            let mut probes = Vec::new(alloc);
-            probes.push(String::from_str(alloc, "next")?)?;
-            probes.push(String::from_str(alloc, "served")?)?;
-            Ok(probes)
+    let mut probes = Vec::new(alloc);
+    for k in 0..MOST_PROBES {
+        if let Some(name) = probe_name(protocol, k) {
+            probes.push(String::from_str(alloc, name)?)?;
         }
     }
+    Ok(probes)
 }

@@ -3,17 +3,19 @@ use crate::lines::tell_turn;
 use sim_links::LinkState;
 use sim_world::{Coming, Fault, Kind, Query, View};
 use std::alloc::{AllocError, Global};
+use std::process::Abort;
 use std::test::Fail;
 
+/// A scenario of the hosts `a` and `w`.
+const TWO_HOSTS: &str = "format = 1\nseed = \"0000000000000000000000000000000000000000000000000000000000000000\"\nprotocol = \"echo\"\ntick = 100\nlatency_min = 10\nlatency_max = 10\nloss = 0\nservers = [\"a\"]\ncheckpoint = 4\nwindow = 2\n[[client]]\nname = \"w\"\nops = 2\n";
+
 /// The hosts `a` and `w`, and echo's probes.
-fn names(alloc: Global) -> Result<Names, AllocError> {
-    let mut hosts = Vec::new(alloc);
-    hosts.push(String::from_str(alloc, "a")?)?;
-    hosts.push(String::from_str(alloc, "w")?)?;
+fn names(rt: &impl Abort, alloc: Global) -> Result<Names, AllocError> {
+    let text = sim_scenario::read(alloc, TWO_HOSTS).expect(rt, "a scenario");
     let mut probes = Vec::new(alloc);
     probes.push(String::from_str(alloc, "next")?)?;
     probes.push(String::from_str(alloc, "served")?)?;
-    Ok(Names::new(hosts, probes))
+    Ok(Names::new(text.names, probes))
 }
 
 fn shown_fault(alloc: Global, fault: Fault) -> Result<String, AllocError> {
@@ -60,7 +62,7 @@ fn shown(alloc: Global, names: &Names, line: &[u8]) -> Result<String, AllocError
 #[test]
 fn reads_each_form_of_line(rt: HostRuntime) -> Result<(), Fail> {
     let alloc = rt.alloc();
-    let names = names(alloc)?;
+    let names = names(&rt, alloc)?;
     let rows: [(&[u8], &str); 30] = [
         (b"step", "0: step"),
         (b"@3 step", "3: step"),
@@ -103,7 +105,7 @@ fn reads_each_form_of_line(rt: HostRuntime) -> Result<(), Fail> {
 #[test]
 fn refuses_other_lines(rt: HostRuntime) -> Result<(), Fail> {
     let alloc = rt.alloc();
-    let names = names(alloc)?;
+    let names = names(&rt, alloc)?;
     let rows: [&[u8]; 38] = [
         b"   ",
         b" # step",
@@ -154,7 +156,7 @@ fn refuses_other_lines(rt: HostRuntime) -> Result<(), Fail> {
 #[test]
 fn knows_the_longest_line(rt: HostRuntime) -> Result<(), Fail> {
     let alloc = rt.alloc();
-    let names = names(alloc)?;
+    let names = names(&rt, alloc)?;
     let mut line = Vec::from_slice(alloc, b"step")?;
     for _ in 0..252 {
         line.push(b' ')?;
@@ -214,7 +216,7 @@ fn probed(value: Option<u64>) -> Turn {
 #[test]
 fn tells_replies(rt: HostRuntime) -> Result<(), Fail> {
     let alloc = rt.alloc();
-    let names = names(alloc)?;
+    let names = names(&rt, alloc)?;
     let mut text = String::new(alloc);
     let summary = View::Summary {
         clock: 40,
@@ -278,7 +280,7 @@ fn tells_replies(rt: HostRuntime) -> Result<(), Fail> {
 #[test]
 fn tells_refusals(rt: HostRuntime) -> Result<(), Fail> {
     let alloc = rt.alloc();
-    let names = names(alloc)?;
+    let names = names(&rt, alloc)?;
     let mut text = String::new(alloc);
     let rows = [
         (Refusal::UnknownBranch, "refused 1 UnknownBranch\n"),

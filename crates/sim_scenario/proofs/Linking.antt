@@ -84,35 +84,35 @@ link_of-checked : (link : Members) → link_of link ≡ checked (keyed (codes "l
 link_of-checked link = (in_order link).same ∙ ap (λ o. checked o (link_text link)) (first_some-keyed (codes "link") (link_faults link))
 
 -- one more link, a link with a fault, and all of them
-pub linked_more : (done : List LinkText) (link : Members) (more : List Members) (said : LinkText) → link_of link ≡ Ok said → linked done (link ∷ more) ≡ linked (done ++ said ∷ []) more
+pub linked_more : (had : List LinkText) (link : Members) (more : List Members) (said : LinkText) → link_of link ≡ Ok said → linked had (link ∷ more) ≡ linked (had ++ said ∷ []) more
 unfolding linked
-linked_more done link more said e = ap (λ r. r >>= (λ first. linked (done ++ first ∷ []) more)) e
+linked_more had link more said e = ap (λ r. r >>= (λ first. linked (had ++ first ∷ []) more)) e
 
-pub linked_stop : (done : List LinkText) (link : Members) (more : List Members) (fault : Fault) → link_of link ≡ Err fault → linked done (link ∷ more) ≡ Err fault
+pub linked_stop : (had : List LinkText) (link : Members) (more : List Members) (fault : Fault) → link_of link ≡ Err fault → linked had (link ∷ more) ≡ Err fault
 unfolding linked
-linked_stop done link more fault e = ap (λ r. r >>= (λ first. linked (done ++ first ∷ []) more)) e
+linked_stop had link more fault e = ap (λ r. r >>= (λ first. linked (had ++ first ∷ []) more)) e
 
-pub linked_all : (done : List LinkText) → linked done [] ≡ Ok done
+pub linked_all : (had : List LinkText) → linked had [] ≡ Ok had
 unfolding linked
-linked_all done = refl
+linked_all had = refl
 
 abbrev faults_of : List Members → Option ℕ
 faults_of tables = first_some (map link_fault tables)
 
-next_linked : (done : List LinkText) (link : Members) (more : List Members) (o : Option ℕ)
-    → linked (done ++ link_text link ∷ []) more ≡ checked (keyed (codes "link") (faults_of more)) ((done ++ link_text link ∷ []) ++ map link_text more)
-    → (checked (keyed (codes "link") o) (link_text link) >>= (λ first. linked (done ++ first ∷ []) more))
-    ≡ checked (keyed (codes "link") (first_some (o ∷ map link_fault more))) (done ++ map link_text (link ∷ more))
-next_linked done link more (Some f) ih = refl
-next_linked done link more None ih = ih ∙ ap (λ ts. checked (keyed (codes "link") (faults_of more)) ts) (append_assoc done (link_text link ∷ []) (map link_text more))
+next_linked : (had : List LinkText) (link : Members) (more : List Members) (o : Option ℕ)
+    → linked (had ++ link_text link ∷ []) more ≡ checked (keyed (codes "link") (faults_of more)) ((had ++ link_text link ∷ []) ++ map link_text more)
+    → (checked (keyed (codes "link") o) (link_text link) >>= (λ first. linked (had ++ first ∷ []) more))
+    ≡ checked (keyed (codes "link") (first_some (o ∷ map link_fault more))) (had ++ map link_text (link ∷ more))
+next_linked had link more (Some f) ih = refl
+next_linked had link more None ih = ih ∙ ap (λ ts. checked (keyed (codes "link") (faults_of more)) ts) (append_assoc had (link_text link ∷ []) (map link_text more))
 
 -- what the links say together: the first fault, or all of them
-linked-checked : (done : List LinkText) (tables : List Members) → linked done tables ≡ checked (keyed (codes "link") (faults_of tables)) (done ++ map link_text tables)
+linked-checked : (had : List LinkText) (tables : List Members) → linked had tables ≡ checked (keyed (codes "link") (faults_of tables)) (had ++ map link_text tables)
 unfolding linked
-linked-checked done [] = ap Ok (sym (append-nil done))
-linked-checked done (link ∷ more) =
-    ap (λ r. r >>= (λ first. linked (done ++ first ∷ []) more)) (link_of-checked link)
-    ∙ next_linked done link more (link_fault link) (linked-checked (done ++ link_text link ∷ []) more)
+linked-checked had [] = ap Ok (sym (append-nil had))
+linked-checked had (link ∷ more) =
+    ap (λ r. r >>= (λ first. linked (had ++ first ∷ []) more)) (link_of-checked link)
+    ∙ next_linked had link more (link_fault link) (linked-checked (had ++ link_text link ∷ []) more)
 
 abbrev links_by : Bool → Option Data → Result (List LinkText) Fault
 links_by b o =
@@ -245,14 +245,14 @@ get_or-any (x ∷ xs) zero d e below = refl
 get_or-any (x ∷ xs) (suc i) d e below = get_or-any xs i d e (omega arith)
 
 -- one more link is found, and one that is not
-pub found_more : (names : List (List ℕ)) (links : List ReadText) (i : ℕ) (d : ReadText) (y : Link) (done : List Link) → i < length links → placed_in names (get_or links i d) ≡ Some y
-    → with_rest (placed_in names) done (all_some (placed_in names) (drop i links)) ≡ with_rest (placed_in names) (done ++ y ∷ []) (all_some (placed_in names) (drop (i + 1) links))
-found_more names links i d y done below e =
-    read_more (placed_in names) links i (get_or links i d) y done below (get_or-any links i d (get_or links i d) below) e
+pub found_more : (names : List (List ℕ)) (links : List ReadText) (i : ℕ) (d : ReadText) (y : Link) (had : List Link) → i < length links → placed_in names (get_or links i d) ≡ Some y
+    → with_rest (placed_in names) had (all_some (placed_in names) (drop i links)) ≡ with_rest (placed_in names) (had ++ y ∷ []) (all_some (placed_in names) (drop (i + 1) links))
+found_more names links i d y had below e =
+    read_more (placed_in names) links i (get_or links i d) y had below (get_or-any links i d (get_or links i d) below) e
 
-pub found_stop : (names : List (List ℕ)) (links : List ReadText) (i : ℕ) (d : ReadText) (done : List Link) → i < length links → placed_in names (get_or links i d) ≡ None
-    → with_rest (placed_in names) done (all_some (placed_in names) (drop i links)) ≡ None
-found_stop names links i d done below e = read_stop (placed_in names) links i (get_or links i d) done below (get_or-any links i d (get_or links i d) below) e
+pub found_stop : (names : List (List ℕ)) (links : List ReadText) (i : ℕ) (d : ReadText) (had : List Link) → i < length links → placed_in names (get_or links i d) ≡ None
+    → with_rest (placed_in names) had (all_some (placed_in names) (drop i links)) ≡ None
+found_stop names links i d had below e = read_stop (placed_in names) links i (get_or links i d) had below (get_or-any links i d (get_or links i d) below) e
 
 -- the ways, where a pair comes again and where none does
 pub ways_repeated : (way : Way) (links : List Link) → is_repeated links ≡ true → linked_ways way links ≡ Err (record { number = 14; key = codes "link" })

@@ -15,7 +15,8 @@ play    reads a scenario, a line `---` and a script from the standard input,
         and writes one line for each command of the script
 
 status  0  the script was answered
-        1  there is no scenario; its fault was written
+        1  there is no scenario; its fault was written, as
+           `scenario fault 4 tick`: docs/SCENARIO.md explains each
         2  the command line is wrong
         3  the input or the output failed
         4  there was not enough memory
