@@ -154,6 +154,7 @@ impl<N: Node> Tape<N> {
         ensures undos { OnOk result (IsTrue (is_within_reach to self.old) → N.Meter.work meter.new ≡ undone_by (acting (rules N.laws N.PROBES self.old.scenario) to (self.old.place - to) self.old.events) (N.Meter.work meter.old)) }
         ensures work { OnOk result (TakesAtMost (self.old.scenario.interval - 1) (nodes_below (rules N.laws N.PROBES self.old.scenario) to self.old.events) (N.Meter.work meter.old) (N.Meter.work meter.new)) }
         ensures anew { OnOk result (self.old.warm ≡ false → Plays (self.old.scenario.interval - 1) (nodes_below (rules N.laws N.PROBES self.old.scenario) to self.old.events) (N.Meter.work meter.old) (N.Meter.work meter.new)) }
+        ensures near { OnOk result (self.old.warm ≡ false → Plays (to % self.old.scenario.interval) (nodes_below (rules N.laws N.PROBES self.old.scenario) to self.old.events) (N.Meter.work meter.old) (N.Meter.work meter.new)) }
         ensures err { OnErr result (self.new ≡ with_world self.new.warm self.new.reach self.old) }
     {
         let place = self.place as usize;
@@ -191,6 +192,7 @@ impl<N: Node> Tape<N> {
         ensures ok { OnOk result (self.new ≡ with_world true self.new.reach self.old) }
         ensures warm { IsTrue self.old.warm → IsOk result × (self.new ≡ self.old) × (N.Meter.work meter.new ≡ N.Meter.work meter.old) }
         ensures cold { OnOk result (self.old.warm ≡ false → Plays (self.old.scenario.interval - 1) (nodes_below (rules N.laws N.PROBES self.old.scenario) self.old.place self.old.events) (N.Meter.work meter.old) (N.Meter.work meter.new)) }
+        ensures near { OnOk result (self.old.warm ≡ false → Plays (self.old.place % self.old.scenario.interval) (nodes_below (rules N.laws N.PROBES self.old.scenario) self.old.place self.old.events) (N.Meter.work meter.old) (N.Meter.work meter.new)) }
         ensures err { OnErr result (self.new ≡ with_world self.new.warm self.new.reach self.old) }
     {
         if self.walk.world.is_some() {
