@@ -1,0 +1,331 @@
+-- A run goes on by one step, and stops.
+use Rattle.std.proofs.Common.{◌≡◌, ℕ, zero, suc, ◌+◌, ◌-◌, ◌<◌, ◌≤◌, ◌==◌, min, Bool, true, false, not, ◌||◌, List, [], ◌∷◌, ◌++◌, Option, Some, None, is_some, length, take, refl, sym, ap, ◌∙◌, arith, inl, inr, length-append, append_assoc, append-nil, nat_le, subst, add-zero}
+use Rattle.std.specs.Prelude.{if◌then◌else◌}
+use Rattle.std.specs.Option.{unwrap_or, option_map}
+use Rattle.std.proofs.Math.Seq.{take-length}
+use Rattle.std.proofs.Math.Nat.{eq-or-lt_of_le}
+use Rattle.std.proofs.lemmas.Bool.{le-leb, and_from}
+use Rattle.std.proofs.lemmas.Bool.Decides.{nat_tests}
+use Rattle.sim_node.specs.Node.{NodeLaws}
+use Rattle.sim_node.specs.Work.{Work}
+use Rattle.sim_queue.specs.Pending.{first}
+use Rattle.sim_world.specs.declared.Event.{Event}
+use Rattle.sim_world.specs.declared.Event.TheVariants as event
+use Rattle.sim_world.specs.declared.Refusal.TheVariants as why
+use Rattle.sim_world.specs.World.{World}
+use Rattle.sim_world.specs.Events.{Rules, rules, run, start, refusal_of}
+use Rattle.sim_tape.specs.Tape.{Tape, with_world, with_event, at}
+use Rattle.sim_tape.specs.Places.{world_of, acts_at, acting}
+use Rattle.sim_tape.specs.Works.{undone_by, Plays}
+use Rattle.sim_book.specs.Works.{Adds, TakesBack}
+use Rattle.sim_book.specs.Tapes.{lengthened}
+use Rattle.sim_watch.specs.Condition.{Cond}
+use Rattle.sim_book.specs.declared.Stop.{Stop}
+use Rattle.sim_book.specs.declared.Stop.TheVariants as stops
+use Rattle.sim_book.specs.Book.{Branch, failing_watch, all_done}
+use Rattle.sim_book.specs.Kept.{branch_with}
+use Rattle.sim_book.specs.Answer.{first_stop, failing_at, rewind_move, rewind_len, steps, run_stop, run_stop_at, run_addition, run_len, after_steps, is_idle, most_events}
+use Rattle.sim_book.specs.Running.{IsRunning, IsRewinding}
+use Rattle.sim_book.proofs.Finding.{least_is}
+
+-- one step more
+pub steps_more : (k : ℕ) → steps k ++ event.Step ∷ [] ≡ steps (k + 1)
+steps_more zero = refl
+steps_more (suc k) =
+    let up : suc k + 1 ≡ suc (k + 1) = omega arith in
+    ap (λ es. event.Step ∷ es) (steps_more k) ∙ ap steps (sym up)
+
+pub steps_length : (k : ℕ) → length (steps k) ≡ k
+steps_length zero = refl
+steps_length (suc k) = ap suc (steps_length k)
+
+-- what is true where there is no reason to stop
+pub none_asked : (o : Option ℕ) (done asked full idle : Bool) → first_stop o done asked full idle ≡ None → asked ≡ false
+none_asked (Some w) done asked full idle e = absurd cc
+none_asked None true asked full idle e = absurd cc
+none_asked None false true full idle e = absurd cc
+none_asked None false false full idle e = refl
+
+none_full : (o : Option ℕ) (done asked full idle : Bool) → first_stop o done asked full idle ≡ None → full ≡ false
+none_full (Some w) done asked full idle e = absurd cc
+none_full None true asked full idle e = absurd cc
+none_full None false true full idle e = absurd cc
+none_full None false false true idle e = absurd cc
+none_full None false false false idle e = refl
+
+none_idle : (o : Option ℕ) (done asked full idle : Bool) → first_stop o done asked full idle ≡ None → idle ≡ false
+none_idle (Some w) done asked full idle e = absurd cc
+none_idle None true asked full idle e = absurd cc
+none_idle None false true full idle e = absurd cc
+none_idle None false false true idle e = absurd cc
+none_idle None false false false true e = absurd cc
+none_idle None false false false false e = refl
+
+below : (n : ℕ) → nat_le 65536 n ≡ false → n < 65536
+below n e = grind (arith, nat_tests)
+
+steps_can : (b : Bool) → not b ≡ false → (if b then None else Some why.Idle) ≡ None
+steps_can true e = refl
+steps_can false e = cc
+
+none_some : {A : Type 0} (o : Option A) → o ≡ None → is_some o ≡ false
+none_some o e = rw e refl
+
+module _ {State Msg : Type 0} (r : Rules State Msg) where
+  -- a run that does not stop at a world has room, and something is pending
+  pub has_room : (asked : Bool) (watches : List (Option Cond)) (kept : ℕ) (w : World State Msg) → None ≡ run_stop r asked watches kept w → kept < 65536
+  has_room asked watches kept w e = below kept (none_full (failing_watch r watches w) (all_done r w) asked (nat_le most_events kept) (is_idle w) (sym e))
+
+  pub can_step : (asked : Bool) (watches : List (Option Cond)) (kept : ℕ) (w : World State Msg) → None ≡ run_stop r asked watches kept w → refusal_of r event.Step w ≡ None
+  can_step asked watches kept w e =
+      steps_can (is_some (first w.queue.items)) (none_idle (failing_watch r watches w) (all_done r w) asked (nat_le most_events kept) (is_idle w) (sym e))
+
+module _ {State Msg : Type 0} (node : NodeLaws State Msg) (probes : ℕ) where
+  -- of a tape with k steps more
+  pub world_after : (t v : Tape) (k : ℕ) → v ≡ with_world true v.reach (lengthened (steps k) t) → (ws : List (Option Cond))
+      → world_of (rules node probes v.scenario) v ≡ after_steps (rules node probes t.scenario) k (branch_with ws t)
+  world_after t v k is ws =
+      let r : Rules State Msg = rules node probes t.scenario in
+      let whole : take (length t.events + length (steps k)) (t.events ++ steps k) ≡ t.events ++ steps k =
+      ap (λ n. take n (t.events ++ steps k)) (sym (length-append t.events (steps k))) ∙ take-length (t.events ++ steps k) in
+      ap (λ (u : Tape). world_of (rules node probes u.scenario) u) is ∙ ap (λ es. unwrap_or (run r es) (start r)) whole
+
+  pub events_after : (t v : Tape) (k : ℕ) → v ≡ with_world true v.reach (lengthened (steps k) t) → length v.events ≡ length t.events + k
+  events_after t v k is = ap (λ (u : Tape). length u.events) is ∙ length-append t.events (steps k) ∙ ap (λ n. length t.events + n) (steps_length k)
+
+  -- why a run stops at such a tape
+  stop_after : (n : ℕ) (ws : List (Option Cond)) (t v : Tape) (k : ℕ) → v ≡ with_world true v.reach (lengthened (steps k) t)
+      → run_stop (rules node probes v.scenario) (k == n) ws (length v.events) (world_of (rules node probes v.scenario) v) ≡ run_stop_at (rules node probes t.scenario) n (branch_with ws t) k
+  stop_after n ws t v k is =
+      let r : Rules State Msg = rules node probes t.scenario in
+      ap (λ s. run_stop (rules node probes s) (k == n) ws (length v.events) (world_of (rules node probes v.scenario) v)) (ap (λ (u : Tape). u.scenario) is)
+      ∙ ap (λ m. run_stop r (k == n) ws m (world_of (rules node probes v.scenario) v)) (events_after t v k is)
+      ∙ ap (run_stop r (k == n) ws (length t.events + k)) (world_after t v k is ws)
+
+  -- one event more, which is at the end
+  pub lengthened_by : (t u v : Tape) (k : ℕ) (last : Event) → u ≡ with_world true u.reach (lengthened (steps k) t) → v ≡ with_world true v.reach (with_event last u)
+      → v ≡ with_world true v.reach (lengthened (steps k ++ last ∷ []) t)
+  lengthened_by t u v k last is more =
+      let events : (t.events ++ steps k) ++ last ∷ [] ≡ t.events ++ (steps k ++ last ∷ []) = append_assoc t.events (steps k) (last ∷ []) in
+      let place : length t.events + length (steps k) + 1 ≡ length t.events + length (steps k ++ last ∷ []) =
+      (let b = length-append (steps k) (last ∷ []) in omega (arith, b)) in
+      more ∙ ap (λ (x : Tape). with_world true v.reach (with_event last x)) is
+      ∙ ap (λ es. record { scenario = t.scenario; events = es; place = length t.events + length (steps k) + 1; warm = true; reach = v.reach }) events
+      ∙ ap (λ p. record { scenario = t.scenario; events = t.events ++ (steps k ++ last ∷ []); place = p; warm = true; reach = v.reach }) place
+
+  -- one step more
+  pub lengthened_more : (t u v : Tape) (k : ℕ) → u ≡ with_world true u.reach (lengthened (steps k) t) → v ≡ with_world true v.reach (with_event event.Step u)
+      → v ≡ with_world true v.reach (lengthened (steps (k + 1)) t)
+  lengthened_more t u v k is more =
+      lengthened_by t u v k event.Step is more ∙ ap (λ es. with_world true v.reach (lengthened es t)) (steps_more k)
+
+  -- no step more
+  pub lengthened_none : (t : Tape) → t.warm ≡ true → t.place ≡ length t.events → t ≡ with_world true t.reach (lengthened (steps 0) t)
+  lengthened_none t warm end =
+      let place : t.place ≡ length t.events + 0 = omega arith in
+      ap (λ es. record t { events = es }) (sym (append-nil t.events)) ∙ ap (λ p. record t { events = t.events ++ []; place = p }) place
+      ∙ ap (λ b. record t { events = t.events ++ []; place = length t.events + 0; warm = b }) warm
+
+  pub running_none : (n : ℕ) (ws : List (Option Cond)) (t : Tape) → t.warm ≡ true → t.place ≡ length t.events → length t.events < 65536
+      → refusal_of (rules node probes t.scenario) event.Step (world_of (rules node probes t.scenario) t) ≡ None → t.reach ≤ t.scenario.window
+      → IsRunning node probes n ws t 0 t
+  running_none n ws t warm end room can few =
+      record {
+        new = lengthened_none t warm end;
+        before = λ j a b. absurd (omega arith);
+        room = room;
+        can = can;
+        reach = omega (arith, few);
+      }
+
+  pub reach_more : (n : ℕ) (ws : List (Option Cond)) (t u v : Tape) (k : ℕ) → IsRunning node probes n ws t k u → v.reach ≡ min u.scenario.window (u.reach + 1)
+      → v.reach ≡ min t.scenario.window (t.reach + (k + 1))
+  reach_more n ws t u v k h reach =
+      let window = ap (λ (x : Tape). x.scenario.window) h.new in
+      let old = h.reach in
+      omega (arith, window, old, reach)
+
+  pub running_more : (n : ℕ) (ws : List (Option Cond)) (t u v : Tape) (k : ℕ) → IsRunning node probes n ws t k u
+      → v ≡ with_world true v.reach (with_event event.Step u) → v.reach ≡ min u.scenario.window (u.reach + 1)
+      → None ≡ run_stop (rules node probes v.scenario) (k + 1 == n) ws (length v.events) (world_of (rules node probes v.scenario) v)
+      → IsRunning node probes n ws t (k + 1) v
+  running_more n ws t u v k h more reach goes =
+      let is = lengthened_more t u v k h.new more in record {
+        new = is;
+        before = λ j a b. before_more j a b;
+        room = has_room (rules node probes v.scenario) (k + 1 == n) ws (length v.events) (world_of (rules node probes v.scenario) v) goes;
+        can = can_step (rules node probes v.scenario) (k + 1 == n) ws (length v.events) (world_of (rules node probes v.scenario) v) goes;
+        reach = reach_more n ws t u v k h reach;
+      }
+    where
+      here : run_stop_at (rules node probes t.scenario) n (branch_with ws t) (k + 1) ≡ None
+      here = sym (stop_after n ws t v (k + 1) (lengthened_more t u v k h.new more)) ∙ sym goes
+
+      before_more : (j : ℕ) → 1 ≤ j → j ≤ k + 1 → run_stop_at (rules node probes t.scenario) n (branch_with ws t) j ≡ None
+      before_more j a b = elim (eq-or-lt_of_le b) [
+        | inl same ↦ ap (run_stop_at (rules node probes t.scenario) n (branch_with ws t)) same ∙ here
+        | inr less ↦ h.before j a (omega arith)
+      ]
+
+  -- a run that stops
+  pub stopped_is : (n : ℕ) (ws : List (Option Cond)) (t u v : Tape) (k : ℕ) (stop : Stop) → k < n → IsRunning node probes n ws t k u
+      → v ≡ with_world true v.reach (with_event event.Step u)
+      → Some stop ≡ run_stop (rules node probes v.scenario) (k + 1 == n) ws (length v.events) (world_of (rules node probes v.scenario) v)
+      → run_addition (rules node probes t.scenario) n (branch_with ws t) ≡ record { events = steps (k + 1); stop = stop }
+  stopped_is n ws t u v k stop lt h more gives =
+      let r : Rules State Msg = rules node probes t.scenario in
+      let x : Branch = branch_with ws t in
+      let here : run_stop_at r n x (k + 1) ≡ Some stop = sym (stop_after n ws t v (k + 1) (lengthened_more t u v k h.new more)) ∙ sym gives in
+      let len : run_len r n x ≡ k + 1 = ap (λ o. unwrap_or o 0) (least_is (λ j. is_some (run_stop_at r n x j)) 1 n (k + 1) (omega arith) (omega arith) (ap is_some here)
+      (λ j a b. none_some (run_stop_at r n x j) (h.before j a (omega arith)))) in
+      let some : (n == 0) ≡ false = grind (arith, nat_tests) in
+      ap (λ m. record { events = steps m; stop = if n == 0 then asked else unwrap_or (run_stop_at r n x m) asked }) len
+      ∙ ap (λ b. record { events = steps (k + 1); stop = if b then asked else unwrap_or (run_stop_at r n x (k + 1)) asked }) some
+      ∙ ap (λ o. record { events = steps (k + 1); stop = unwrap_or o asked }) here
+    where
+      asked : Stop
+      asked = stops.Asked
+
+  -- it stops where all that was asked for was added
+  pub not_past : (n : ℕ) (ws : List (Option Cond)) (t u : Tape) (k : ℕ) → 1 ≤ n → k ≡ n → IsRunning node probes n ws t k u → ⊥
+  not_past n ws t u k some same h =
+      let r : Rules State Msg = rules node probes t.scenario in
+      let x : Branch = branch_with ws t in
+      let at : (n == n) ≡ true = grind (arith, nat_tests) in
+      let none = h.before n some (omega arith) in
+      true_not (sym at ∙ none_asked (failing_watch r ws (after_steps r n x)) (all_done r (after_steps r n x)) (n == n) (nat_le most_events (length t.events + n)) (is_idle (after_steps r n x)) none)
+    where
+      true_not : true ≡ false → ⊥
+      true_not e = cc
+
+-- one place back within the reach
+pub reach_back : (t u v : Tape) (k : ℕ) → u ≡ with_world true u.reach (at (t.place - k) t) → (k ≤ t.reach → u.reach ≡ t.reach - k) → (u.warm ≡ true → 1 ≤ u.reach → v.reach ≡ u.reach - 1)
+    → k + 1 ≤ t.reach → v.reach ≡ t.reach - (k + 1)
+reach_back t u v k is before gone le =
+    let old : u.reach ≡ t.reach - k = before (omega arith) in
+    let warm : u.warm ≡ true = ap (λ x. x.warm) is in
+    let lower : v.reach ≡ u.reach - 1 = gone warm (omega (arith, old)) in
+    omega (arith, old, lower, le)
+
+pub rewound_reach : (t v : Tape) (k : ℕ) → v ≡ with_world true v.reach (at (t.place - k) t) → k ≤ t.place → (k ≤ t.reach → v.reach ≡ t.reach - k)
+    → t.place - v.place ≤ t.reach → v.reach ≡ t.reach - (t.place - v.place)
+rewound_reach t v k is within reach near =
+    let place : v.place ≡ t.place - k = ap (λ x. x.place) is in
+    let lower : v.reach ≡ t.reach - k = reach (omega (arith, place, near, within)) in
+    omega (arith, place, within, lower)
+
+module _ {State Msg : Type 0} (node : NodeLaws State Msg) (probes : ℕ) where
+  -- why a rewind stops at a tape
+  pub failing_back : (ws : List (Option Cond)) (t u v : Tape) (k : ℕ) → u ≡ with_world true u.reach (at (t.place - k) t) → v ≡ with_world true v.reach (at (u.place - 1) u)
+      → v ≡ with_world true v.reach (at (t.place - (k + 1)) t)
+  failing_back ws t u v k is gone =
+      let place : t.place - k - 1 ≡ t.place - (k + 1) = omega arith in
+      gone ∙ ap (λ (x : Tape). with_world true v.reach (at (x.place - 1) x)) is ∙ ap (λ p. with_world true v.reach (at p t)) place
+
+  fails_at : (ws : List (Option Cond)) (t v : Tape) (p : ℕ) → v ≡ with_world true v.reach (at p t)
+      → failing_watch (rules node probes v.scenario) ws (world_of (rules node probes v.scenario) v) ≡ failing_at (rules node probes t.scenario) (branch_with ws t) p
+  fails_at ws t v p is = ap (λ (x : Tape). failing_watch (rules node probes x.scenario) ws (world_of (rules node probes x.scenario) x)) is
+
+  pub rewinding_none : (ws : List (Option Cond)) (t : Tape) → t.warm ≡ true → IsRewinding node probes ws t 0 t
+  rewinding_none ws t warm =
+      let place : t.place ≡ t.place - 0 = omega arith in record {
+        new = ap (λ b. record t { warm = b }) warm ∙ ap (λ p. record t { warm = true; place = p }) place;
+        before = λ j a b. absurd (omega arith);
+        reach = λ le. omega arith;
+      }
+
+  pub rewinding_more : (ws : List (Option Cond)) (t u v : Tape) (k : ℕ) → IsRewinding node probes ws t k u → v ≡ with_world true v.reach (at (u.place - 1) u)
+      → (k + 1 ≤ t.reach → v.reach ≡ t.reach - (k + 1))
+      → None ≡ failing_watch (rules node probes v.scenario) ws (world_of (rules node probes v.scenario) v) → IsRewinding node probes ws t (k + 1) v
+  rewinding_more ws t u v k h gone reach none = record {
+    new = failing_back ws t u v k h.new gone;
+    before = λ j a b. before_more j a b;
+    reach = reach;
+  }
+    where
+      here : failing_at (rules node probes t.scenario) (branch_with ws t) (t.place - (k + 1)) ≡ None
+      here = sym (fails_at ws t v (t.place - (k + 1)) (failing_back ws t u v k h.new gone)) ∙ sym none
+
+      before_more : (j : ℕ) → 1 ≤ j → j ≤ k + 1 → failing_at (rules node probes t.scenario) (branch_with ws t) (t.place - j) ≡ None
+      before_more j a b = elim (eq-or-lt_of_le b) [
+        | inl same ↦ ap (λ m. failing_at (rules node probes t.scenario) (branch_with ws t) (t.place - m)) same ∙ here
+        | inr less ↦ h.before j a (omega arith)
+      ]
+
+  rewinds : (n : ℕ) (ws : List (Option Cond)) (t : Tape) (j : ℕ) → j < n → failing_at (rules node probes t.scenario) (branch_with ws t) (t.place - j) ≡ None
+      → (is_some (failing_at (rules node probes t.scenario) (branch_with ws t) (t.place - j)) || (j == n)) ≡ false
+  rewinds n ws t j lt e =
+      let not_yet : (j == n) ≡ false = grind (arith, nat_tests) in
+      ap (λ o. is_some o || (j == n)) e ∙ not_yet
+
+  -- a rewind that stops at a watch, and one that goes as far as was asked
+  pub rewound_is : (n : ℕ) (ws : List (Option Cond)) (t u v : Tape) (k w : ℕ) → k < n → IsRewinding node probes ws t k u → v ≡ with_world true v.reach (at (u.place - 1) u)
+      → Some w ≡ failing_watch (rules node probes v.scenario) ws (world_of (rules node probes v.scenario) v)
+      → rewind_move (rules node probes t.scenario) n (branch_with ws t) ≡ record { place = t.place - (k + 1); stop = stops.Watch w }
+  rewound_is n ws t u v k w lt h gone fails =
+      let r : Rules State Msg = rules node probes t.scenario in
+      let x : Branch = branch_with ws t in
+      let here : failing_at r x (t.place - (k + 1)) ≡ Some w = sym (fails_at ws t v (t.place - (k + 1)) (failing_back ws t u v k h.new gone)) ∙ sym fails in
+      let passes : (is_some (failing_at r x (t.place - (k + 1))) || (k + 1 == n)) ≡ true = ap (λ o. is_some o || (k + 1 == n)) here in
+      let len : rewind_len r n x ≡ k + 1 = ap (λ o. unwrap_or o 0) (least_is (λ j. is_some (failing_at r x (t.place - j)) || (j == n)) 1 n (k + 1) (omega arith) (omega arith) passes
+      (λ j a b. rewinds n ws t j (omega arith) (h.before j a (omega arith)))) in
+      let some : (n == 0) ≡ false = grind (arith, nat_tests) in
+      ap (λ m. record { place = t.place - m; stop = if n == 0 then stops.Asked else unwrap_or (option_map stops.Watch (failing_at r x (t.place - m))) stops.Asked }) len
+      ∙ ap (λ b. record { place = t.place - (k + 1); stop = if b then stops.Asked else unwrap_or (option_map stops.Watch (failing_at r x (t.place - (k + 1)))) stops.Asked }) some
+      ∙ ap (λ o. record { place = t.place - (k + 1); stop = unwrap_or (option_map stops.Watch o) stops.Asked }) here
+
+  pub rewound_all : (n : ℕ) (ws : List (Option Cond)) (t u : Tape) (k : ℕ) → 1 ≤ n → k ≡ n → IsRewinding node probes ws t k u
+      → rewind_move (rules node probes t.scenario) n (branch_with ws t) ≡ record { place = t.place - k; stop = stops.Asked }
+  rewound_all n ws t u k one same h =
+      let r : Rules State Msg = rules node probes t.scenario in
+      let x : Branch = branch_with ws t in
+      let here : failing_at r x (t.place - k) ≡ None = h.before k (omega arith) (omega arith) in
+      let at_n : (k == n) ≡ true = grind (arith, nat_tests) in
+      let passes : (is_some (failing_at r x (t.place - k)) || (k == n)) ≡ true = ap (λ o. is_some o || (k == n)) here ∙ at_n in
+      let len : rewind_len r n x ≡ k = ap (λ o. unwrap_or o 0) (least_is (λ j. is_some (failing_at r x (t.place - j)) || (j == n)) 1 n k (omega arith) (omega arith) passes
+      (λ j a b. rewinds n ws t j (omega arith) (h.before j a (omega arith)))) in
+      let some : (n == 0) ≡ false = grind (arith, nat_tests) in
+      ap (λ m. record { place = t.place - m; stop = if n == 0 then stops.Asked else unwrap_or (option_map stops.Watch (failing_at r x (t.place - m))) stops.Asked }) len
+      ∙ ap (λ b. record { place = t.place - k; stop = if b then stops.Asked else unwrap_or (option_map stops.Watch (failing_at r x (t.place - k))) stops.Asked }) some
+      ∙ ap (λ o. record { place = t.place - k; stop = unwrap_or (option_map stops.Watch o) stops.Asked }) here
+
+  -- the work of one place back within the reach, and of a whole rewind
+  pub work_back : (t u v : Tape) (k : ℕ) (a b d : Work) → u ≡ with_world true u.reach (at (t.place - k) t) → k < t.place → (k ≤ t.reach → u.reach ≡ t.reach - k)
+      → (k ≤ t.reach → TakesBack (rules node probes t.scenario) (t.place - k) k t a b)
+      → (u.warm ≡ true → 1 ≤ u.reach → TakesBack (rules node probes u.scenario) (u.place - 1) 1 u b d)
+      → k + 1 ≤ t.reach → TakesBack (rules node probes t.scenario) (t.place - (k + 1)) (k + 1) t a d
+  work_back t u v k a b d is lt reached before gone le =
+      let r : Rules State Msg = rules node probes t.scenario in
+      let q : ℕ = t.place - (k + 1) in
+      let old : u.reach ≡ t.reach - k = reached (omega arith) in
+      let first : d ≡ undone_by (acting r (t.place - k - 1) 1 t.events) b =
+      gone (ap (λ x. x.warm) is) (omega (arith, old, le)) ∙ ap (λ (x : Tape). undone_by (acting (rules node probes x.scenario) (x.place - 1) 1 x.events) b) is in
+      let same : t.place - k - 1 ≡ q = omega arith in
+      let next : q + 1 ≡ t.place - k = omega (arith, lt) in
+      let up : k + 1 ≡ suc k = omega arith in
+      let sum : acting r q (k + 1) t.events ≡ acts_at r q t.events + acting r (t.place - k) k t.events =
+      ap (λ (n : ℕ). acting r q n t.events) up ∙ ap (λ (p : ℕ). acts_at r q t.events + acting r p k t.events) next in
+      let one : acting r (t.place - k - 1) 1 t.events ≡ acts_at r q t.events = ap (λ (p : ℕ). acting r p 1 t.events) same ∙ add-zero (acts_at r q t.events) in
+      first ∙ ap (undone_by (acting r (t.place - k - 1) 1 t.events)) (before (omega arith)) ∙ ap (λ (n : ℕ). record a { undos = n }) (omega (arith, one, sum))
+
+  pub rewound_work : (t v : Tape) (k : ℕ) (a d : Work) → v ≡ with_world true v.reach (at (t.place - k) t) → k ≤ t.place
+      → (k ≤ t.reach → TakesBack (rules node probes t.scenario) (t.place - k) k t a d)
+      → t.place - v.place ≤ t.reach → TakesBack (rules node probes t.scenario) v.place (t.place - v.place) t a d
+  rewound_work t v k a d is within h near =
+      let r : Rules State Msg = rules node probes t.scenario in
+      let place : v.place ≡ t.place - k = ap (λ x. x.place) is in
+      let back : t.place - v.place ≡ k = omega (arith, place, within) in
+      subst (λ (p : ℕ). TakesBack r p (t.place - v.place) t a d) (sym place) (subst (λ (n : ℕ). TakesBack r (t.place - k) n t a d) (sym back) (h (omega (arith, place, near, within))))
+
+  pub work_none : (t : Tape) (a : Work) → TakesBack (rules node probes t.scenario) (t.place - 0) 0 t a a
+  work_none t a = ap (λ (n : ℕ). record a { undos = n }) (sym (add-zero a.undos))
+
+-- the work of events that are added
+pub adds_none : (a : Work) → Adds 0 a a
+adds_none a = record { turns = omega arith; undos = refl }
+
+pub adds_more : (n c : ℕ) (a b d : Work) → Adds n a b → Plays 1 c b d → Adds (n + 1) a d
+adds_more n c a b d h p = let x = h.turns in let y = p.turns in record { turns = omega (arith, x, y); undos = p.undos ∙ h.undos }
+
+pub adds_so : (n m : ℕ) (a b : Work) → n ≡ m → Adds n a b → Adds m a b
+adds_so n m a b e h = subst (λ (k : ℕ). Adds k a b) e h

@@ -1,0 +1,443 @@
+-- Turns on one branch, from what a tape's calls ensure.
+use Rattle.std.proofs.Common.{◌≡◌, ℕ, ◌+◌, ◌-◌, ◌<◌, ◌≤◌, Bool, true, false, not, ◌||◌, set, List, [], ◌∷◌, ◌++◌, Option, Some, None, length, inl, inr, refl, get_or, get_or-set_same, get_or-set_other, sym, ap, ◌∙◌, subst, arith, is_some, nat_lt, nat_le, min, append-nil, length-append, add-zero}
+use Rattle.std.specs.Prelude.{if◌then◌else◌, IfSome}
+use Rattle.std.proofs.lemmas.Bool.{cases_order}
+use Rattle.sim_book.specs.Watches.{AreChecked}
+use Rattle.std.specs.List.{list_any}
+use Rattle.std.proofs.lemmas.Bool.{le-ltb}
+use Rattle.std.proofs.lemmas.Bool.Decides.{nat_tests}
+use Rattle.sim_node.specs.Node.{NodeLaws}
+use Rattle.sim_queue.specs.Pending.{first}
+use Rattle.sim_world.specs.declared.Event.{Event}
+use Rattle.sim_world.specs.declared.Event.TheVariants as event
+use Rattle.sim_world.specs.declared.Fault.{Fault}
+use Rattle.sim_world.specs.declared.Query.{Query}
+use Rattle.sim_world.specs.declared.View.{View}
+use Rattle.sim_world.specs.declared.Refusal.{Refusal as WorldRefusal}
+use Rattle.sim_world.specs.declared.Refusal.TheVariants as why
+use Rattle.sim_world.specs.Events.{Rules, rules, hosts_of, are_same}
+use Rattle.sim_world.specs.Events as events
+use Rattle.sim_world.specs.Looks.{looked}
+use Rattle.sim_tape.specs.Tape.{Tape, at, with_world, first_events, with_event}
+use Rattle.sim_tape.specs.Places.{world_of, acting}
+use Rattle.sim_tape.specs.Works.{undone_by, Plays, nodes_at_end}
+use Rattle.sim_node.specs.Work.{Work}
+use Rattle.sim_book.specs.Works.{Adds, TakesBack}
+use Rattle.sim_book.specs.Tapes.{lengthened}
+use Rattle.sim_watch.specs.Condition.{Cond, fault_of, names_no_host, names_no_probe, is_empty}
+use Rattle.sim_watch.specs.declared.BadTerm.TheVariants as bad
+use Rattle.std.specs.Option.{unwrap_or}
+use Rattle.sim_book.specs.declared.Command.{Command}
+use Rattle.sim_book.specs.declared.Command.TheVariants as command
+use Rattle.sim_book.specs.declared.Refusal.{Refusal}
+use Rattle.sim_book.specs.declared.Refusal.TheVariants as refusal
+use Rattle.sim_book.specs.declared.Stop.{Stop}
+use Rattle.sim_book.specs.declared.Stop.TheVariants as stop
+use Rattle.sim_book.specs.declared.Reply.{Reply}
+use Rattle.sim_book.specs.declared.Reply.TheVariants as reply
+use Rattle.sim_book.specs.Book.{Branch, Book}
+use Rattle.sim_book.specs.Answer.{free_watch, run_addition, tick_addition, rewind_move, branch_after, reply_of, moved, is_idle, hosts_of_query, asks_no_probe}
+use Rattle.sim_book.specs.Kept.{branch_with}
+use Rattle.sim_book.specs.OnBranch.{IsTurnOn, refusal_on, reply_on, after_on}
+
+module _ {State Msg : Type 0} (r : Rules State Msg) where
+  pub refused_on : (book : Book) (x y : Branch) (c : Command) (why : Refusal) → refusal_on r book x c ≡ Some why → y ≡ x → IsTurnOn r book x c (reply.Refused why) y
+  refused_on book x y c why e same = inl (sym (ap (λ o. reply_on r o book x c) e), same ∙ sym (ap (λ o. after_on r o x c) e))
+
+  pub done_on : (book : Book) (x y : Branch) (c : Command) (given : Reply) → refusal_on r book x c ≡ None → given ≡ reply_of r c book x (branch_after r c x) → y ≡ branch_after r c x
+      → IsTurnOn r book x c given y
+  done_on book x y c given e gives is = inl (gives ∙ sym (ap (λ o. reply_on r o book x c) e), is ∙ sym (ap (λ o. after_on r o x c) e))
+
+-- a step that can't happen, and one that can
+can_not : (b : Bool) (x : WorldRefusal) → (if b then None else Some why.Idle) ≡ Some x → not b ≡ true
+can_not true x e = cc
+can_not false x e = refl
+
+can_so : (b : Bool) → (if b then None else Some why.Idle) ≡ None → not b ≡ false
+can_so true e = refl
+can_so false e = cc
+
+-- what the fault of a condition says of its tests
+fault_unknown : (host probe none : Bool) → (if host then Some bad.UnknownHost else if probe then Some bad.BadProbe else if none then Some bad.Empty else None) ≡ Some bad.UnknownHost → host ≡ true
+fault_unknown true probe none e = refl
+fault_unknown false true none e = absurd cc
+fault_unknown false false true e = absurd cc
+fault_unknown false false false e = absurd cc
+
+fault_probe : (host probe none : Bool) → (if host then Some bad.UnknownHost else if probe then Some bad.BadProbe else if none then Some bad.Empty else None) ≡ Some bad.BadProbe → (host ≡ false) × ((none || probe) ≡ true)
+fault_probe true probe none e = absurd cc
+fault_probe false true true e = (refl, refl)
+fault_probe false true false e = (refl, refl)
+fault_probe false false true e = absurd cc
+fault_probe false false false e = absurd cc
+
+fault_empty : (host probe none : Bool) → (if host then Some bad.UnknownHost else if probe then Some bad.BadProbe else if none then Some bad.Empty else None) ≡ Some bad.Empty → (host ≡ false) × ((none || probe) ≡ true)
+fault_empty true probe none e = absurd cc
+fault_empty false true none e = absurd cc
+fault_empty false false true e = (refl, refl)
+fault_empty false false false e = absurd cc
+
+fault_none : (host probe none : Bool) → (if host then Some bad.UnknownHost else if probe then Some bad.BadProbe else if none then Some bad.Empty else None) ≡ None → (host ≡ false) × ((none || probe) ≡ false)
+fault_none true probe none e = absurd cc
+fault_none false true none e = absurd cc
+fault_none false false true e = absurd cc
+fault_none false false false e = (refl, refl)
+
+module _ {State Msg : Type 0} (node : NodeLaws State Msg) (probes : ℕ) where
+  -- what is said with the rules of one tape is true with those of another tape of its scenario
+  world_same : (t u : Tape) → u.scenario ≡ t.scenario → world_of (rules node probes u.scenario) u ≡ world_of (rules node probes t.scenario) u
+  world_same t u e = ap (λ s. world_of (rules node probes s) u) e
+
+  pub stopped_on : (t u : Tape) (book : Book) (ws : List (Option Cond)) (c : Command) (given : Reply) (why : Stop)
+      → refusal_on (rules node probes t.scenario) book (branch_with ws t) c ≡ None
+      → u.scenario ≡ t.scenario
+      → branch_with ws u ≡ branch_after (rules node probes t.scenario) c (branch_with ws t)
+      → reply_of (rules node probes t.scenario) c book (branch_with ws t) (branch_after (rules node probes t.scenario) c (branch_with ws t)) ≡ moved (rules node probes t.scenario) why (branch_after (rules node probes t.scenario) c (branch_with ws t))
+      → given ≡ reply.Moved u.place (world_of (rules node probes u.scenario) u).clock why
+      → IsTurnOn (rules node probes t.scenario) book (branch_with ws t) c given (branch_with ws u)
+  stopped_on t u book ws c given why free scenario is tells gives =
+      done_on (rules node probes t.scenario) book (branch_with ws t) (branch_with ws u) c given free
+      (gives ∙ ap (λ w. reply.Moved u.place w.clock why) (world_same t u scenario) ∙ ap (moved (rules node probes t.scenario) why) is ∙ sym tells) is
+
+  moved_on : (t u : Tape) (book : Book) (ws : List (Option Cond)) (c : Command) (given : Reply)
+      → refusal_on (rules node probes t.scenario) book (branch_with ws t) c ≡ None
+      → u.scenario ≡ t.scenario
+      → branch_with ws u ≡ branch_after (rules node probes t.scenario) c (branch_with ws t)
+      → reply_of (rules node probes t.scenario) c book (branch_with ws t) (branch_after (rules node probes t.scenario) c (branch_with ws t)) ≡ moved (rules node probes t.scenario) stop.Asked (branch_after (rules node probes t.scenario) c (branch_with ws t))
+      → given ≡ reply.Moved u.place (world_of (rules node probes u.scenario) u).clock stop.Asked
+      → IsTurnOn (rules node probes t.scenario) book (branch_with ws t) c given (branch_with ws u)
+  moved_on t u book ws c given = stopped_on t u book ws c given stop.Asked
+
+  pub goto_on : (t u : Tape) (book : Book) (ws : List (Option Cond)) (b p : ℕ) (given : Reply) → p ≤ length t.events → u ≡ with_world true u.reach (at p t)
+      → given ≡ reply.Moved u.place (world_of (rules node probes u.scenario) u).clock stop.Asked
+      → IsTurnOn (rules node probes t.scenario) book (branch_with ws t) (command.Goto b p) given (branch_with ws u)
+  goto_on t u book ws b p given within is gives =
+      moved_on t u book ws (command.Goto b p) given (rw (le-ltb (length t.events) p within) refl) (ap (λ v. v.scenario) is) (ap (branch_with ws) is) refl gives
+
+  pub back_on : (t u : Tape) (book : Book) (ws : List (Option Cond)) (b n p : ℕ) (given : Reply) → n ≤ t.place → p ≡ t.place - n → u ≡ with_world true u.reach (at p t)
+      → given ≡ reply.Moved u.place (world_of (rules node probes u.scenario) u).clock stop.Asked
+      → IsTurnOn (rules node probes t.scenario) book (branch_with ws t) (command.Back b n) given (branch_with ws u)
+  back_on t u book ws b n p given within there is gives =
+      moved_on t u book ws (command.Back b n) given (rw (le-ltb t.place n within) refl) (ap (λ v. v.scenario) is) (ap (branch_with ws) is ∙ ap (λ q. branch_with ws (at q t)) there) refl gives
+
+  pub forward_on : (t u : Tape) (book : Book) (ws : List (Option Cond)) (b n p : ℕ) (given : Reply) → t.place + n ≤ length t.events → p ≡ t.place + n → u ≡ with_world true u.reach (at p t)
+      → given ≡ reply.Moved u.place (world_of (rules node probes u.scenario) u).clock stop.Asked
+      → IsTurnOn (rules node probes t.scenario) book (branch_with ws t) (command.Forward b n) given (branch_with ws u)
+  forward_on t u book ws b n p given within there is gives =
+      moved_on t u book ws (command.Forward b n) given (rw (le-ltb (length t.events) (t.place + n) within) refl) (ap (λ v. v.scenario) is) (ap (branch_with ws) is ∙ ap (λ q. branch_with ws (at q t)) there) refl gives
+
+  pub cut_on : (t u : Tape) (book : Book) (ws : List (Option Cond)) (b : ℕ) (given : Reply) → u ≡ first_events t.place t
+      → given ≡ reply.Moved u.place (world_of (rules node probes u.scenario) u).clock stop.Asked
+      → IsTurnOn (rules node probes t.scenario) book (branch_with ws t) (command.Cut b) given (branch_with ws u)
+  cut_on t u book ws b given is gives = moved_on t u book ws (command.Cut b) given refl (ap (λ v. v.scenario) is) (ap (branch_with ws) is) refl gives
+
+  pub fault_on : (t u : Tape) (book : Book) (ws : List (Option Cond)) (b : ℕ) (f : Fault) (given : Reply)
+      → list_any (λ h. nat_le t.scenario.setup.hosts h) (hosts_of f) ≡ false → are_same (hosts_of f) ≡ false
+      → t.place ≡ length t.events → length t.events < 65536 → u ≡ with_world true u.reach (with_event (event.Fault f) t)
+      → given ≡ reply.Moved u.place (world_of (rules node probes u.scenario) u).clock stop.Asked
+      → IsTurnOn (rules node probes t.scenario) book (branch_with ws t) (command.Fault b f) given (branch_with ws u)
+  fault_on t u book ws b f given known differ end room is gives =
+      let last : length t.events ≤ t.place = omega arith in
+      let at_end : nat_lt t.place (length t.events) ≡ false = le-ltb t.place (length t.events) last in
+      let has_room : nat_le 65536 (length t.events) ≡ false = grind (arith, nat_tests) in
+      moved_on t u book ws (command.Fault b f) given (rw (known, differ, at_end, has_room) refl) (ap (λ v. v.scenario) is)
+      (ap (branch_with ws) is ∙ ap (λ (p : ℕ). record { events = t.events ++ event.Fault f ∷ []; place = p + 1; watches = ws }) end) refl gives
+
+  -- the tape was made warm before a step
+  pub step_refused : (t w : Tape) (book : Book) (ws : List (Option Cond)) (b : ℕ) (x : WorldRefusal) → t.place ≡ length t.events → length t.events < 65536 → w ≡ with_world true w.reach t
+      → events.refusal_of (rules node probes w.scenario) event.Step (world_of (rules node probes w.scenario) w) ≡ Some x
+      → IsTurnOn (rules node probes t.scenario) book (branch_with ws t) (command.Step b) (reply.Refused refusal.Idle) (branch_with ws w)
+  step_refused t w book ws b x end room is hindered =
+      let r : Rules State Msg = rules node probes t.scenario in
+      let last : length t.events ≤ t.place = omega arith in
+      let at_end : nat_lt t.place (length t.events) ≡ false = le-ltb t.place (length t.events) last in
+      let has_room : nat_le 65536 (length t.events) ≡ false = grind (arith, nat_tests) in
+      let idle : is_idle (world_of (rules node probes t.scenario) t) ≡ true =
+      can_not (is_some (first (world_of (rules node probes t.scenario) t).queue.items)) x (sym (ap (λ v. events.refusal_of (rules node probes v.scenario) event.Step (world_of (rules node probes v.scenario) v)) is) ∙ hindered) in
+      refused_on (rules node probes t.scenario) book (branch_with ws t) (branch_with ws w) (command.Step b) refusal.Idle (rw (at_end, has_room, idle) refl) (ap (branch_with ws) is)
+
+  pub step_on : (t w u : Tape) (book : Book) (ws : List (Option Cond)) (b : ℕ) (given : Reply) → t.place ≡ length t.events → length t.events < 65536 → w ≡ with_world true w.reach t
+      → events.refusal_of (rules node probes w.scenario) event.Step (world_of (rules node probes w.scenario) w) ≡ None
+      → u ≡ with_world true u.reach (with_event event.Step w)
+      → given ≡ reply.Moved u.place (world_of (rules node probes u.scenario) u).clock stop.Asked
+      → IsTurnOn (rules node probes t.scenario) book (branch_with ws t) (command.Step b) given (branch_with ws u)
+  step_on t w u book ws b given end room is free more gives =
+      let last : length t.events ≤ t.place = omega arith in
+      let at_end : nat_lt t.place (length t.events) ≡ false = le-ltb t.place (length t.events) last in
+      let has_room : nat_le 65536 (length t.events) ≡ false = grind (arith, nat_tests) in
+      let busy : is_idle (world_of (rules node probes t.scenario) t) ≡ false =
+      can_so (is_some (first (world_of (rules node probes t.scenario) t).queue.items)) (sym (ap (λ v. events.refusal_of (rules node probes v.scenario) event.Step (world_of (rules node probes v.scenario) v)) is) ∙ free) in
+      let grown : u ≡ with_world true u.reach (with_event event.Step (with_world true w.reach t)) = more ∙ ap (λ v. with_world true u.reach (with_event event.Step v)) is in
+      moved_on t u book ws (command.Step b) given (rw (at_end, has_room, busy) refl) (ap (λ v. v.scenario) grown)
+      (ap (branch_with ws) grown ∙ ap (λ (p : ℕ). record { events = t.events ++ event.Step ∷ []; place = p + 1; watches = ws }) end) refl gives
+
+  -- a run that can't go on, one of no steps, and one of some
+  pub run_refused : (t w : Tape) (book : Book) (ws : List (Option Cond)) (b n : ℕ) (x : WorldRefusal) → t.place ≡ length t.events → length t.events < 65536 → w ≡ with_world true w.reach t
+      → events.refusal_of (rules node probes w.scenario) event.Step (world_of (rules node probes w.scenario) w) ≡ Some x
+      → IsTurnOn (rules node probes t.scenario) book (branch_with ws t) (command.Run b n) (reply.Refused refusal.Idle) (branch_with ws w)
+  run_refused t w book ws b n x end room is hindered =
+      let last : length t.events ≤ t.place = omega arith in
+      let at_end : nat_lt t.place (length t.events) ≡ false = le-ltb t.place (length t.events) last in
+      let has_room : nat_le 65536 (length t.events) ≡ false = grind (arith, nat_tests) in
+      let idle : is_idle (world_of (rules node probes t.scenario) t) ≡ true =
+      can_not (is_some (first (world_of (rules node probes t.scenario) t).queue.items)) x (sym (ap (λ v. events.refusal_of (rules node probes v.scenario) event.Step (world_of (rules node probes v.scenario) v)) is) ∙ hindered) in
+      refused_on (rules node probes t.scenario) book (branch_with ws t) (branch_with ws w) (command.Run b n) refusal.Idle (rw (at_end, has_room, idle) refl) (ap (branch_with ws) is)
+
+  run_free : (t w : Tape) (book : Book) (ws : List (Option Cond)) (b n : ℕ) → t.place ≡ length t.events → length t.events < 65536 → w ≡ with_world true w.reach t
+      → events.refusal_of (rules node probes w.scenario) event.Step (world_of (rules node probes w.scenario) w) ≡ None
+      → refusal_on (rules node probes t.scenario) book (branch_with ws t) (command.Run b n) ≡ None
+  run_free t w book ws b n end room is free =
+      let last : length t.events ≤ t.place = omega arith in
+      let at_end : nat_lt t.place (length t.events) ≡ false = le-ltb t.place (length t.events) last in
+      let has_room : nat_le 65536 (length t.events) ≡ false = grind (arith, nat_tests) in
+      let busy : is_idle (world_of (rules node probes t.scenario) t) ≡ false =
+      can_so (is_some (first (world_of (rules node probes t.scenario) t).queue.items)) (sym (ap (λ v. events.refusal_of (rules node probes v.scenario) event.Step (world_of (rules node probes v.scenario) v)) is) ∙ free) in
+      rw (at_end, has_room, busy) refl
+
+  pub run_none : (t w : Tape) (book : Book) (ws : List (Option Cond)) (b n : ℕ) (given : Reply) → t.place ≡ length t.events → length t.events < 65536 → w ≡ with_world true w.reach t
+      → events.refusal_of (rules node probes w.scenario) event.Step (world_of (rules node probes w.scenario) w) ≡ None → n ≡ 0
+      → given ≡ reply.Moved w.place (world_of (rules node probes w.scenario) w).clock stop.Asked
+      → IsTurnOn (rules node probes t.scenario) book (branch_with ws t) (command.Run b n) given (branch_with ws w)
+  run_none t w book ws b n given end room is free none gives =
+      let place : t.place ≡ length t.events + 0 = omega arith in
+      subst (λ (m : ℕ). IsTurnOn (rules node probes t.scenario) book (branch_with ws t) (command.Run b m) given (branch_with ws w)) (sym none)
+      (moved_on t w book ws (command.Run b 0) given (run_free t w book ws b 0 end room is free) (ap (λ v. v.scenario) is)
+      (ap (branch_with ws) is ∙ ap (λ es. record { events = es; place = t.place; watches = ws }) (sym (append-nil t.events)) ∙ ap (λ p. record { events = t.events ++ []; place = p; watches = ws }) place) refl gives)
+
+  pub run_on : (t w u : Tape) (book : Book) (ws : List (Option Cond)) (b n : ℕ) (given : Reply) (why : Stop) → t.place ≡ length t.events → length t.events < 65536 → w ≡ with_world true w.reach t
+      → events.refusal_of (rules node probes w.scenario) event.Step (world_of (rules node probes w.scenario) w) ≡ None
+      → why ≡ (run_addition (rules node probes w.scenario) n (branch_with ws w)).stop
+      → u ≡ with_world true u.reach (lengthened (run_addition (rules node probes w.scenario) n (branch_with ws w)).events w)
+      → given ≡ reply.Moved u.place (world_of (rules node probes u.scenario) u).clock why
+      → IsTurnOn (rules node probes t.scenario) book (branch_with ws t) (command.Run b n) given (branch_with ws u)
+  run_on t w u book ws b n given why end room is free stops more gives =
+      let grown = more ∙ ap (λ v. with_world true u.reach (lengthened (run_addition (rules node probes v.scenario) n (branch_with ws v)).events v)) is in
+      let stop_is : why ≡ (run_addition (rules node probes t.scenario) n (branch_with ws t)).stop = stops ∙ ap (λ v. (run_addition (rules node probes v.scenario) n (branch_with ws v)).stop) is in
+      stopped_on t u book ws (command.Run b n) given why (run_free t w book ws b n end room is free) (ap (λ v. v.scenario) grown) (ap (branch_with ws) grown)
+      (ap (λ s. moved (rules node probes t.scenario) s (branch_after (rules node probes t.scenario) (command.Run b n) (branch_with ws t))) (sym stop_is)) gives
+
+  -- a tick
+  pub tick_on : (t w u : Tape) (book : Book) (ws : List (Option Cond)) (b : ℕ) (given : Reply) (why : Stop) → t.place ≡ length t.events → length t.events < 65536 → w ≡ with_world true w.reach t
+      → why ≡ (tick_addition (rules node probes w.scenario) (branch_with [] w)).stop
+      → u ≡ with_world true u.reach (lengthened (tick_addition (rules node probes w.scenario) (branch_with [] w)).events w)
+      → given ≡ reply.Moved u.place (world_of (rules node probes u.scenario) u).clock why
+      → IsTurnOn (rules node probes t.scenario) book (branch_with ws t) (command.Tick b) given (branch_with ws u)
+  tick_on t w u book ws b given why end room is stops more gives =
+      let last : length t.events ≤ t.place = omega arith in
+      let at_end : nat_lt t.place (length t.events) ≡ false = le-ltb t.place (length t.events) last in
+      let has_room : nat_le 65536 (length t.events) ≡ false = grind (arith, nat_tests) in
+      let grown : u ≡ with_world true u.reach (lengthened (tick_addition (rules node probes t.scenario) (branch_with [] t)).events t) =
+      more ∙ ap (λ v. with_world true u.reach (lengthened (tick_addition (rules node probes v.scenario) (branch_with [] v)).events v)) is in
+      let stop_is : why ≡ (tick_addition (rules node probes t.scenario) (branch_with [] t)).stop = stops ∙ ap (λ v. (tick_addition (rules node probes v.scenario) (branch_with [] v)).stop) is in
+      stopped_on t u book ws (command.Tick b) given why (rw (at_end, has_room) refl) (ap (λ v. v.scenario) grown) (ap (branch_with ws) grown)
+      (ap (λ s. moved (rules node probes t.scenario) s (branch_after (rules node probes t.scenario) (command.Tick b) (branch_with ws t))) (sym stop_is)) gives
+
+  -- a rewind of no events, and one of some
+  pub rewind_none : (t w : Tape) (book : Book) (ws : List (Option Cond)) (b n : ℕ) (given : Reply) → n ≤ t.place → w ≡ with_world true w.reach t → n ≡ 0
+      → given ≡ reply.Moved w.place (world_of (rules node probes w.scenario) w).clock stop.Asked
+      → IsTurnOn (rules node probes t.scenario) book (branch_with ws t) (command.Rewind b n) given (branch_with ws w)
+  rewind_none t w book ws b n given within is none gives =
+      let place : t.place ≡ t.place - 0 = omega arith in
+      let start : nat_lt t.place 0 ≡ false = le-ltb t.place 0 (omega arith) in
+      subst (λ (m : ℕ). IsTurnOn (rules node probes t.scenario) book (branch_with ws t) (command.Rewind b m) given (branch_with ws w)) (sym none)
+      (moved_on t w book ws (command.Rewind b 0) given (rw start refl) (ap (λ v. v.scenario) is)
+      (ap (branch_with ws) is ∙ ap (λ p. record { events = t.events; place = p; watches = ws }) place) refl gives)
+
+  pub rewind_on : (t w u : Tape) (book : Book) (ws : List (Option Cond)) (b n : ℕ) (given : Reply) (why : Stop) → n ≤ t.place → w ≡ with_world true w.reach t
+      → why ≡ (rewind_move (rules node probes w.scenario) n (branch_with ws w)).stop
+      → u ≡ with_world true u.reach (at (rewind_move (rules node probes w.scenario) n (branch_with ws w)).place w)
+      → given ≡ reply.Moved u.place (world_of (rules node probes u.scenario) u).clock why
+      → IsTurnOn (rules node probes t.scenario) book (branch_with ws t) (command.Rewind b n) given (branch_with ws u)
+  rewind_on t w u book ws b n given why within is stops gone gives =
+      let moved_is = gone ∙ ap (λ v. with_world true u.reach (at (rewind_move (rules node probes v.scenario) n (branch_with ws v)).place v)) is in
+      let stop_is : why ≡ (rewind_move (rules node probes t.scenario) n (branch_with ws t)).stop = stops ∙ ap (λ v. (rewind_move (rules node probes v.scenario) n (branch_with ws v)).stop) is in
+      stopped_on t u book ws (command.Rewind b n) given why (rw (le-ltb t.place n within) refl) (ap (λ v. v.scenario) moved_is) (ap (branch_with ws) moved_is)
+      (ap (λ s. moved (rules node probes t.scenario) s (branch_after (rules node probes t.scenario) (command.Rewind b n) (branch_with ws t))) (sym stop_is)) gives
+
+  pub look_on : (t u : Tape) (book : Book) (ws : List (Option Cond)) (b : ℕ) (q : Query) (place : ℕ) (view : View)
+      → list_any (λ h. nat_le t.scenario.setup.hosts h) (hosts_of_query q) ≡ false → are_same (hosts_of_query q) ≡ false → asks_no_probe probes q ≡ false
+      → u ≡ with_world true u.reach t → place ≡ u.place → view ≡ looked (rules node probes u.scenario) q (world_of (rules node probes u.scenario) u)
+      → IsTurnOn (rules node probes t.scenario) book (branch_with ws t) (command.Look b q) (reply.Seen place view) (branch_with ws u)
+  look_on t u book ws b q place view known differ asks is at_place sees =
+      let here : place ≡ t.place = at_place ∙ ap (λ v. v.place) is in
+      let seen : view ≡ looked (rules node probes t.scenario) q (world_of (rules node probes t.scenario) t) =
+      sees ∙ ap (λ v. looked (rules node probes v.scenario) q (world_of (rules node probes v.scenario) v)) is in
+      done_on (rules node probes t.scenario) book (branch_with ws t) (branch_with ws u) (command.Look b q) (reply.Seen place view) (rw (known, differ, asks) refl)
+      (ap (λ p. reply.Seen p view) here ∙ ap (λ v. reply.Seen t.place v) seen) (ap (branch_with ws) is)
+
+  -- a condition that names a host that is not there; one for which there is no number; one that can't be used; one that is kept
+  pub watch_unknown : (t : Tape) (book : Book) (ws : List (Option Cond)) (b hosts : ℕ) (c : Cond) → hosts ≡ t.scenario.setup.hosts → fault_of hosts probes c ≡ Some bad.UnknownHost
+      → IsTurnOn (rules node probes t.scenario) book (branch_with ws t) (command.Watch b c) (reply.Refused refusal.UnknownHost) (branch_with ws t)
+  watch_unknown t book ws b hosts c same e =
+      let unknown : list_any (names_no_host t.scenario.setup.hosts) c ≡ true = fault_unknown (list_any (names_no_host t.scenario.setup.hosts) c) (list_any (names_no_probe probes) c) (is_empty c) (subst (λ (n : ℕ). fault_of n probes c ≡ Some bad.UnknownHost) same e) in
+      refused_on (rules node probes t.scenario) book (branch_with ws t) (branch_with ws t) (command.Watch b c) refusal.UnknownHost (rw unknown refl) refl
+
+  pub watch_full : (t : Tape) (book : Book) (ws : List (Option Cond)) (b hosts : ℕ) (c : Cond) → hosts ≡ t.scenario.setup.hosts → list_any (names_no_host hosts) c ≡ false → free_watch ws ≡ None
+      → IsTurnOn (rules node probes t.scenario) book (branch_with ws t) (command.Watch b c) (reply.Refused refusal.WatchesFull) (branch_with ws t)
+  watch_full t book ws b hosts c same known full =
+      let known' : list_any (names_no_host t.scenario.setup.hosts) c ≡ false = subst (λ (n : ℕ). list_any (names_no_host n) c ≡ false) same known in
+      let none : not (is_some (free_watch ws)) ≡ true = ap (λ o. not (is_some o)) full in
+      refused_on (rules node probes t.scenario) book (branch_with ws t) (branch_with ws t) (command.Watch b c) refusal.WatchesFull
+      (ap (λ x. if x then Some refusal.UnknownHost else if not (is_some (free_watch ws)) then Some refusal.WatchesFull else if is_empty c || list_any (names_no_probe probes) c then Some refusal.BadCondition else None) known'
+      ∙ ap (λ x. if x then Some refusal.WatchesFull else if is_empty c || list_any (names_no_probe probes) c then Some refusal.BadCondition else None) none) refl
+
+  pub watch_bad : (t : Tape) (book : Book) (ws : List (Option Cond)) (b hosts i : ℕ) (c : Cond) → hosts ≡ t.scenario.setup.hosts → list_any (names_no_host hosts) c ≡ false → free_watch ws ≡ Some i
+      → (is_empty c || list_any (names_no_probe probes) c) ≡ true
+      → IsTurnOn (rules node probes t.scenario) book (branch_with ws t) (command.Watch b c) (reply.Refused refusal.BadCondition) (branch_with ws t)
+  watch_bad t book ws b hosts i c same known room is_bad =
+      let known' : list_any (names_no_host t.scenario.setup.hosts) c ≡ false = subst (λ (n : ℕ). list_any (names_no_host n) c ≡ false) same known in
+      let some : not (is_some (free_watch ws)) ≡ false = ap (λ o. not (is_some o)) room in
+      refused_on (rules node probes t.scenario) book (branch_with ws t) (branch_with ws t) (command.Watch b c) refusal.BadCondition
+      (ap (λ x. if x then Some refusal.UnknownHost else if not (is_some (free_watch ws)) then Some refusal.WatchesFull else if is_empty c || list_any (names_no_probe probes) c then Some refusal.BadCondition else None) known'
+      ∙ ap (λ x. if x then Some refusal.WatchesFull else if is_empty c || list_any (names_no_probe probes) c then Some refusal.BadCondition else None) some
+      ∙ ap (λ x. if x then Some refusal.BadCondition else None) is_bad) refl
+
+  pub watch_on : (t : Tape) (book : Book) (ws : List (Option Cond)) (b hosts i : ℕ) (c : Cond) → hosts ≡ t.scenario.setup.hosts → list_any (names_no_host hosts) c ≡ false → free_watch ws ≡ Some i
+      → (is_empty c || list_any (names_no_probe probes) c) ≡ false
+      → IsTurnOn (rules node probes t.scenario) book (branch_with ws t) (command.Watch b c) (reply.Made i) (branch_with (set ws i (Some c)) t)
+  watch_on t book ws b hosts i c same known room good =
+      let known' : list_any (names_no_host t.scenario.setup.hosts) c ≡ false = subst (λ (n : ℕ). list_any (names_no_host n) c ≡ false) same known in
+      let some : not (is_some (free_watch ws)) ≡ false = ap (λ o. not (is_some o)) room in
+      done_on (rules node probes t.scenario) book (branch_with ws t) (branch_with (set ws i (Some c)) t) (command.Watch b c) (reply.Made i)
+      (ap (λ x. if x then Some refusal.UnknownHost else if not (is_some (free_watch ws)) then Some refusal.WatchesFull else if is_empty c || list_any (names_no_probe probes) c then Some refusal.BadCondition else None) known'
+      ∙ ap (λ x. if x then Some refusal.WatchesFull else if is_empty c || list_any (names_no_probe probes) c then Some refusal.BadCondition else None) some
+      ∙ ap (λ x. if x then Some refusal.BadCondition else None) good)
+      (ap (λ o. reply.Made (unwrap_or o 8)) (sym room)) (ap (λ o. branch_with (set ws (unwrap_or o 8) (Some c)) t) (sym room))
+
+  watch_either : (t : Tape) (book : Book) (ws : List (Option Cond)) (b hosts : ℕ) (c : Cond) (given : Reply) → hosts ≡ t.scenario.setup.hosts
+      → (list_any (names_no_host hosts) c ≡ false) × ((is_empty c || list_any (names_no_probe probes) c) ≡ true)
+      → given ≡ reply.Refused (if is_some (free_watch ws) then refusal.BadCondition else refusal.WatchesFull)
+      → IsTurnOn (rules node probes t.scenario) book (branch_with ws t) (command.Watch b c) given (branch_with ws t)
+  watch_either t book ws b hosts c given same e gives =
+      subst (λ (x : Reply). IsTurnOn (rules node probes t.scenario) book (branch_with ws t) (command.Watch b c) x (branch_with ws t)) (sym gives)
+      (elim (free_watch ws) as (λ o. free_watch ws ≡ o → IsTurnOn (rules node probes t.scenario) book (branch_with ws t) (command.Watch b c) (reply.Refused (if is_some o then refusal.BadCondition else refusal.WatchesFull)) (branch_with ws t)) [
+        | None ↦ λ full. watch_full t book ws b hosts c same e.0 full
+        | Some i ↦ λ room. watch_bad t book ws b hosts i c same e.0 room e.1
+      ] refl)
+
+  pub watch_probe : (t : Tape) (book : Book) (ws : List (Option Cond)) (b hosts : ℕ) (c : Cond) (given : Reply) → hosts ≡ t.scenario.setup.hosts → fault_of hosts probes c ≡ Some bad.BadProbe
+      → given ≡ reply.Refused (if is_some (free_watch ws) then refusal.BadCondition else refusal.WatchesFull)
+      → IsTurnOn (rules node probes t.scenario) book (branch_with ws t) (command.Watch b c) given (branch_with ws t)
+  watch_probe t book ws b hosts c given same e gives = watch_either t book ws b hosts c given same (fault_probe (list_any (names_no_host hosts) c) (list_any (names_no_probe probes) c) (is_empty c) e) gives
+
+  pub watch_empty : (t : Tape) (book : Book) (ws : List (Option Cond)) (b hosts : ℕ) (c : Cond) (given : Reply) → hosts ≡ t.scenario.setup.hosts → fault_of hosts probes c ≡ Some bad.Empty
+      → given ≡ reply.Refused (if is_some (free_watch ws) then refusal.BadCondition else refusal.WatchesFull)
+      → IsTurnOn (rules node probes t.scenario) book (branch_with ws t) (command.Watch b c) given (branch_with ws t)
+  watch_empty t book ws b hosts c given same e gives = watch_either t book ws b hosts c given same (fault_empty (list_any (names_no_host hosts) c) (list_any (names_no_probe probes) c) (is_empty c) e) gives
+
+  pub watch_no_room : (t : Tape) (book : Book) (ws : List (Option Cond)) (b hosts : ℕ) (c : Cond) → hosts ≡ t.scenario.setup.hosts → fault_of hosts probes c ≡ None → free_watch ws ≡ None
+      → IsTurnOn (rules node probes t.scenario) book (branch_with ws t) (command.Watch b c) (reply.Refused refusal.WatchesFull) (branch_with ws t)
+  watch_no_room t book ws b hosts c same e full = watch_full t book ws b hosts c same (fault_none (list_any (names_no_host hosts) c) (list_any (names_no_probe probes) c) (is_empty c) e).0 full
+
+  pub watch_kept : (t : Tape) (book : Book) (ws : List (Option Cond)) (b hosts i : ℕ) (c d : Cond) → hosts ≡ t.scenario.setup.hosts → fault_of hosts probes c ≡ None → free_watch ws ≡ Some i → d ≡ c
+      → IsTurnOn (rules node probes t.scenario) book (branch_with ws t) (command.Watch b c) (reply.Made i) (branch_with (set ws i (Some d)) t)
+  watch_kept t book ws b hosts i c d same e room copy =
+      let good = fault_none (list_any (names_no_host hosts) c) (list_any (names_no_probe probes) c) (is_empty c) e in
+      subst (λ (x : Cond). IsTurnOn (rules node probes t.scenario) book (branch_with ws t) (command.Watch b c) (reply.Made i) (branch_with (set ws i (Some x)) t)) (sym copy)
+      (watch_on t book ws b hosts i c same good.0 room good.1)
+
+  checked_other : (ws : List (Option Cond)) (hosts i k : ℕ) (d : Cond) → AreChecked hosts probes ws → (k ≡ i → ⊥) → IfSome (get_or (set ws i (Some d)) k None) (λ x. fault_of hosts probes x ≡ None)
+  checked_other ws hosts i k d h differ = subst (λ (o : Option Cond). IfSome o (λ x. fault_of hosts probes x ≡ None)) (sym (get_or-set_other ws i k (Some d) None differ)) (h k)
+
+  pub checked_more : (ws : List (Option Cond)) (hosts i : ℕ) (c d : Cond) → AreChecked hosts probes ws → fault_of hosts probes c ≡ None → d ≡ c → i < length ws → AreChecked hosts probes (set ws i (Some d))
+  checked_more ws hosts i c d h e copy lt k = elim (cases_order k i) [
+    | inl same ↦
+        let here : get_or (set ws i (Some d)) k None ≡ Some d = ap (λ j. get_or (set ws i (Some d)) j None) same ∙ get_or-set_same ws i (Some d) None lt in
+        subst (λ (o : Option Cond). IfSome o (λ x. fault_of hosts probes x ≡ None)) (sym here) (ap (fault_of hosts probes) copy ∙ e)
+    | inr (inl before) ↦ checked_other ws hosts i k d h (λ is. absurd (omega arith))
+    | inr (inr past) ↦ checked_other ws hosts i k d h (λ is. absurd (omega arith))
+  ]
+
+-- a tape that was warm keeps its reach where it is made sure of
+pub warm_reach : (t w : Tape) → (t.warm ≡ true → w ≡ t) → t.warm ≡ true → w.reach ≡ t.reach
+warm_reach t w same warm = ap (λ (x : Tape). x.reach) (same warm)
+
+-- what a run does to the reach
+pub run_keeps : (t w u : Tape) (new : List Event) → w ≡ with_world true w.reach t → (t.warm ≡ true → w.reach ≡ t.reach) → u ≡ with_world true u.reach (lengthened new w)
+    → u.reach ≡ min w.scenario.window (w.reach + length new)
+    → (u.warm ≡ true) × (t.warm ≡ true → u.reach ≡ min t.scenario.window (t.reach + (length u.events - length t.events)))
+run_keeps t w u new is same more reach = (
+  ap (λ x. x.warm) more,
+  λ warm.
+      let window : w.scenario.window ≡ t.scenario.window = ap (λ x. x.scenario.window) is in
+      let old : length w.events ≡ length t.events = ap (λ x. length x.events) is in
+      let grown : length u.events ≡ length w.events + length new = ap (λ x. length x.events) more ∙ length-append w.events new in
+      let reached = same warm in
+      omega (arith, window, old, grown, reached, reach),
+)
+
+pub run_none_keeps : (t w : Tape) → w ≡ with_world true w.reach t → (t.warm ≡ true → w.reach ≡ t.reach) → t.reach ≤ t.scenario.window
+    → (w.warm ≡ true) × (t.warm ≡ true → w.reach ≡ min t.scenario.window (t.reach + (length w.events - length t.events)))
+run_none_keeps t w is same few = (
+  ap (λ x. x.warm) is,
+  λ warm.
+      let old : length w.events ≡ length t.events = ap (λ x. length x.events) is in
+      let reached = same warm in
+      omega (arith, old, reached, few),
+)
+
+-- what a rewind does to the reach
+pub rewind_keeps : (t w u : Tape) (p : ℕ) → w ≡ with_world true w.reach t → (t.warm ≡ true → w.reach ≡ t.reach) → u ≡ with_world true u.reach (at p w)
+    → (w.place - u.place ≤ w.reach → u.reach ≡ w.reach - (w.place - u.place))
+    → (u.warm ≡ true) × (t.warm ≡ true → t.place - u.place ≤ t.reach → u.reach ≡ t.reach - (t.place - u.place))
+rewind_keeps t w u p is same gone reach = (
+  ap (λ x. x.warm) gone,
+  λ warm near.
+      let old : w.place ≡ t.place = ap (λ x. x.place) is in
+      let reached : w.reach ≡ t.reach = same warm in
+      let lower : u.reach ≡ w.reach - (w.place - u.place) = reach (omega arith) in
+      omega (arith, old, reached, lower),
+)
+
+pub rewind_none_keeps : (t w : Tape) → w ≡ with_world true w.reach t → (t.warm ≡ true → w.reach ≡ t.reach)
+    → (w.warm ≡ true) × (t.warm ≡ true → t.place - w.place ≤ t.reach → w.reach ≡ t.reach - (t.place - w.place))
+rewind_none_keeps t w is same = (
+  ap (λ x. x.warm) is,
+  λ warm near.
+      let old : w.place ≡ t.place = ap (λ x. x.place) is in
+      let reached : w.reach ≡ t.reach = same warm in
+      omega (arith, old, reached),
+)
+
+module _ {State Msg : Type 0} (node : NodeLaws State Msg) (probes : ℕ) where
+  -- something is pending where a step can happen
+  pub busy_on : (t w : Tape) → w ≡ with_world true w.reach t → events.refusal_of (rules node probes w.scenario) event.Step (world_of (rules node probes w.scenario) w) ≡ None
+      → is_idle (world_of (rules node probes t.scenario) t) ≡ false
+  busy_on t w is free =
+      can_so (is_some (first (world_of (rules node probes t.scenario) t).queue.items)) (sym (ap (λ v. events.refusal_of (rules node probes v.scenario) event.Step (world_of (rules node probes v.scenario) v)) is) ∙ free)
+
+  -- the work of an event that is added to a tape which was warm
+  pub add_works : (t w : Tape) (e : Event) (a b d : Work) → w ≡ t → b ≡ a → Plays 1 (nodes_at_end (rules node probes w.scenario) e w) b d
+      → Plays 1 (nodes_at_end (rules node probes t.scenario) e t) a d
+  add_works t w e a b d same none h =
+      subst (λ (x : Work). Plays 1 (nodes_at_end (rules node probes t.scenario) e t) x d) none
+      (subst (λ (x : Tape). Plays 1 (nodes_at_end (rules node probes x.scenario) e x) b d) same h)
+
+-- the work of events that are added to a tape which was warm
+pub run_works : (t w u : Tape) (new : List Event) (a b d : Work) → w ≡ t → b ≡ a → u ≡ with_world true u.reach (lengthened new w) → Adds (length new) b d
+    → Adds (length u.events - length t.events) a d
+run_works t w u new a b d same none more h =
+    let old : length w.events ≡ length t.events = ap (λ x. length x.events) same in
+    let grown : length u.events ≡ length w.events + length new = ap (λ x. length x.events) more ∙ length-append w.events new in
+    let count : length new ≡ length u.events - length t.events = omega (arith, old, grown) in
+    subst (λ (n : ℕ). Adds n a d) count (subst (λ (x : Work). Adds (length new) x d) none h)
+
+pub run_none_works : (t w : Tape) (a b : Work) → w ≡ t → b ≡ a → Adds (length w.events - length t.events) a b
+run_none_works t w a b same none =
+    let turns = ap (λ x. x.turns) none in
+    record { turns = omega (arith, turns); undos = ap (λ x. x.undos) none }
+
+-- the work of a rewind of a tape which was warm
+pub rewind_works : {State Msg : Type 0} (node : NodeLaws State Msg) (probes : ℕ) (t w u : Tape) (a b d : Work) → w ≡ t → b ≡ a
+    → (w.place - u.place ≤ w.reach → TakesBack (rules node probes w.scenario) u.place (w.place - u.place) w b d)
+    → t.place - u.place ≤ t.reach → TakesBack (rules node probes t.scenario) u.place (t.place - u.place) t a d
+rewind_works node probes t w u a b d same none h =
+    subst (λ (x : Work). t.place - u.place ≤ t.reach → TakesBack (rules node probes t.scenario) u.place (t.place - u.place) t x d) none
+    (subst (λ (x : Tape). x.place - u.place ≤ x.reach → TakesBack (rules node probes x.scenario) u.place (x.place - u.place) x b d) same h)
+
+pub rewind_none_works : {State Msg : Type 0} (node : NodeLaws State Msg) (probes : ℕ) (t w : Tape) (a b : Work) → w ≡ t → b ≡ a
+    → TakesBack (rules node probes t.scenario) w.place (t.place - w.place) t a b
+rewind_none_works node probes t w a b same none =
+    let r = rules node probes t.scenario in
+    let back : t.place - w.place ≡ 0 = (let place = ap (λ x. x.place) same in omega (arith, place)) in
+    none ∙ ap (λ (n : ℕ). record a { undos = n }) (sym (add-zero a.undos)) ∙ ap (λ (n : ℕ). undone_by (acting r w.place n t.events) a) (sym back)

@@ -1,0 +1,42 @@
+use Rattle.sim_book.specs.Works.{Works}
+use Rattle.std.proofs.Common.{arith, sym, subst}
+use Rattle.sim_book.proofs.Turns.{warm_reach, rewind_on, rewind_none, rewind_keeps, rewind_none_keeps, rewind_works, rewind_none_works}
+use Rattle.sim_book.specs.Keeps.{Keeps}
+use Rattle.sim_book.specs.declared.Command.TheVariants as command
+use Rattle.sim_book.specs.declared.Reply.{Reply}
+use Rattle.sim_book.proofs.branch.rewind.Goals as goal
+
+pub returns-then-count-eq0-clause-turn : goal.returns-then-count-eq0-clause-turn
+returns-then-count-eq0-clause-turn g c = λ book.
+    rewind_none g.N.Node.laws g.N.Node.PROBES c.args.tape.now c.make_warm.new.self book c.args.watches.now c.args.b c.args.count c.moved.result (omega arith) c.in-Ok.ensures.ok (omega arith) c.moved.ensures
+
+pub returns-in-Ok-rewind-clause-turn : goal.returns-in-Ok-rewind-clause-turn
+returns-in-Ok-rewind-clause-turn g c = λ book.
+    rewind_on g.N.Node.laws g.N.Node.PROBES c.args.tape.now c.make_warm.new.self c.rewind.new.tape book c.args.watches.now c.args.b c.args.count c.moved-in-Ok-rewind.result c.in-Ok-rewind.why (omega arith) c.in-Ok.ensures.ok
+    c.in-Ok-rewind.ensures.stop c.in-Ok-rewind.ensures.ok c.moved-in-Ok-rewind.ensures
+
+pub returns-then-count-eq0-clause-keeps : goal.returns-then-count-eq0-clause-keeps
+returns-then-count-eq0-clause-keeps g c =
+    subst (λ (x : Reply). Keeps g.N.Node.laws g.N.Node.PROBES (command.Rewind c.args.b c.args.count) x c.args.tape.now c.make_warm.new.self) (sym c.moved.ensures)
+    (rewind_none_keeps c.args.tape.now c.make_warm.new.self c.in-Ok.ensures.ok (warm_reach c.args.tape.now c.make_warm.new.self (λ warm. (c.make_warm.ensures.warm warm).1)))
+
+pub returns-in-Ok-rewind-clause-keeps : goal.returns-in-Ok-rewind-clause-keeps
+returns-in-Ok-rewind-clause-keeps g c =
+    subst (λ (x : Reply). Keeps g.N.Node.laws g.N.Node.PROBES (command.Rewind c.args.b c.args.count) x c.args.tape.now c.rewind.new.tape) (sym c.moved-in-Ok-rewind.ensures)
+    (rewind_keeps c.args.tape.now c.make_warm.new.self c.rewind.new.tape _ c.in-Ok.ensures.ok (warm_reach c.args.tape.now c.make_warm.new.self (λ warm. (c.make_warm.ensures.warm warm).1)) c.in-Ok-rewind.ensures.ok c.in-Ok-rewind.ensures.reach)
+
+pub returns-then-count-eq0-clause-work : goal.returns-then-count-eq0-clause-work
+returns-then-count-eq0-clause-work g c =
+    let W = g.N.Meter.Meter.work in
+    subst (λ (x : Reply). Works g.N.Node.laws g.N.Node.PROBES (command.Rewind c.args.b c.args.count) x c.args.tape.now c.make_warm.new.self (W c.args.meter.now) (W c.make_warm.new.meter)) (sym c.moved.ensures)
+    (λ warm _.
+        let kept = c.make_warm.ensures.warm warm in
+        rewind_none_works g.N.Node.laws g.N.Node.PROBES c.args.tape.now c.make_warm.new.self (W c.args.meter.now) (W c.make_warm.new.meter) kept.1 kept.2)
+
+pub returns-in-Ok-rewind-clause-work : goal.returns-in-Ok-rewind-clause-work
+returns-in-Ok-rewind-clause-work g c =
+    let W = g.N.Meter.Meter.work in
+    subst (λ (x : Reply). Works g.N.Node.laws g.N.Node.PROBES (command.Rewind c.args.b c.args.count) x c.args.tape.now c.rewind.new.tape (W c.args.meter.now) (W c.rewind.new.meter)) (sym c.moved-in-Ok-rewind.ensures)
+    (λ warm.
+        let kept = c.make_warm.ensures.warm warm in
+        rewind_works g.N.Node.laws g.N.Node.PROBES c.args.tape.now c.make_warm.new.self c.rewind.new.tape (W c.args.meter.now) (W c.make_warm.new.meter) (W c.rewind.new.meter) kept.1 kept.2 c.in-Ok-rewind.ensures.work)

@@ -1,0 +1,49 @@
+use Rattle.sim_book.specs.Works.{Works}
+use Rattle.std.proofs.Common.{arith, sym, subst}
+use Rattle.sim_book.proofs.Turns.{warm_reach, run_on, run_none, run_refused, run_keeps, run_none_keeps, busy_on, run_works, run_none_works}
+use Rattle.sim_book.specs.Keeps.{Keeps}
+use Rattle.sim_book.specs.declared.Command.TheVariants as command
+use Rattle.sim_book.specs.declared.Reply.{Reply}
+use Rattle.sim_book.proofs.branch.run.Goals as goal
+
+pub returns-in-Err-can_step-clause-turn : goal.returns-in-Err-can_step-clause-turn
+returns-in-Err-can_step-clause-turn g c = λ book.
+    run_refused g.N.Node.laws g.N.Node.PROBES c.args.tape.now c.make_warm.new.self book c.args.watches.now c.args.b c.args.count c.in-Err-can_step.field-0 (omega arith) (omega arith) c.in-Ok.ensures.ok c.in-Err-can_step.ensures
+
+pub returns-then-count-eq0-clause-turn : goal.returns-then-count-eq0-clause-turn
+returns-then-count-eq0-clause-turn g c = λ book.
+    run_none g.N.Node.laws g.N.Node.PROBES c.args.tape.now c.make_warm.new.self book c.args.watches.now c.args.b c.args.count c.moved.result (omega arith) (omega arith) c.in-Ok.ensures.ok c.in-Ok-can_step.ensures (omega arith) c.moved.ensures
+
+pub returns-in-Ok-run-clause-turn : goal.returns-in-Ok-run-clause-turn
+returns-in-Ok-run-clause-turn g c = λ book.
+    run_on g.N.Node.laws g.N.Node.PROBES c.args.tape.now c.make_warm.new.self c.run.new.tape book c.args.watches.now c.args.b c.args.count c.moved-in-Ok-run.result c.in-Ok-run.why (omega arith) (omega arith) c.in-Ok.ensures.ok c.in-Ok-can_step.ensures
+    c.in-Ok-run.ensures.stop c.in-Ok-run.ensures.ok c.moved-in-Ok-run.ensures
+
+pub returns-then-count-eq0-clause-keeps : goal.returns-then-count-eq0-clause-keeps
+returns-then-count-eq0-clause-keeps g c =
+    subst (λ (x : Reply). Keeps g.N.Node.laws g.N.Node.PROBES (command.Run c.args.b c.args.count) x c.args.tape.now c.make_warm.new.self) (sym c.moved.ensures)
+    (run_none_keeps c.args.tape.now c.make_warm.new.self c.in-Ok.ensures.ok (warm_reach c.args.tape.now c.make_warm.new.self (λ warm. (c.make_warm.ensures.warm warm).1)) c.warm-warm.ensures.reach)
+
+pub returns-in-Ok-run-clause-keeps : goal.returns-in-Ok-run-clause-keeps
+returns-in-Ok-run-clause-keeps g c =
+    subst (λ (x : Reply). Keeps g.N.Node.laws g.N.Node.PROBES (command.Run c.args.b c.args.count) x c.args.tape.now c.run.new.tape) (sym c.moved-in-Ok-run.ensures)
+    (run_keeps c.args.tape.now c.make_warm.new.self c.run.new.tape _ c.in-Ok.ensures.ok (warm_reach c.args.tape.now c.make_warm.new.self (λ warm. (c.make_warm.ensures.warm warm).1)) c.in-Ok-run.ensures.ok c.in-Ok-run.ensures.reach)
+
+pub returns-in-Err-run-clause-keeps : goal.returns-in-Err-run-clause-keeps
+returns-in-Err-run-clause-keeps g c = λ _. busy_on g.N.Node.laws g.N.Node.PROBES c.args.tape.now c.make_warm.new.self c.in-Ok.ensures.ok c.in-Ok-can_step.ensures
+
+pub returns-then-count-eq0-clause-work : goal.returns-then-count-eq0-clause-work
+returns-then-count-eq0-clause-work g c =
+    let W = g.N.Meter.Meter.work in
+    subst (λ (x : Reply). Works g.N.Node.laws g.N.Node.PROBES (command.Run c.args.b c.args.count) x c.args.tape.now c.make_warm.new.self (W c.args.meter.now) (W c.make_warm.new.meter)) (sym c.moved.ensures)
+    (λ warm.
+        let kept = c.make_warm.ensures.warm warm in
+        run_none_works c.args.tape.now c.make_warm.new.self (W c.args.meter.now) (W c.make_warm.new.meter) kept.1 kept.2)
+
+pub returns-in-Ok-run-clause-work : goal.returns-in-Ok-run-clause-work
+returns-in-Ok-run-clause-work g c =
+    let W = g.N.Meter.Meter.work in
+    subst (λ (x : Reply). Works g.N.Node.laws g.N.Node.PROBES (command.Run c.args.b c.args.count) x c.args.tape.now c.run.new.tape (W c.args.meter.now) (W c.run.new.meter)) (sym c.moved-in-Ok-run.ensures)
+    (λ warm.
+        let kept = c.make_warm.ensures.warm warm in
+        run_works c.args.tape.now c.make_warm.new.self c.run.new.tape _ (W c.args.meter.now) (W c.make_warm.new.meter) (W c.run.new.meter) kept.1 kept.2 c.in-Ok-run.ensures.ok c.in-Ok-run.ensures.work)

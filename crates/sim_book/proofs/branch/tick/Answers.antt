@@ -1,0 +1,25 @@
+use Rattle.sim_book.specs.Works.{Works}
+use Rattle.std.proofs.Common.{arith, sym, subst}
+use Rattle.sim_book.proofs.Turns.{warm_reach, tick_on, run_keeps, run_works}
+use Rattle.sim_book.specs.Keeps.{Keeps}
+use Rattle.sim_book.specs.declared.Command.TheVariants as command
+use Rattle.sim_book.specs.declared.Reply.{Reply}
+use Rattle.sim_book.proofs.branch.tick.Goals as goal
+
+pub returns-in-Ok-tick-clause-turn : goal.returns-in-Ok-tick-clause-turn
+returns-in-Ok-tick-clause-turn g c = λ ws book.
+    tick_on g.N.Node.laws g.N.Node.PROBES c.args.tape.now c.make_warm.new.self c.tick.new.tape book ws c.args.b c.moved.result c.in-Ok-tick.why (omega arith) (omega arith) c.in-Ok.ensures.ok
+    c.in-Ok-tick.ensures.stop c.in-Ok-tick.ensures.ok c.moved.ensures
+
+pub returns-in-Ok-tick-clause-keeps : goal.returns-in-Ok-tick-clause-keeps
+returns-in-Ok-tick-clause-keeps g c =
+    subst (λ (x : Reply). Keeps g.N.Node.laws g.N.Node.PROBES (command.Tick c.args.b) x c.args.tape.now c.tick.new.tape) (sym c.moved.ensures)
+    (run_keeps c.args.tape.now c.make_warm.new.self c.tick.new.tape _ c.in-Ok.ensures.ok (warm_reach c.args.tape.now c.make_warm.new.self (λ warm. (c.make_warm.ensures.warm warm).1)) c.in-Ok-tick.ensures.ok c.in-Ok-tick.ensures.reach)
+
+pub returns-in-Ok-tick-clause-work : goal.returns-in-Ok-tick-clause-work
+returns-in-Ok-tick-clause-work g c =
+    let W = g.N.Meter.Meter.work in
+    subst (λ (x : Reply). Works g.N.Node.laws g.N.Node.PROBES (command.Tick c.args.b) x c.args.tape.now c.tick.new.tape (W c.args.meter.now) (W c.tick.new.meter)) (sym c.moved.ensures)
+    (λ warm.
+        let kept = c.make_warm.ensures.warm warm in
+        run_works c.args.tape.now c.make_warm.new.self c.tick.new.tape _ (W c.args.meter.now) (W c.make_warm.new.meter) (W c.tick.new.meter) kept.1 kept.2 c.in-Ok-tick.ensures.ok c.in-Ok-tick.ensures.work)

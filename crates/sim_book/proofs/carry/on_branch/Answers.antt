@@ -1,0 +1,42 @@
+use Rattle.std.proofs.Common.{sym, ap, ◌∙◌, refl}
+use Rattle.sim_book.proofs.Books.{kept_turn, kept_keeps}
+use Rattle.sim_book.proofs.carry.on_branch.Goals as goal
+
+pub returns-in-Step-clause-turn : goal.returns-in-Step-clause-turn
+returns-in-Step-clause-turn g c = λ book.
+    kept_turn g.N.Node.laws g.N.Node.PROBES c.args.kept.now (record { tape = c.step.new.tape; watches = c.kept.inside.watches }) c.kept.inside.tape c.step.new.tape c.kept.inside.watches c.kept.inside.watches book
+    c.args.command.now _ c.step.result c.kept.view_is refl c.in-Step.is (c.step.ensures.turn c.kept.inside.watches book)
+
+pub returns-in-Tick-clause-turn : goal.returns-in-Tick-clause-turn
+returns-in-Tick-clause-turn g c = λ book.
+    kept_turn g.N.Node.laws g.N.Node.PROBES c.args.kept.now (record { tape = c.tick.new.tape; watches = c.kept.inside.watches }) c.kept.inside.tape c.tick.new.tape c.kept.inside.watches c.kept.inside.watches book
+    c.args.command.now _ c.tick.result c.kept.view_is refl c.in-Tick.is (c.tick.ensures.turn c.kept.inside.watches book)
+
+pub returns-in-Cut-clause-turn : goal.returns-in-Cut-clause-turn
+returns-in-Cut-clause-turn g c = λ book.
+    kept_turn g.N.Node.laws g.N.Node.PROBES c.args.kept.now (record { tape = c.cut.new.tape; watches = c.kept.inside.watches }) c.kept.inside.tape c.cut.new.tape c.kept.inside.watches c.kept.inside.watches book
+    c.args.command.now _ c.cut.result c.kept.view_is refl c.in-Cut.is (c.cut.ensures.turn c.kept.inside.watches book)
+
+pub returns-in-Run-clause-turn : goal.returns-in-Run-clause-turn
+returns-in-Run-clause-turn g c = λ book.
+    kept_turn g.N.Node.laws g.N.Node.PROBES c.args.kept.now (record { tape = c.run.new.tape; watches = c.kept.inside.watches }) c.kept.inside.tape c.run.new.tape c.kept.inside.watches c.kept.inside.watches book
+    c.args.command.now _ c.run.result c.kept.view_is refl c.in-Run.is (c.run.ensures.turn book)
+
+pub returns-in-Freeze-clause-turn : goal.returns-in-Freeze-clause-turn
+returns-in-Freeze-clause-turn g c = λ book.
+    kept_turn g.N.Node.laws g.N.Node.PROBES c.args.kept.now c.args.kept.now c.kept.inside.tape c.kept.inside.tape c.kept.inside.watches c.kept.inside.watches book
+    c.args.command.now _ c.freeze.result c.kept.view_is c.kept.view_is c.in-Freeze.is (c.freeze.ensures.turn c.kept.inside.watches book)
+
+pub returns-in-Watch-clause-turn : goal.returns-in-Watch-clause-turn
+returns-in-Watch-clause-turn g c = λ book.
+    let hosts = c.hosts-hosts.ensures.value ∙ ap (λ s. s.setup.hosts) (sym c.requires.kept.scenario) ∙ ap (λ k. k.tape.scenario.setup.hosts) (sym c.kept.view_is) in
+    kept_turn g.N.Node.laws g.N.Node.PROBES c.args.kept.now (record { tape = c.kept.inside.tape; watches = c.watch.new.watches }) c.kept.inside.tape c.kept.inside.tape c.kept.inside.watches c.watch.new.watches book
+    c.args.command.now _ c.watch.result c.kept.view_is refl c.in-Watch.is (c.watch.ensures.turn book c.kept.inside.tape hosts)
+
+pub returns-in-Watch-clause-keeps : goal.returns-in-Watch-clause-keeps
+returns-in-Watch-clause-keeps g c =
+    kept_keeps g.N.Node.laws g.N.Node.PROBES c.args.kept.now c.kept.inside.tape c.kept.inside.tape c.kept.inside.watches c.args.command.now _ c.watch.result c.kept.view_is c.in-Watch.is (c.watch.ensures.keeps c.kept.inside.tape)
+
+pub returns-in-Unwatch-clause-keeps : goal.returns-in-Unwatch-clause-keeps
+returns-in-Unwatch-clause-keeps g c =
+    kept_keeps g.N.Node.laws g.N.Node.PROBES c.args.kept.now c.kept.inside.tape c.kept.inside.tape c.kept.inside.watches c.args.command.now _ c.unwatch.result c.kept.view_is c.in-Unwatch.is (c.unwatch.ensures.keeps c.kept.inside.tape)

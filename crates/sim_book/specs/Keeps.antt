@@ -1,0 +1,58 @@
+-- What a command does to the warmth and the reach of its branch's tape.
+use Rattle.std.specs.Prelude.{◌≡◌, ℕ, ◌+◌, ◌-◌, ◌<◌, ◌≤◌, ◌≢◌, min, Bool, true, false, List, length, slice_index_or, IsTrue}
+use Rattle.sim_node.specs.Node.{NodeLaws}
+use Rattle.sim_world.specs.Events.{rules}
+use Rattle.sim_tape.specs.Tape.{Tape}
+use Rattle.sim_tape.specs.Places.{world_of}
+use Rattle.sim_book.specs.declared.Command.{Command}
+use Rattle.sim_book.specs.declared.Command.TheVariants as command
+use Rattle.sim_book.specs.declared.Refusal.{Refusal}
+use Rattle.sim_book.specs.declared.Refusal.TheVariants as refusal
+use Rattle.sim_book.specs.declared.Reply.{Reply}
+use Rattle.sim_book.specs.declared.Reply.TheVariants as reply
+use Rattle.sim_book.specs.Book.{branch_of}
+use Rattle.sim_book.specs.Answer.{is_idle}
+use Rattle.sim_book.specs.Kept.{Kept}
+
+-- a warm tape's reach rises by one for each event that is added or walked forward, up to its window, and falls by one for each that is walked back within the reach
+abbrev pub Moves : Command → Tape → Tape → Type 0
+Moves (command.Step b) t u = IsTrue u.warm × (IsTrue t.warm → u.reach ≡ min t.scenario.window (t.reach + 1))
+Moves (command.Fault b f) t u = IsTrue u.warm × (IsTrue t.warm → u.reach ≡ min t.scenario.window (t.reach + 1))
+Moves (command.Back b n) t u = IsTrue u.warm × (IsTrue t.warm → n ≤ t.reach → u.reach ≡ t.reach - n)
+Moves (command.Forward b n) t u = IsTrue u.warm × (IsTrue t.warm → u.reach ≡ min t.scenario.window (t.reach + n))
+Moves (command.Goto b p) t u = IsTrue u.warm
+Moves (command.Run b n) t u = IsTrue u.warm × (IsTrue t.warm → u.reach ≡ min t.scenario.window (t.reach + (length u.events - length t.events)))
+Moves (command.Tick b) t u = IsTrue u.warm × (IsTrue t.warm → u.reach ≡ min t.scenario.window (t.reach + (length u.events - length t.events)))
+Moves (command.Rewind b n) t u = IsTrue u.warm × (IsTrue t.warm → t.place - u.place ≤ t.reach → u.reach ≡ t.reach - (t.place - u.place))
+Moves (command.Cut b) t u = (u.warm ≡ t.warm) × (u.reach ≡ t.reach)
+Moves _ t u = Unit {0}
+
+-- a command whose reply can be a list of events
+abbrev pub is_freeze : Command → Bool
+is_freeze (command.Freeze b) = true
+is_freeze _ = false
+
+module _ {State Msg : Type 0} (node : NodeLaws State Msg) (probes : ℕ) where
+  -- a step or a run on a warm tape wants memory only where something is pending
+  abbrev pub Wants : Command → Tape → Type 0
+  Wants (command.Step b) t = IsTrue t.warm → is_idle (world_of (rules node probes t.scenario) t) ≡ false
+  Wants (command.Run b n) t = IsTrue t.warm → is_idle (world_of (rules node probes t.scenario) t) ≡ false
+  Wants _ t = Unit {0}
+
+  -- a refusal other than for want of memory leaves a warm tape as it is
+  abbrev pub Refuses : Refusal → Command → Tape → Tape → Type 0
+  Refuses refusal.NoMemory c t u = Wants c t
+  Refuses _ c t u = IsTrue t.warm → u ≡ t
+
+  abbrev pub Keeps : Command → Reply → Tape → Tape → Type 0
+  Keeps c (reply.Moved place clock why) t u = Moves c t u
+  Keeps c (reply.Seen place view) t u = IsTrue u.warm × (IsTrue t.warm → u ≡ t)
+  Keeps c (reply.Refused why) t u = Refuses why c t u
+  Keeps c (reply.Made n) t u = u ≡ t
+  Keeps c (reply.Dropped n) t u = u ≡ t
+  Keeps c (reply.Frozen list) t u = IsTrue (is_freeze c) × (u ≡ t)
+
+  -- of a book's tapes only that of the command's branch changes, in this way
+  pub record KeepsTapes (c : Command) (given : Reply) (old new : List Kept) : Type 0 where
+    pub others : (i : ℕ) (d : Kept) → i < length old → i ≢ branch_of c → slice_index_or new i d ≡ slice_index_or old i d
+    pub own : (d : Kept) → branch_of c < length old → Keeps c given (slice_index_or old (branch_of c) d).tape (slice_index_or new (branch_of c) d).tape

@@ -1,0 +1,31 @@
+-- What a contract sees of a book's branch: its tape and its watches; and of a book.
+use Rattle.std.specs.Prelude.{List, map, Option}
+use Rattle.sim_node.specs.Work.{Work}
+use Rattle.sim_tape.specs.Tape.{Tape}
+use Rattle.sim_world.specs.World.{Scenario}
+use Rattle.sim_watch.specs.Condition.{Cond}
+use Rattle.sim_book.specs.Book.{Branch, Book}
+use Rattle.sim_book.specs.declared.Entry.{Entry}
+
+pub record Kept : Type 0 where
+  pub tape : Tape
+  pub watches : List (Option Cond)
+
+abbrev pub branch_with : List (Option Cond) → Tape → Branch
+branch_with watches t = record { events = t.events; place = t.place; watches = watches }
+
+abbrev pub shown : Kept → Branch
+shown k = branch_with k.watches k.tape
+
+abbrev pub all_shown : List Kept → Book
+all_shown ks = map shown ks
+
+--     scenario   what its runs are set up with
+--     kept       its branches
+--     history    the entries, in order
+--     work       what its meter has counted
+pub record BookView : Type 0 where
+  pub scenario : Scenario
+  pub kept : List Kept
+  pub history : List Entry
+  pub work : Work

@@ -1,0 +1,12 @@
+pub mod Book
+pub mod Answer
+pub mod History
+pub mod Kept
+pub mod Tapes
+pub mod OnBranch
+pub mod BookOf
+pub mod Keeps
+pub mod Works
+pub mod Freezing
+pub mod Watches
+pub mod Running

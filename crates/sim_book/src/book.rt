@@ -1,0 +1,252 @@
+ghost use Rattle.std.specs.Prelude.{◌≡◌, ℕ, ◌+◌, ◌<◌, ◌≤◌, true, List, length, IfOk, OnOk, OnErr, IfErr, OnSome, IfSome, None, slice_index_or, replicate, false, IsTrue, ◌↔◌, ◌∷◌, [], ◌++◌};
+ghost use Rattle.sim_world.specs.Events.{rules};
+ghost use Rattle.sim_tape.specs.Tape.{opened};
+ghost use Rattle.sim_book.specs.Kept.{all_shown, Kept as KeptValue};
+ghost use Rattle.sim_book.specs.History.{IsLegal};
+ghost use Rattle.sim_book.specs.Book.{opening};
+ghost use Rattle.sim_book.specs.BookOf.{IsBook, IsTaken};
+ghost use Rattle.sim_book.specs.Keeps.{KeepsTapes};
+ghost use Rattle.sim_book.specs.Works.{TakesWork};
+ghost use Rattle.sim_book.specs.Freezing.{GivesFrozen, GivesMade, IsWhole};
+
+use crate::carry::carry_out;
+use crate::copies::twin;
+use crate::kept::Kept;
+use crate::{Command, Entry, MOST_ENTRIES, NotTaken, Reply};
+use sim_node::{NoMemory, Node};
+use sim_tape::{Frozen, Tape};
+use sim_world::Scenario;
+use std::alloc::Global;
+use std::marker::Model;
+
+/// Branches of one run, with the history of the commands that made them.
+#[derive(Drop)]
+pub struct Book<N: Node> {
+    scenario: Scenario,
+    branches: Vec<Kept<N>>,
+    history: Vec<Entry>,
+    numbers: [u32; 256],
+    meter: N::Meter,
+}
+
+impl<N: Node> Model for Book<N> {
+    ghost use Rattle.sim_world.specs.Events.{rules};
+    ghost use Rattle.sim_book.specs.Kept.{BookView};
+    ghost use Rattle.sim_book.specs.BookOf.{IsBook};
+
+    ghost Value = { BookView };
+
+    ghost view = { λ b. record { scenario = b.scenario; kept = b.branches.items; history = b.history.items; work = N.Meter.work b.meter } };
+
+    ghost invariant = { λ b. IsBook (rules N.laws N.PROBES b.scenario) b.scenario b.branches.items b.history.items b.numbers };
+}
+
+// A command is carried out and its entry is kept.
+fn take_turn<N: Node>(
+    alloc: Global,
+    scenario: &Scenario,
+    branches: &mut Vec<Kept<N>>,
+    history: &mut Vec<Entry>,
+    numbers: &mut [u32; 256],
+    meter: &mut N::Meter,
+    session: u8,
+    command: Command,
+) -> Result<Entry, NotTaken>
+    requires book { IsBook (rules N.laws N.PROBES scenario.now) scenario.now branches.old.items history.old.items numbers.old }
+    ensures book { IsBook (rules N.laws N.PROBES scenario.now) scenario.now branches.new.items history.new.items numbers.new }
+    ensures taken { IfOk result (λ e. IsTaken (rules N.laws N.PROBES scenario.now) session command branches.old.items history.old.items e branches.new.items history.new.items) }
+    ensures keeps { IfOk result (λ e. KeepsTapes N.laws N.PROBES command e.reply branches.old.items branches.new.items) }
+    ensures work { IfOk result (λ e. TakesWork N.laws N.PROBES command e.reply branches.old.items branches.new.items (N.Meter.work meter.old) (N.Meter.work meter.new)) }
+    ensures meter { OnErr result (N.Meter.work meter.new ≡ N.Meter.work meter.old) }
+    ensures branches { OnErr result (branches.new.items ≡ branches.old.items) }
+    ensures history { OnErr result (history.new.items ≡ history.old.items) }
+    ensures room { OnOk result (length history.old.items < 65536) }
+    ensures full { IfErr result (λ why. (why ≡ NotTaken.HistoryFull) ↔ (65536 ≤ length history.old.items)) }
+{
+    if history.len() >= 65536 {
+        return Err(NotTaken::HistoryFull);
+    }
+    match history.reserve(1) {
+        Err(_) => return Err(NotTaken::NoMemory),
+        Ok(()) => {}
+    }
+    let reply = carry_out(alloc, scenario, branches, meter, &command);
+    let (reply, told) = twin(alloc, reply);
+    let number = numbers[session as usize] + 1;
+    numbers[session as usize] = number;
+    let again = command.copy();
+    history.push_reserved(Entry {
+        session,
+        number,
+        command,
+        reply,
+    });
+    Ok(Entry {
+        session,
+        number,
+        command: again,
+        reply: told,
+    })
+}
+
+// The first branch.
+fn opening<N: Node>(
+    alloc: Global,
+    scenario: &Scenario,
+    meter: &mut N::Meter,
+) -> Result<Vec<Kept<N>>, NoMemory>
+    ensures { IfOk result (λ ks. ks.items ≡ record { tape = opened scenario.now; watches = None ∷ None ∷ None ∷ None ∷ None ∷ None ∷ None ∷ None ∷ [] } ∷ []) }
+{
+    let tape = Tape::new(alloc, scenario, meter)?;
+    let mut branches = Vec::new(alloc);
+    branches.push(Kept {
+        tape,
+        watches: [None, None, None, None, None, None, None, None],
+    })?;
+    Ok(branches)
+}
+
+// How many entries each session has: none.
+fn no_entries() -> [u32; 256]
+    ensures { result ≡ replicate 256 0 }
+{
+    [0; 256]
+}
+
+// What was made, where the reply is a list of events.
+fn where_frozen<N: Node>(reply: &Reply, made: Option<Frozen<N>>) -> Option<Frozen<N>>
+    ensures { GivesMade made reply.now result }
+{
+    match reply {
+        Reply::Frozen(_) => made,
+        _ => None,
+    }
+}
+
+impl<N: Node> Book<N> {
+    /// A book of one branch without events.
+    pub fn new(alloc: Global, scenario: &Scenario, mut meter: N::Meter) -> Result<Book<N>, NoMemory>
+        ensures scenario { IfOk result (λ b. b.scenario ≡ scenario.now) }
+        ensures history { IfOk result (λ b. b.history ≡ []) }
+        ensures branches { IfOk result (λ b. all_shown b.kept ≡ opening) }
+    {
+        let branches = opening(alloc, scenario, &mut meter)?;
+        let history = Vec::new(alloc);
+        let numbers = no_entries();
+        Ok(Book {
+            scenario: scenario.copy(),
+            branches,
+            history,
+            numbers,
+            meter,
+        })
+    }
+
+    /// A session's command is carried out. An entry tells the reply and is kept at the history's end.
+    pub fn turn(&mut self, alloc: Global, session: u8, command: Command) -> Result<Entry, NotTaken>
+        ensures taken { IfOk result (λ e. IsTaken (rules N.laws N.PROBES self.old.scenario) session command self.old.kept self.old.history e self.new.kept self.new.history) }
+        ensures keeps { IfOk result (λ e. KeepsTapes N.laws N.PROBES command e.reply self.old.kept self.new.kept) }
+        ensures work { IfOk result (λ e. TakesWork N.laws N.PROBES command e.reply self.old.kept self.new.kept self.old.work self.new.work) }
+        ensures scenario { self.new.scenario ≡ self.old.scenario }
+        ensures not_taken { OnErr result (self.new ≡ self.old) }
+        ensures room { OnOk result (length self.old.history < 65536) }
+        ensures full { IfErr result (λ why. (why ≡ NotTaken.HistoryFull) ↔ (65536 ≤ length self.old.history)) }
+        ensures legal { IsLegal (rules N.laws N.PROBES self.new.scenario) self.new.history (all_shown self.new.kept) }
+    {
+        take_turn(
+            alloc,
+            &self.scenario,
+            &mut self.branches,
+            &mut self.history,
+            &mut self.numbers,
+            &mut self.meter,
+            session,
+            command,
+        )
+    }
+
+    /// The book's meter.
+    pub fn meter(&self) -> &N::Meter
+        ensures { N.Meter.work result.now ≡ self.now.work }
+    {
+        &self.meter
+    }
+
+    /// Whether the tape of a branch holds its world, or none where there is no such branch.
+    pub fn warm(&self, b: u32) -> Option<bool>
+        ensures there { OnSome result (b < length self.now.kept) }
+        ensures none { result ≡ None → length self.now.kept ≤ b }
+        ensures value { IfSome result (λ w. (d : KeptValue) → w ≡ (slice_index_or self.now.kept b d).tape.warm) }
+    {
+        match self.branches.get(b as usize) {
+            None => None,
+            Some(kept) => Some(kept.tape.warm()),
+        }
+    }
+
+    /// All kept events of a branch, which is there, with the book's scenario. No entry is made.
+    pub fn frozen(&self, alloc: Global, b: u32) -> Result<Frozen<N>, NoMemory>
+        requires { b < length self.now.kept }
+        ensures { IfOk result (λ f. (f.scenario ≡ self.now.scenario) × ((d : KeptValue) → f.events ≡ (slice_index_or self.now.kept b d).tape.events)) }
+    {
+        self.branches[b as usize].tape.freeze(alloc)
+    }
+
+    // All kept events of a branch, or none where there is no such branch.
+    fn whole(&self, alloc: Global, b: u32) -> Result<Option<Frozen<N>>, NoMemory>
+        ensures { IfOk result (IsWhole self.now.scenario self.now.kept b) }
+    {
+        match self.warm(b) {
+            None => Ok(None),
+            Some(_) => Ok(Some(self.frozen(alloc, b)?)),
+        }
+    }
+
+    // Whether no more entries can be kept.
+    fn is_full(&self) -> bool
+        ensures full { IsTrue result ↔ (65536 ≤ length self.now.history) }
+        ensures legal { IsLegal (rules N.laws N.PROBES self.now.scenario) self.now.history (all_shown self.now.kept) }
+    {
+        MOST_ENTRIES <= self.history.len()
+    }
+
+    /// A session's command to freeze a branch is carried out, as by `turn`. Beside the entry all kept events of the branch are given
+    /// exactly where the reply is their list.
+    pub fn freeze(
+        &mut self,
+        alloc: Global,
+        session: u8,
+        b: u32,
+    ) -> Result<(Entry, Option<Frozen<N>>), NotTaken>
+        ensures frozen { IfOk result (λ r. GivesFrozen self.old.scenario r.0.reply r.1) }
+        ensures taken { IfOk result (λ r. IsTaken (rules N.laws N.PROBES self.old.scenario) session (Command.Freeze b) self.old.kept self.old.history r.0 self.new.kept self.new.history) }
+        ensures keeps { IfOk result (λ r. KeepsTapes N.laws N.PROBES (Command.Freeze b) r.0.reply self.old.kept self.new.kept) }
+        ensures work { IfOk result (λ r. TakesWork N.laws N.PROBES (Command.Freeze b) r.0.reply self.old.kept self.new.kept self.old.work self.new.work) }
+        ensures scenario { self.new.scenario ≡ self.old.scenario }
+        ensures not_taken { OnErr result (self.new ≡ self.old) }
+        ensures room { OnOk result (length self.old.history < 65536) }
+        ensures full { IfErr result (λ why. (why ≡ NotTaken.HistoryFull) ↔ (65536 ≤ length self.old.history)) }
+        ensures legal { IsLegal (rules N.laws N.PROBES self.new.scenario) self.new.history (all_shown self.new.kept) }
+    {
+        if self.is_full() {
+            return Err(NotTaken::HistoryFull);
+        }
+        match self.whole(alloc, b) {
+            Err(_) => Err(NotTaken::NoMemory),
+            Ok(made) => {
+                let entry = self.turn(alloc, session, Command::Freeze(b))?;
+                let given = where_frozen(&entry.reply, made);
+                Ok((entry, given))
+            }
+        }
+    }
+
+    /// The history, without a growth.
+    pub fn into_entries(self) -> Vec<Entry>
+        ensures value { result.items ≡ self.history }
+        ensures legal { IsLegal (rules N.laws N.PROBES self.scenario) result.items (all_shown self.kept) }
+    {
+        let Book { history, .. } = self;
+        history
+    }
+}

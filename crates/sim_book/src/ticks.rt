@@ -1,0 +1,131 @@
+//! Ticks: steps up to a time, and an advance to it.
+ghost use Rattle.std.specs.Prelude.{◌≡◌, ℕ, ◌+◌, ◌-◌, ◌*◌, ◌==◌, ◌<◌, ◌≤◌, true, List, [], min, length, IsTrue, OnOk, OnErr, IfOk, if◌then◌else◌};
+ghost use Rattle.sim_world.specs.declared.Event.{Event};
+ghost use Rattle.sim_world.specs.Events.{rules};
+ghost use Rattle.sim_tape.specs.Tape.{with_world};
+ghost use Rattle.sim_tape.specs.Places.{world_of};
+ghost use Rattle.sim_book.specs.Tapes.{lengthened};
+ghost use Rattle.sim_book.specs.Kept.{branch_with};
+ghost use Rattle.sim_book.specs.Book.{all_done};
+ghost use Rattle.sim_book.specs.Works.{Adds};
+ghost use Rattle.sim_book.specs.Answer.{is_due_by, tick_end, tick_room, tick_addition};
+
+use crate::{MOST_EVENTS, MOST_TICK_EVENTS, Stop};
+use sim_node::{NoMemory, Node};
+use sim_tape::Tape;
+use sim_world::Event;
+use std::alloc::Global;
+
+// How many events a tick can add where so many are kept.
+fn room_of(kept: u32) -> u32
+    requires { kept ≤ 65536 }
+    ensures { result ≡ min 1024 (65536 - kept) }
+{
+    let room = MOST_EVENTS - kept;
+    if room < MOST_TICK_EVENTS {
+        room
+    } else {
+        MOST_TICK_EVENTS
+    }
+}
+
+// The clock at the place of a warm tape (ms).
+fn clock<N: Node>(tape: &Tape<N>) -> u64
+    requires { IsTrue tape.now.warm }
+    ensures value { result ≡ (world_of (rules N.laws N.PROBES tape.now.scenario) tape.now).clock }
+    ensures small { result ≤ 60000 * 65536 }
+{
+    tape.here().clock()
+}
+
+// Whether something is due at a time (ms) or before it, at the place of a warm tape.
+fn is_due_by<N: Node>(tape: &Tape<N>, time: u64) -> bool
+    requires { IsTrue tape.now.warm }
+    ensures { result ≡ is_due_by time (world_of (rules N.laws N.PROBES tape.now.scenario) tape.now) }
+{
+    tape.here().is_due_by(time)
+}
+
+// Why a tick stops that came to its time, at the place of a warm tape.
+fn stop_at_end<N: Node>(tape: &Tape<N>) -> Stop
+    requires { IsTrue tape.now.warm }
+    ensures { result ≡ (if all_done (rules N.laws N.PROBES tape.now.scenario) (world_of (rules N.laws N.PROBES tape.now.scenario) tape.now) then Stop.AllDone else Stop.Asked) }
+{
+    if tape.here().are_clients_done() {
+        Stop::AllDone
+    } else {
+        Stop::Asked
+    }
+}
+
+// Why a tick stops that did not come to its time.
+fn stop_short<N: Node>(tape: &Tape<N>) -> Stop
+    ensures { result ≡ (if length tape.now.events == 65536 then Stop.Full else Stop.Long) }
+{
+    if tape.len() == MOST_EVENTS {
+        Stop::Full
+    } else {
+        Stop::Long
+    }
+}
+
+// Adds steps while something is due by a time (ms), and then an advance to it, at most so many events. After want of memory some may
+// have been added.
+fn add_tick<N: Node>(
+    alloc: Global,
+    tape: &mut Tape<N>,
+    meter: &mut N::Meter,
+    end: u64,
+    room: u32,
+) -> Result<Stop, NoMemory>
+    requires end { end ≡ tick_end (rules N.laws N.PROBES tape.old.scenario) (branch_with [] tape.old) }
+    requires near { tape.old.scenario.tick ≤ 60000 }
+    requires room { room ≡ tick_room (rules N.laws N.PROBES tape.old.scenario) (branch_with [] tape.old) }
+    requires reach { tape.old.reach ≤ tape.old.scenario.window }
+    requires warm { IsTrue tape.old.warm }
+    requires place { tape.old.place ≡ length tape.old.events }
+    ensures stop { IfOk result (λ why. why ≡ (tick_addition (rules N.laws N.PROBES tape.old.scenario) (branch_with [] tape.old)).stop) }
+    ensures ok { OnOk result (tape.new ≡ with_world true tape.new.reach (lengthened (tick_addition (rules N.laws N.PROBES tape.old.scenario) (branch_with [] tape.old)).events tape.old)) }
+    ensures reach { OnOk result (tape.new.reach ≡ min tape.old.scenario.window (tape.old.reach + length (tick_addition (rules N.laws N.PROBES tape.old.scenario) (branch_with [] tape.old)).events)) }
+    ensures work { OnOk result (Adds (length (tick_addition (rules N.laws N.PROBES tape.old.scenario) (branch_with [] tape.old)).events) (N.Meter.work meter.old) (N.Meter.work meter.new)) }
+    ensures err { OnErr result ((more : List Event) × (tape.new ≡ with_world tape.new.warm tape.new.reach (lengthened more tape.old))) }
+{
+    for added in 0..room {
+        let _ = added;
+        if !is_due_by(tape, end) {
+            tape.add(alloc, Event::Advance(end), meter)?;
+            return Ok(stop_at_end(tape));
+        }
+        tape.add(alloc, Event::Step, meter)?;
+    }
+    Ok(stop_short(tape))
+}
+
+/// Adds the events of a tick, which takes so long (ms). After want of memory the events are as before.
+pub(crate) fn tick<N: Node>(
+    alloc: Global,
+    tape: &mut Tape<N>,
+    meter: &mut N::Meter,
+    takes: u32,
+) -> Result<Stop, NoMemory>
+    requires takes { takes ≡ tape.old.scenario.tick }
+    requires near { takes ≤ 60000 }
+    requires warm { IsTrue tape.old.warm }
+    requires place { tape.old.place ≡ length tape.old.events }
+    ensures stop { IfOk result (λ why. why ≡ (tick_addition (rules N.laws N.PROBES tape.old.scenario) (branch_with [] tape.old)).stop) }
+    ensures ok { OnOk result (tape.new ≡ with_world true tape.new.reach (lengthened (tick_addition (rules N.laws N.PROBES tape.old.scenario) (branch_with [] tape.old)).events tape.old)) }
+    ensures reach { OnOk result (tape.new.reach ≡ min tape.old.scenario.window (tape.old.reach + length (tick_addition (rules N.laws N.PROBES tape.old.scenario) (branch_with [] tape.old)).events)) }
+    ensures work { OnOk result (Adds (length (tick_addition (rules N.laws N.PROBES tape.old.scenario) (branch_with [] tape.old)).events) (N.Meter.work meter.old) (N.Meter.work meter.new)) }
+    ensures err { OnErr result (tape.new ≡ with_world tape.new.warm tape.new.reach tape.old) }
+{
+    let start = tape.len();
+    let _warm = tape.warm();
+    let end = clock(tape) + takes as u64;
+    match add_tick(alloc, tape, meter, end, room_of(start)) {
+        Ok(why) => Ok(why),
+        Err(want) => {
+            tape.truncate(start);
+            Err(want)
+        }
+    }
+}

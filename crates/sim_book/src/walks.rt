@@ -1,0 +1,145 @@
+//! Steps that are added one after the other.
+ghost use Rattle.std.specs.Prelude.{◌≡◌, ℕ, ◌+◌, ◌-◌, ◌<◌, ◌≤◌, true, List, min, None, length, IsTrue, OnOk, OnErr, IfOk};
+ghost use Rattle.sim_world.specs.declared.Event.{Event};
+ghost use Rattle.sim_world.specs.declared.Event.TheVariants as events;
+ghost use Rattle.sim_world.specs.Events.{rules, refusal_of};
+ghost use Rattle.sim_tape.specs.Tape.{with_world, at};
+ghost use Rattle.sim_tape.specs.Places.{world_of};
+ghost use Rattle.sim_book.specs.Tapes.{lengthened};
+ghost use Rattle.sim_book.specs.Kept.{branch_with};
+ghost use Rattle.sim_book.specs.Answer.{run_addition, rewind_move};
+ghost use Rattle.sim_book.specs.Watches.{AreChecked, NoneFrom};
+ghost use Rattle.sim_book.specs.Works.{Adds, TakesBack};
+
+use crate::{MOST_EVENTS, Stop, stops};
+use sim_node::{NoMemory, Node};
+use sim_tape::Tape;
+use sim_watch::Cond;
+use sim_world::Event;
+use std::alloc::Global;
+
+// Adds steps, at most so many, until a run has to stop. After want of memory some may have been added.
+fn add_steps<N: Node>(
+    alloc: Global,
+    tape: &mut Tape<N>,
+    watches: &[Option<Cond>; 8],
+    end: usize,
+    meter: &mut N::Meter,
+    count: u32,
+) -> Result<Stop, NoMemory>
+    requires some { 1 ≤ count }
+    requires reach { tape.old.reach ≤ tape.old.scenario.window }
+    requires warm { IsTrue tape.old.warm }
+    requires place { tape.old.place ≡ length tape.old.events }
+    requires room { length tape.old.events < 65536 }
+    requires can { refusal_of (rules N.laws N.PROBES tape.old.scenario) events.Step (world_of (rules N.laws N.PROBES tape.old.scenario) tape.old) ≡ None }
+    requires few { end ≤ 8 }
+    requires none { NoneFrom end watches.now }
+    requires checked { AreChecked tape.old.scenario.setup.hosts N.PROBES watches.now }
+    ensures stop { IfOk result (λ why. why ≡ (run_addition (rules N.laws N.PROBES tape.old.scenario) count (branch_with watches.now tape.old)).stop) }
+    ensures ok { OnOk result (tape.new ≡ with_world true tape.new.reach (lengthened (run_addition (rules N.laws N.PROBES tape.old.scenario) count (branch_with watches.now tape.old)).events tape.old)) }
+    ensures reach { OnOk result (tape.new.reach ≡ min tape.old.scenario.window (tape.old.reach + length (run_addition (rules N.laws N.PROBES tape.old.scenario) count (branch_with watches.now tape.old)).events)) }
+    ensures work { OnOk result (Adds (length (run_addition (rules N.laws N.PROBES tape.old.scenario) count (branch_with watches.now tape.old)).events) (N.Meter.work meter.old) (N.Meter.work meter.new)) }
+    ensures err { OnErr result ((more : List Event) × (tape.new ≡ with_world tape.new.warm tape.new.reach (lengthened more tape.old))) }
+{
+    for added in 0..count {
+        tape.add(alloc, Event::Step, meter)?;
+        let asked = added + 1 == count;
+        if let Some(why) = stops::stop(tape, watches, end, asked) {
+            return Ok(why);
+        }
+    }
+    unreachable!()
+}
+
+/// Adds steps, at most so many, until a run has to stop. After want of memory the events are as before.
+pub(crate) fn run<N: Node>(
+    alloc: Global,
+    tape: &mut Tape<N>,
+    watches: &[Option<Cond>; 8],
+    meter: &mut N::Meter,
+    count: u32,
+) -> Result<Stop, NoMemory>
+    requires some { 1 ≤ count }
+    requires warm { IsTrue tape.old.warm }
+    requires place { tape.old.place ≡ length tape.old.events }
+    requires room { length tape.old.events < 65536 }
+    requires can { refusal_of (rules N.laws N.PROBES tape.old.scenario) events.Step (world_of (rules N.laws N.PROBES tape.old.scenario) tape.old) ≡ None }
+    requires checked { AreChecked tape.old.scenario.setup.hosts N.PROBES watches.now }
+    ensures stop { IfOk result (λ why. why ≡ (run_addition (rules N.laws N.PROBES tape.old.scenario) count (branch_with watches.now tape.old)).stop) }
+    ensures ok { OnOk result (tape.new ≡ with_world true tape.new.reach (lengthened (run_addition (rules N.laws N.PROBES tape.old.scenario) count (branch_with watches.now tape.old)).events tape.old)) }
+    ensures reach { OnOk result (tape.new.reach ≡ min tape.old.scenario.window (tape.old.reach + length (run_addition (rules N.laws N.PROBES tape.old.scenario) count (branch_with watches.now tape.old)).events)) }
+    ensures work { OnOk result (Adds (length (run_addition (rules N.laws N.PROBES tape.old.scenario) count (branch_with watches.now tape.old)).events) (N.Meter.work meter.old) (N.Meter.work meter.new)) }
+    ensures err { OnErr result (tape.new ≡ with_world tape.new.warm tape.new.reach tape.old) }
+{
+    let start = tape.len();
+    let _warm = tape.warm();
+    let end = stops::end_of(watches);
+    match add_steps(alloc, tape, watches, end, meter, count) {
+        Ok(why) => Ok(why),
+        Err(want) => {
+            tape.truncate(start);
+            Err(want)
+        }
+    }
+}
+
+// Goes back by one event at a time, at most so many, until a watch fails. After want of memory it may have gone back by some.
+fn go_back<N: Node>(
+    alloc: Global,
+    tape: &mut Tape<N>,
+    watches: &[Option<Cond>; 8],
+    end: usize,
+    meter: &mut N::Meter,
+    count: u32,
+) -> Result<Stop, NoMemory>
+    requires some { 1 ≤ count }
+    requires within { count ≤ tape.old.place }
+    requires warm { IsTrue tape.old.warm }
+    requires few { end ≤ 8 }
+    requires none { NoneFrom end watches.now }
+    requires checked { AreChecked tape.old.scenario.setup.hosts N.PROBES watches.now }
+    ensures stop { IfOk result (λ why. why ≡ (rewind_move (rules N.laws N.PROBES tape.old.scenario) count (branch_with watches.now tape.old)).stop) }
+    ensures ok { OnOk result (tape.new ≡ with_world true tape.new.reach (at (rewind_move (rules N.laws N.PROBES tape.old.scenario) count (branch_with watches.now tape.old)).place tape.old)) }
+    ensures reach { OnOk result (tape.old.place - tape.new.place ≤ tape.old.reach → tape.new.reach ≡ tape.old.reach - (tape.old.place - tape.new.place)) }
+    ensures work { OnOk result (tape.old.place - tape.new.place ≤ tape.old.reach → TakesBack (rules N.laws N.PROBES tape.old.scenario) tape.new.place (tape.old.place - tape.new.place) tape.old (N.Meter.work meter.old) (N.Meter.work meter.new)) }
+    ensures err { OnErr result ((p : ℕ) × (tape.new ≡ with_world tape.new.warm tape.new.reach (at p tape.old))) }
+{
+    for gone in 0..count {
+        let _ = gone;
+        tape.back(alloc, 1, meter)?;
+        if let Some(watch) = stops::failing_here(tape, watches, end) {
+            return Ok(Stop::Watch(watch));
+        }
+    }
+    Ok(Stop::Asked)
+}
+
+/// Goes back by one event at a time, at most so many, until a watch fails. After want of memory the place is as before.
+pub(crate) fn rewind<N: Node>(
+    alloc: Global,
+    tape: &mut Tape<N>,
+    watches: &[Option<Cond>; 8],
+    meter: &mut N::Meter,
+    count: u32,
+) -> Result<Stop, NoMemory>
+    requires some { 1 ≤ count }
+    requires within { count ≤ tape.old.place }
+    requires warm { IsTrue tape.old.warm }
+    requires checked { AreChecked tape.old.scenario.setup.hosts N.PROBES watches.now }
+    ensures stop { IfOk result (λ why. why ≡ (rewind_move (rules N.laws N.PROBES tape.old.scenario) count (branch_with watches.now tape.old)).stop) }
+    ensures ok { OnOk result (tape.new ≡ with_world true tape.new.reach (at (rewind_move (rules N.laws N.PROBES tape.old.scenario) count (branch_with watches.now tape.old)).place tape.old)) }
+    ensures reach { OnOk result (tape.old.place - tape.new.place ≤ tape.old.reach → tape.new.reach ≡ tape.old.reach - (tape.old.place - tape.new.place)) }
+    ensures work { OnOk result (tape.old.place - tape.new.place ≤ tape.old.reach → TakesBack (rules N.laws N.PROBES tape.old.scenario) tape.new.place (tape.old.place - tape.new.place) tape.old (N.Meter.work meter.old) (N.Meter.work meter.new)) }
+    ensures err { OnErr result (tape.new ≡ with_world tape.new.warm tape.new.reach tape.old) }
+{
+    let place = tape.place();
+    let end = stops::end_of(watches);
+    match go_back(alloc, tape, watches, end, meter, count) {
+        Ok(why) => Ok(why),
+        Err(want) => {
+            tape.rest(place);
+            Err(want)
+        }
+    }
+}
