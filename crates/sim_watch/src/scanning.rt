@@ -1,0 +1,91 @@
+//! Scans of a run for the first place at which a condition fails.
+ghost use Rattle.std.specs.Prelude.{◌≡◌, ℕ, ◌/◌, ◌%◌, ◌≤◌, IsTrue, IfOk, OnOk, length, not, replicate};
+ghost use Rattle.sim_world.specs.Events.{rules};
+ghost use Rattle.sim_tape.specs.Works.{Plays, nodes_below};
+ghost use Rattle.sim_watch.specs.Condition.{holds, fault_of};
+ghost use Rattle.sim_watch.specs.Search.{fails_at, first_failing};
+
+use crate::places::{Finding, Piece};
+use crate::{Cond, holds};
+use sim_node::{NoMemory, Node};
+use sim_tape::{Frozen, Tape};
+use sim_world::{Event, Scenario, World};
+use std::alloc::Global;
+
+// Whether a condition, which was checked, fails at the place of a warm tape.
+fn fails_here<N: Node>(tape: &Tape<N>, cond: &Cond) -> bool
+    requires warm { IsTrue tape.now.warm }
+    requires checked { fault_of tape.now.scenario.setup.hosts N.PROBES cond.now ≡ None }
+    ensures { result ≡ fails_at (rules N.laws N.PROBES tape.now.scenario) cond.now tape.now.events tape.now.place }
+{
+    !holds(cond, tape.here())
+}
+
+/// Looks for the least place of a piece of a frozen run at which a condition, which was checked, fails. The piece lies between two
+/// checkpoints. It is walked once, forward, from the checkpoint below it, with fewer turns than the interval and one copy of a
+/// world. The only error is want of memory.
+pub fn scan<N: Node>(
+    alloc: Global,
+    frozen: &Frozen<N>,
+    piece: Piece,
+    cond: &Cond,
+    meter: &mut N::Meter,
+) -> Result<Finding, NoMemory>
+    requires order { piece.lo ≤ piece.hi }
+    requires one { piece.lo / frozen.now.scenario.interval ≡ piece.hi / frozen.now.scenario.interval }
+    requires end { piece.hi ≤ length frozen.now.events }
+    requires checked { fault_of frozen.now.scenario.setup.hosts N.PROBES cond.now ≡ None }
+    ensures piece { IfOk result (λ f. f.piece ≡ piece) }
+    ensures place { IfOk result (λ f. f.place ≡ first_failing (rules N.laws N.PROBES frozen.now.scenario) cond.now frozen.now.events piece.lo piece.hi) }
+    ensures work { OnOk result (Plays (piece.hi % frozen.now.scenario.interval) (nodes_below (rules N.laws N.PROBES frozen.now.scenario) piece.lo frozen.now.events) (N.Meter.work meter.old) (N.Meter.work meter.new)) }
+{
+    let mut tape = frozen.tape(alloc, piece.lo, meter)?;
+    for place in piece.lo..piece.hi {
+        if fails_here(&tape, cond) {
+            return Ok(Finding {
+                piece,
+                place: Some(place),
+            });
+        }
+        tape.forward(alloc, 1, meter)?;
+    }
+    if fails_here(&tape, cond) {
+        return Ok(Finding {
+            piece,
+            place: Some(piece.hi),
+        });
+    }
+    Ok(Finding { piece, place: None })
+}
+
+/// Looks for the least place of a run of steps, at most so many, at which a condition, which was checked, fails. The run begins at
+/// the start of the scenario and goes on until nothing is pending. The only error is want of memory.
+pub fn scan_seed<N: Node>(
+    alloc: Global,
+    scenario: &Scenario,
+    events: u32,
+    cond: &Cond,
+    meter: &mut N::Meter,
+) -> Result<Option<u32>, NoMemory>
+    requires most { events ≤ 65536 }
+    requires checked { fault_of scenario.now.setup.hosts N.PROBES cond.now ≡ None }
+    ensures { IfOk result (λ found. found ≡ first_failing (rules N.laws N.PROBES scenario.now) cond.now (replicate events Event.Step) 0 events) }
+{
+    let mut world = World::<N>::start(alloc, scenario, meter)?;
+    for place in 0..events {
+        if !holds(cond, &world) {
+            return Ok(Some(place));
+        }
+        match world.can(Event::Step) {
+            Err(_) => return Ok(None),
+            Ok(()) => {}
+        }
+        let (after, _undo) = world.apply(alloc, Event::Step, meter)?;
+        world = after;
+    }
+    if holds(cond, &world) {
+        Ok(None)
+    } else {
+        Ok(Some(events))
+    }
+}
