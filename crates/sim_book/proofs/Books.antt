@@ -24,7 +24,7 @@ use Rattle.sim_book.specs.Keeps.{Keeps}
 use Rattle.sim_book.specs.Works.{Works}
 use Rattle.sim_book.specs.Kept.{Kept, shown, all_shown, branch_with}
 use Rattle.sim_book.specs.OnBranch.{IsTurnOn, refusal_on, reply_on, after_on, later_checks}
-use Rattle.sim_book.specs.BookOf.{makes_branch, IsKept, AllKept}
+use Rattle.sim_book.specs.BookOf.{makes_branch, AllKept}
 
 module _ {State Msg : Type 0} (r : Rules State Msg) where
   checks_are : (book : Book) (x : Branch) (c : Command) → checks r book x c ≡ unknown_branch r book (branch_of c) ∷ later_checks r book x c

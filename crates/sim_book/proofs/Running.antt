@@ -4,7 +4,6 @@ use Rattle.std.specs.Prelude.{if◌then◌else◌}
 use Rattle.std.specs.Option.{unwrap_or, option_map}
 use Rattle.std.proofs.Math.Seq.{take-length}
 use Rattle.std.proofs.Math.Nat.{eq-or-lt_of_le}
-use Rattle.std.proofs.lemmas.Bool.{le-leb, and_from}
 use Rattle.std.proofs.lemmas.Bool.Decides.{nat_tests}
 use Rattle.sim_node.specs.Node.{NodeLaws}
 use Rattle.sim_node.specs.Work.{Work}
@@ -26,7 +25,7 @@ use Rattle.sim_book.specs.Book.{Branch, failing_watch, all_done}
 use Rattle.sim_book.specs.Kept.{branch_with}
 use Rattle.sim_book.specs.Answer.{first_stop, failing_at, rewind_move, rewind_len, steps, run_stop, run_stop_at, run_addition, run_len, after_steps, is_idle, most_events}
 use Rattle.sim_book.specs.Running.{IsRunning, IsRewinding}
-use Rattle.sim_book.proofs.Finding.{least_is}
+use Rattle.sim_watch.proofs.Firsts.{least_is}
 
 -- one step more
 pub steps_more : (k : ℕ) → steps k ++ event.Step ∷ [] ≡ steps (k + 1)

@@ -25,7 +25,7 @@ use Rattle.sim_book.specs.Book as book
 use Rattle.sim_book.specs.Kept.{branch_with}
 use Rattle.sim_book.specs.Answer.{steps, is_due_by, after_steps, tick_end, tick_steps, tick_events, tick_events_by, tick_room, tick_stop, tick_stop_by, tick_addition, most_events}
 use Rattle.sim_book.specs.Running.{IsTicking}
-use Rattle.sim_book.proofs.Finding.{least_is, least_passes, side}
+use Rattle.sim_watch.proofs.Firsts.{least_is, least_passes, side}
 use Rattle.sim_book.proofs.Running.{steps_length, world_after, events_after, lengthened_by, lengthened_more, lengthened_none}
 
 -- nothing is due before a time where nothing is due at it or before it

@@ -30,13 +30,13 @@ returns-then-count-eq0-clause-work g c =
     let W = g.N.Meter.Meter.work in
     subst (λ (x : Reply). Works g.N.Node.laws g.N.Node.PROBES (command.Rewind c.args.b c.args.count) x c.args.tape.now c.make_warm.new.self (W c.args.meter.now) (W c.make_warm.new.meter)) (sym c.moved.ensures)
     (λ warm _.
-        let kept = c.make_warm.ensures.warm warm in
-        rewind_none_works g.N.Node.laws g.N.Node.PROBES c.args.tape.now c.make_warm.new.self (W c.args.meter.now) (W c.make_warm.new.meter) kept.1 kept.2)
+    let kept = c.make_warm.ensures.warm warm in
+    rewind_none_works g.N.Node.laws g.N.Node.PROBES c.args.tape.now c.make_warm.new.self (W c.args.meter.now) (W c.make_warm.new.meter) kept.1 kept.2)
 
 pub returns-in-Ok-rewind-clause-work : goal.returns-in-Ok-rewind-clause-work
 returns-in-Ok-rewind-clause-work g c =
     let W = g.N.Meter.Meter.work in
     subst (λ (x : Reply). Works g.N.Node.laws g.N.Node.PROBES (command.Rewind c.args.b c.args.count) x c.args.tape.now c.rewind.new.tape (W c.args.meter.now) (W c.rewind.new.meter)) (sym c.moved-in-Ok-rewind.ensures)
     (λ warm.
-        let kept = c.make_warm.ensures.warm warm in
-        rewind_works g.N.Node.laws g.N.Node.PROBES c.args.tape.now c.make_warm.new.self c.rewind.new.tape (W c.args.meter.now) (W c.make_warm.new.meter) (W c.rewind.new.meter) kept.1 kept.2 c.in-Ok-rewind.ensures.work)
+    let kept = c.make_warm.ensures.warm warm in
+    rewind_works g.N.Node.laws g.N.Node.PROBES c.args.tape.now c.make_warm.new.self c.rewind.new.tape (W c.args.meter.now) (W c.make_warm.new.meter) (W c.rewind.new.meter) kept.1 kept.2 c.in-Ok-rewind.ensures.work)

@@ -37,13 +37,13 @@ returns-then-count-eq0-clause-work g c =
     let W = g.N.Meter.Meter.work in
     subst (λ (x : Reply). Works g.N.Node.laws g.N.Node.PROBES (command.Run c.args.b c.args.count) x c.args.tape.now c.make_warm.new.self (W c.args.meter.now) (W c.make_warm.new.meter)) (sym c.moved.ensures)
     (λ warm.
-        let kept = c.make_warm.ensures.warm warm in
-        run_none_works c.args.tape.now c.make_warm.new.self (W c.args.meter.now) (W c.make_warm.new.meter) kept.1 kept.2)
+    let kept = c.make_warm.ensures.warm warm in
+    run_none_works c.args.tape.now c.make_warm.new.self (W c.args.meter.now) (W c.make_warm.new.meter) kept.1 kept.2)
 
 pub returns-in-Ok-run-clause-work : goal.returns-in-Ok-run-clause-work
 returns-in-Ok-run-clause-work g c =
     let W = g.N.Meter.Meter.work in
     subst (λ (x : Reply). Works g.N.Node.laws g.N.Node.PROBES (command.Run c.args.b c.args.count) x c.args.tape.now c.run.new.tape (W c.args.meter.now) (W c.run.new.meter)) (sym c.moved-in-Ok-run.ensures)
     (λ warm.
-        let kept = c.make_warm.ensures.warm warm in
-        run_works c.args.tape.now c.make_warm.new.self c.run.new.tape _ (W c.args.meter.now) (W c.make_warm.new.meter) (W c.run.new.meter) kept.1 kept.2 c.in-Ok-run.ensures.ok c.in-Ok-run.ensures.work)
+    let kept = c.make_warm.ensures.warm warm in
+    run_works c.args.tape.now c.make_warm.new.self c.run.new.tape _ (W c.args.meter.now) (W c.make_warm.new.meter) (W c.run.new.meter) kept.1 kept.2 c.in-Ok-run.ensures.ok c.in-Ok-run.ensures.work)

@@ -21,6 +21,6 @@ returns-in-Ok-add-clause-work g c =
     let W = g.N.Meter.Meter.work in
     subst (λ (x : Reply). Works g.N.Node.laws g.N.Node.PROBES (command.Step c.args.b) x c.args.tape.now c.add.new.self (W c.args.meter.now) (W c.add.new.meter)) (sym c.moved.ensures)
     (λ warm.
-        let kept = c.make_warm.ensures.warm warm in
-        add_works g.N.Node.laws g.N.Node.PROBES c.args.tape.now c.make_warm.new.self event.Step (W c.args.meter.now) (W c.make_warm.new.meter) (W c.add.new.meter) kept.1 kept.2
-        (c.in-Ok-add.ensures.work (ap (λ (t : Tape). t.warm) c.in-Ok.ensures.ok)))
+    let kept = c.make_warm.ensures.warm warm in
+    add_works g.N.Node.laws g.N.Node.PROBES c.args.tape.now c.make_warm.new.self event.Step (W c.args.meter.now) (W c.make_warm.new.meter) (W c.add.new.meter) kept.1 kept.2
+    (c.in-Ok-add.ensures.work (ap (λ (t : Tape). t.warm) c.in-Ok.ensures.ok)))

@@ -21,5 +21,5 @@ returns-in-Ok-tick-clause-work g c =
     let W = g.N.Meter.Meter.work in
     subst (λ (x : Reply). Works g.N.Node.laws g.N.Node.PROBES (command.Tick c.args.b) x c.args.tape.now c.tick.new.tape (W c.args.meter.now) (W c.tick.new.meter)) (sym c.moved.ensures)
     (λ warm.
-        let kept = c.make_warm.ensures.warm warm in
-        run_works c.args.tape.now c.make_warm.new.self c.tick.new.tape _ (W c.args.meter.now) (W c.make_warm.new.meter) (W c.tick.new.meter) kept.1 kept.2 c.in-Ok-tick.ensures.ok c.in-Ok-tick.ensures.work)
+    let kept = c.make_warm.ensures.warm warm in
+    run_works c.args.tape.now c.make_warm.new.self c.tick.new.tape _ (W c.args.meter.now) (W c.make_warm.new.meter) (W c.tick.new.meter) kept.1 kept.2 c.in-Ok-tick.ensures.ok c.in-Ok-tick.ensures.work)

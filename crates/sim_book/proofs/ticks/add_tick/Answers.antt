@@ -29,10 +29,11 @@ pub loop-added-preserved : goal.loop-added-preserved
 loop-added-preserved g c =
     let warm : c.loop-added.tape.warm ≡ true = ap (λ (t : Tape). t.warm) c.loop-added.invariant.0.new in
     let v = c.in_ok-add-2.ensures in
-    let W = g.N.Meter.Meter.work in
-    (ticking_more g.N.Node.laws g.N.Node.PROBES c.args.end c.args.tape.now c.loop-added.tape c.add-in-loop-added.new.self c.loop-added.added c.loop-added.invariant.0 v.ok (v.reach warm)
-    (sym c.is_due_by.ensures ∙ c.if-not-is_due_by.false) v.clock v.on,
-    adds_more c.loop-added.added _ (W c.args.meter.now) (W c.loop-added.meter) (W c.add-in-loop-added.new.meter) c.loop-added.invariant.1 (v.work warm))
+    let W = g.N.Meter.Meter.work in (
+      ticking_more g.N.Node.laws g.N.Node.PROBES c.args.end c.args.tape.now c.loop-added.tape c.add-in-loop-added.new.self c.loop-added.added c.loop-added.invariant.0 v.ok (v.reach warm)
+          (sym c.is_due_by.ensures ∙ c.if-not-is_due_by.false) v.clock v.on,
+      adds_more c.loop-added.added _ (W c.args.meter.now) (W c.loop-added.meter) (W c.add-in-loop-added.new.meter) c.loop-added.invariant.1 (v.work warm),
+    )
 
 pub returns-then-not-is_due_by-clause-stop : goal.returns-then-not-is_due_by-clause-stop
 returns-then-not-is_due_by-clause-stop g c =

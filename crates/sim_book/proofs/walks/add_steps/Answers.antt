@@ -12,10 +12,11 @@ loop-added-init g c =
 pub loop-added-preserved : goal.loop-added-preserved
 loop-added-preserved g c =
     let warm : c.loop-added.tape.warm ≡ true = ap (λ (t : Tape). t.warm) c.loop-added.invariant.0.new in
-    let W = g.N.Meter.Meter.work in
-    (running_more g.N.Node.laws g.N.Node.PROBES c.args.count c.args.watches.now c.args.tape.now c.loop-added.tape c.add.new.self c.loop-added.added c.loop-added.invariant.0
-    c.in_ok-add.ensures.ok (c.in_ok-add.ensures.reach warm) (sym c.in_default.is ∙ c.stop.ensures),
-    adds_more c.loop-added.added _ (W c.args.meter.now) (W c.loop-added.meter) (W c.add.new.meter) c.loop-added.invariant.1 (c.in_ok-add.ensures.work warm))
+    let W = g.N.Meter.Meter.work in (
+      running_more g.N.Node.laws g.N.Node.PROBES c.args.count c.args.watches.now c.args.tape.now c.loop-added.tape c.add.new.self c.loop-added.added c.loop-added.invariant.0
+          c.in_ok-add.ensures.ok (c.in_ok-add.ensures.reach warm) (sym c.in_default.is ∙ c.stop.ensures),
+      adds_more c.loop-added.added _ (W c.args.meter.now) (W c.loop-added.meter) (W c.add.new.meter) c.loop-added.invariant.1 (c.in_ok-add.ensures.work warm),
+    )
 
 pub returns-in-Some-clause-stop : goal.returns-in-Some-clause-stop
 returns-in-Some-clause-stop g c =

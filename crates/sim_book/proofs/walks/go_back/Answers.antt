@@ -1,4 +1,4 @@
-use Rattle.std.proofs.Common.{◌≡◌, ◌+◌, ◌-◌, true, sym, ap, ◌∙◌, arith}
+use Rattle.std.proofs.Common.{◌+◌, true, sym, ap, ◌∙◌, arith}
 use Rattle.sim_tape.specs.Tape.{Tape, with_world, at}
 use Rattle.sim_book.specs.Answer.{Move}
 use Rattle.sim_book.proofs.Running.{rewinding_none, rewinding_more, rewound_is, rewound_all, rewound_reach, reach_back, failing_back, work_none, work_back, rewound_work}
@@ -15,12 +15,13 @@ back-requires g c =
 
 pub loop-gone-preserved : goal.loop-gone-preserved
 loop-gone-preserved g c =
-    let W = g.N.Meter.Meter.work in
-    (rewinding_more g.N.Node.laws g.N.Node.PROBES c.args.watches.now c.args.tape.now c.loop-gone.tape c.back.new.self c.loop-gone.gone c.loop-gone.invariant.0 c.in_ok-back.ensures.ok
-    (reach_back c.args.tape.now c.loop-gone.tape c.back.new.self c.loop-gone.gone c.loop-gone.invariant.0.new c.loop-gone.invariant.0.reach c.in_ok-back.ensures.within)
-    (sym c.in_default.is ∙ c.failing_here.ensures),
-    work_back g.N.Node.laws g.N.Node.PROBES c.args.tape.now c.loop-gone.tape c.back.new.self c.loop-gone.gone (W c.args.meter.now) (W c.loop-gone.meter) (W c.back.new.meter) c.loop-gone.invariant.0.new
-    (omega (arith, c.loop-gone-test.true, c.requires.within)) c.loop-gone.invariant.0.reach c.loop-gone.invariant.1 c.in_ok-back.ensures.undos)
+    let W = g.N.Meter.Meter.work in (
+      rewinding_more g.N.Node.laws g.N.Node.PROBES c.args.watches.now c.args.tape.now c.loop-gone.tape c.back.new.self c.loop-gone.gone c.loop-gone.invariant.0 c.in_ok-back.ensures.ok
+          (reach_back c.args.tape.now c.loop-gone.tape c.back.new.self c.loop-gone.gone c.loop-gone.invariant.0.new c.loop-gone.invariant.0.reach c.in_ok-back.ensures.within)
+          (sym c.in_default.is ∙ c.failing_here.ensures),
+      work_back g.N.Node.laws g.N.Node.PROBES c.args.tape.now c.loop-gone.tape c.back.new.self c.loop-gone.gone (W c.args.meter.now) (W c.loop-gone.meter) (W c.back.new.meter) c.loop-gone.invariant.0.new
+          (omega (arith, c.loop-gone-test.true, c.requires.within)) c.loop-gone.invariant.0.reach c.loop-gone.invariant.1 c.in_ok-back.ensures.undos,
+    )
 
 pub returns-in-Some-clause-stop : goal.returns-in-Some-clause-stop
 returns-in-Some-clause-stop g c =
