@@ -1,6 +1,7 @@
 -- What a command does to the warmth and the reach of its branch's tape.
 use Rattle.std.specs.Prelude.{◌≡◌, ℕ, ◌+◌, ◌-◌, ◌<◌, ◌≤◌, ◌≢◌, min, Bool, true, false, List, length, slice_index_or, IsTrue}
 use Rattle.sim_node.specs.Node.{NodeLaws}
+use Rattle.sim_world.specs.World.{Scenario}
 use Rattle.sim_world.specs.Events.{rules}
 use Rattle.sim_tape.specs.Tape.{Tape}
 use Rattle.sim_tape.specs.Places.{world_of}
@@ -11,8 +12,8 @@ use Rattle.sim_book.specs.declared.Refusal.TheVariants as refusal
 use Rattle.sim_book.specs.declared.Reply.{Reply}
 use Rattle.sim_book.specs.declared.Reply.TheVariants as reply
 use Rattle.sim_book.specs.Book.{branch_of}
-use Rattle.sim_book.specs.Answer.{is_idle}
-use Rattle.sim_book.specs.Kept.{Kept}
+use Rattle.sim_book.specs.Answer.{is_idle, answer}
+use Rattle.sim_book.specs.Kept.{Kept, all_shown}
 
 -- a warm tape's reach rises by one for each event that is added or walked forward, up to its window, and falls by one for each that is walked back within the reach
 abbrev pub Moves : Command → Tape → Tape → Type 0
@@ -56,3 +57,9 @@ module _ {State Msg : Type 0} (node : NodeLaws State Msg) (probes : ℕ) where
   pub record KeepsTapes (c : Command) (given : Reply) (old new : List Kept) : Type 0 where
     pub others : (i : ℕ) (d : Kept) → i < length old → i ≢ branch_of c → slice_index_or new i d ≡ slice_index_or old i d
     pub own : (d : Kept) → branch_of c < length old → Keeps c given (slice_index_or old (branch_of c) d).tape (slice_index_or new (branch_of c) d).tape
+
+  -- a step or a run where nothing is pending, of a branch whose tape is warm, is told so
+  abbrev pub TellsIdle : Scenario → Command → Reply → List Kept → Type 0
+  TellsIdle s c given kept =
+      (d : Kept) → branch_of c < length kept → IsTrue (slice_index_or kept (branch_of c) d).tape.warm
+      → answer (rules node probes s) (all_shown kept) c ≡ reply.Refused refusal.Idle → given ≡ reply.Refused refusal.Idle

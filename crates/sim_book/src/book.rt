@@ -5,7 +5,7 @@ ghost use Rattle.sim_book.specs.Kept.{all_shown, Kept as KeptValue};
 ghost use Rattle.sim_book.specs.History.{IsLegal};
 ghost use Rattle.sim_book.specs.Book.{opening};
 ghost use Rattle.sim_book.specs.BookOf.{IsBook, IsTaken};
-ghost use Rattle.sim_book.specs.Keeps.{KeepsTapes};
+ghost use Rattle.sim_book.specs.Keeps.{KeepsTapes, TellsIdle};
 ghost use Rattle.sim_book.specs.Works.{TakesWork};
 ghost use Rattle.sim_book.specs.Freezing.{GivesFrozen, GivesMade, IsWhole};
 
@@ -57,6 +57,7 @@ fn take_turn<N: Node>(
     ensures taken { IfOk result (λ e. IsTaken (rules N.laws N.PROBES scenario.now) session command branches.old.items history.old.items e branches.new.items history.new.items) }
     ensures keeps { IfOk result (λ e. KeepsTapes N.laws N.PROBES command e.reply branches.old.items branches.new.items) }
     ensures work { IfOk result (λ e. TakesWork N.laws N.PROBES command e.reply branches.old.items branches.new.items (N.Meter.work meter.old) (N.Meter.work meter.new)) }
+    ensures idle { IfOk result (λ e. TellsIdle N.laws N.PROBES scenario.now command e.reply branches.old.items) }
     ensures meter { OnErr result (N.Meter.work meter.new ≡ N.Meter.work meter.old) }
     ensures branches { OnErr result (branches.new.items ≡ branches.old.items) }
     ensures history { OnErr result (history.new.items ≡ history.old.items) }
@@ -147,6 +148,7 @@ impl<N: Node> Book<N> {
         ensures taken { IfOk result (λ e. IsTaken (rules N.laws N.PROBES self.old.scenario) session command self.old.kept self.old.history e self.new.kept self.new.history) }
         ensures keeps { IfOk result (λ e. KeepsTapes N.laws N.PROBES command e.reply self.old.kept self.new.kept) }
         ensures work { IfOk result (λ e. TakesWork N.laws N.PROBES command e.reply self.old.kept self.new.kept self.old.work self.new.work) }
+        ensures idle { IfOk result (λ e. TellsIdle N.laws N.PROBES self.old.scenario command e.reply self.old.kept) }
         ensures scenario { self.new.scenario ≡ self.old.scenario }
         ensures not_taken { OnErr result (self.new ≡ self.old) }
         ensures room { OnOk result (length self.old.history < 65536) }
