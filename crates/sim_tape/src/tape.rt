@@ -3,13 +3,12 @@ ghost use Rattle.std.specs.Prelude.{◌≡◌, ℕ, ◌+◌, ◌-◌, ◌*◌, �
 ghost use Rattle.std.specs.Vec.{vec_len, vec_capacity};
 ghost use Rattle.std.specs.Bool.{OnTrue};
 ghost use Rattle.std.specs.Arc.{arc_value};
-ghost use Rattle.sim_world.specs.Acts.{running};
 ghost use Rattle.sim_world.specs.Clock.{clock_after};
-ghost use Rattle.sim_world.specs.Events.{rules, run, start, refusal_of};
+ghost use Rattle.sim_world.specs.Events.{rules, run, refusal_of};
 ghost use Rattle.sim_tape.specs.Tape.{opened, at, with_world, first_events, with_event, raised, is_within_reach};
 ghost use Rattle.sim_tape.specs.Inside.{IsRun};
-ghost use Rattle.sim_tape.specs.Places.{events_of, world_at, world_of, acting, IsAt, AreCheckpoints};
-ghost use Rattle.sim_tape.specs.Works.{undone_by, OnlyTurns, Plays, TakesAtMost, nodes_below, nodes_at_end};
+ghost use Rattle.sim_tape.specs.Places.{events_of, world_of, AreCheckpoints};
+ghost use Rattle.sim_tape.specs.Works.{OnlyTurns, Plays, nodes_below, rules_of, TakesBack, MakesAnew, JumpsTo, AddsAtEnd};
 
 use crate::NoMemory;
 use crate::entry::Entry;
@@ -113,7 +112,7 @@ impl<N: Node> Tape<N> {
 
     /// The clock of the world at the place (ms).
     pub fn clock(&self) -> u64
-        ensures value { result ≡ (world_of (rules N.laws N.PROBES self.now.scenario) self.now).clock }
+        ensures value { result ≡ (world_of (rules_of N.laws N.PROBES self.now) self.now).clock }
         ensures small { result ≤ 60000 * 65536 }
     {
         if self.place == 0 {
@@ -125,8 +124,8 @@ impl<N: Node> Tape<N> {
     /// The world at the place, which is there.
     pub fn here(&self) -> &World<N>
         requires { IsTrue self.now.warm }
-        ensures run { run (rules N.laws N.PROBES self.now.scenario) (take self.now.place self.now.events) ≡ Some result.now.world }
-        ensures world { result.now.world ≡ world_of (rules N.laws N.PROBES self.now.scenario) self.now }
+        ensures run { run (rules_of N.laws N.PROBES self.now) (take self.now.place self.now.events) ≡ Some result.now.world }
+        ensures world { result.now.world ≡ world_of (rules_of N.laws N.PROBES self.now) self.now }
         ensures scenario { result.now.scenario ≡ self.now.scenario }
     {
         match &self.walk.world {
@@ -151,10 +150,12 @@ impl<N: Node> Tape<N> {
         requires { to ≤ length self.old.events }
         ensures ok { OnOk result (self.new ≡ with_world true self.new.reach (at to self.old)) }
         ensures within { OnOk result (IsTrue (is_within_reach to self.old) → self.new.reach ≡ self.old.reach - (self.old.place - to)) }
-        ensures undos { OnOk result (IsTrue (is_within_reach to self.old) → N.Meter.work meter.new ≡ undone_by (acting (rules N.laws N.PROBES self.old.scenario) to (self.old.place - to) self.old.events) (N.Meter.work meter.old)) }
-        ensures work { OnOk result (TakesAtMost (self.old.scenario.interval - 1) (nodes_below (rules N.laws N.PROBES self.old.scenario) to self.old.events) (N.Meter.work meter.old) (N.Meter.work meter.new)) }
-        ensures anew { OnOk result (self.old.warm ≡ false → Plays (self.old.scenario.interval - 1) (nodes_below (rules N.laws N.PROBES self.old.scenario) to self.old.events) (N.Meter.work meter.old) (N.Meter.work meter.new)) }
-        ensures near { OnOk result (self.old.warm ≡ false → Plays (to % self.old.scenario.interval) (nodes_below (rules N.laws N.PROBES self.old.scenario) to self.old.events) (N.Meter.work meter.old) (N.Meter.work meter.new)) }
+        ensures undos { OnOk result (IsTrue (is_within_reach to self.old) →
+            TakesBack N.laws N.PROBES (self.old.place - to) to self.old (N.Meter.work meter.old) (N.Meter.work meter.new)) }
+        ensures work { OnOk result (JumpsTo N.laws N.PROBES to self.old (N.Meter.work meter.old) (N.Meter.work meter.new)) }
+        ensures anew { OnOk result (self.old.warm ≡ false → MakesAnew N.laws N.PROBES to self.old (N.Meter.work meter.old) (N.Meter.work meter.new)) }
+        ensures near { OnOk result (self.old.warm ≡ false → Plays (to % self.old.scenario.interval)
+            (nodes_below (rules_of N.laws N.PROBES self.old) to self.old.events) (N.Meter.work meter.old) (N.Meter.work meter.new)) }
         ensures err { OnErr result (self.new ≡ with_world self.new.warm self.new.reach self.old) }
     {
         let place = self.place as usize;
@@ -191,8 +192,11 @@ impl<N: Node> Tape<N> {
     pub fn make_warm(&mut self, alloc: Global, meter: &mut N::Meter) -> Result<(), NoMemory>
         ensures ok { OnOk result (self.new ≡ with_world true self.new.reach self.old) }
         ensures warm { IsTrue self.old.warm → IsOk result × (self.new ≡ self.old) × (N.Meter.work meter.new ≡ N.Meter.work meter.old) }
-        ensures cold { OnOk result (self.old.warm ≡ false → Plays (self.old.scenario.interval - 1) (nodes_below (rules N.laws N.PROBES self.old.scenario) self.old.place self.old.events) (N.Meter.work meter.old) (N.Meter.work meter.new)) }
-        ensures near { OnOk result (self.old.warm ≡ false → Plays (self.old.place % self.old.scenario.interval) (nodes_below (rules N.laws N.PROBES self.old.scenario) self.old.place self.old.events) (N.Meter.work meter.old) (N.Meter.work meter.new)) }
+        ensures cold { OnOk result (self.old.warm ≡ false →
+            MakesAnew N.laws N.PROBES self.old.place self.old (N.Meter.work meter.old) (N.Meter.work meter.new)) }
+        ensures near { OnOk result (self.old.warm ≡ false → Plays (self.old.place % self.old.scenario.interval)
+            (nodes_below (rules_of N.laws N.PROBES self.old) self.old.place self.old.events)
+            (N.Meter.work meter.old) (N.Meter.work meter.new)) }
         ensures err { OnErr result (self.new ≡ with_world self.new.warm self.new.reach self.old) }
     {
         if self.walk.world.is_some() {
@@ -208,8 +212,9 @@ impl<N: Node> Tape<N> {
         requires { count ≤ self.old.place }
         ensures ok { OnOk result (self.new ≡ with_world true self.new.reach (at (self.old.place - count) self.old)) }
         ensures within { OnOk result (IsTrue self.old.warm → count ≤ self.old.reach → self.new.reach ≡ self.old.reach - count) }
-        ensures undos { OnOk result (IsTrue self.old.warm → count ≤ self.old.reach → N.Meter.work meter.new ≡ undone_by (acting (rules N.laws N.PROBES self.old.scenario) (self.old.place - count) count self.old.events) (N.Meter.work meter.old)) }
-        ensures work { OnOk result (TakesAtMost (self.old.scenario.interval - 1) (nodes_below (rules N.laws N.PROBES self.old.scenario) (self.old.place - count) self.old.events) (N.Meter.work meter.old) (N.Meter.work meter.new)) }
+        ensures undos { OnOk result (IsTrue self.old.warm → count ≤ self.old.reach →
+            TakesBack N.laws N.PROBES count (self.old.place - count) self.old (N.Meter.work meter.old) (N.Meter.work meter.new)) }
+        ensures work { OnOk result (JumpsTo N.laws N.PROBES (self.old.place - count) self.old (N.Meter.work meter.old) (N.Meter.work meter.new)) }
         ensures err { OnErr result (self.new ≡ with_world self.new.warm self.new.reach self.old) }
     {
         let place = self.place();
@@ -228,7 +233,8 @@ impl<N: Node> Tape<N> {
         ensures ok { OnOk result (self.new ≡ with_world true self.new.reach (at (self.old.place + count) self.old)) }
         ensures reach { OnOk result (IsTrue self.old.warm → self.new.reach ≡ raised count self.old) }
         ensures work { OnOk result (IsTrue self.old.warm → OnlyTurns count (N.Meter.work meter.old) (N.Meter.work meter.new)) }
-        ensures cold { OnOk result (self.old.warm ≡ false → Plays (self.old.scenario.interval - 1) (nodes_below (rules N.laws N.PROBES self.old.scenario) (self.old.place + count) self.old.events) (N.Meter.work meter.old) (N.Meter.work meter.new)) }
+        ensures cold { OnOk result (self.old.warm ≡ false →
+            MakesAnew N.laws N.PROBES (self.old.place + count) self.old (N.Meter.work meter.old) (N.Meter.work meter.new)) }
         ensures err { OnErr result (self.new ≡ with_world self.new.warm self.new.reach self.old) }
     {
         let to = self.place() + count;
@@ -246,12 +252,14 @@ impl<N: Node> Tape<N> {
     pub fn add(&mut self, alloc: Global, event: Event, meter: &mut N::Meter) -> Result<(), NoMemory>
         requires end { self.old.place ≡ length self.old.events }
         requires room { length self.old.events < 65536 }
-        requires can { refusal_of (rules N.laws N.PROBES self.old.scenario) event (world_of (rules N.laws N.PROBES self.old.scenario) self.old) ≡ None }
+        requires can { refusal_of (rules_of N.laws N.PROBES self.old) event (world_of (rules_of N.laws N.PROBES self.old) self.old) ≡ None }
         ensures ok { OnOk result (self.new ≡ with_world true self.new.reach (with_event event self.old)) }
-        ensures clock { OnOk result ((world_of (rules N.laws N.PROBES self.old.scenario) self.new).clock ≡ clock_after event (world_of (rules N.laws N.PROBES self.old.scenario) self.old)) }
-        ensures on { OnOk result ((world_of (rules N.laws N.PROBES self.old.scenario) self.old).clock ≤ (world_of (rules N.laws N.PROBES self.old.scenario) self.new).clock) }
+        ensures clock { OnOk result ((world_of (rules_of N.laws N.PROBES self.old) self.new).clock ≡
+            clock_after event (world_of (rules_of N.laws N.PROBES self.old) self.old)) }
+        ensures on { OnOk result ((world_of (rules_of N.laws N.PROBES self.old) self.old).clock ≤
+            (world_of (rules_of N.laws N.PROBES self.old) self.new).clock) }
         ensures reach { OnOk result (IsTrue self.old.warm → self.new.reach ≡ raised 1 self.old) }
-        ensures work { OnOk result (IsTrue self.old.warm → Plays 1 (nodes_at_end (rules N.laws N.PROBES self.old.scenario) event self.old) (N.Meter.work meter.old) (N.Meter.work meter.new)) }
+        ensures work { OnOk result (IsTrue self.old.warm → AddsAtEnd N.laws N.PROBES event self.old (N.Meter.work meter.old) (N.Meter.work meter.new)) }
         ensures err { OnErr result (self.new ≡ with_world self.new.warm self.new.reach self.old) }
     {
         self.make_warm(alloc, meter)?;
@@ -268,11 +276,13 @@ impl<N: Node> Tape<N> {
         requires warm { IsTrue self.old.warm }
         requires end { self.old.place ≡ length self.old.events }
         requires room { length self.old.events < 65536 }
-        requires can { refusal_of (rules N.laws N.PROBES self.old.scenario) event (world_of (rules N.laws N.PROBES self.old.scenario) self.old) ≡ None }
+        requires can { refusal_of (rules_of N.laws N.PROBES self.old) event (world_of (rules_of N.laws N.PROBES self.old) self.old) ≡ None }
         ensures ok { OnOk result (self.new ≡ with_world true (raised 1 self.old) (with_event event self.old)) }
-        ensures clock { OnOk result ((world_of (rules N.laws N.PROBES self.old.scenario) self.new).clock ≡ clock_after event (world_of (rules N.laws N.PROBES self.old.scenario) self.old)) }
-        ensures on { OnOk result ((world_of (rules N.laws N.PROBES self.old.scenario) self.old).clock ≤ (world_of (rules N.laws N.PROBES self.old.scenario) self.new).clock) }
-        ensures work { OnOk result (Plays 1 (nodes_at_end (rules N.laws N.PROBES self.old.scenario) event self.old) (N.Meter.work meter.old) (N.Meter.work meter.new)) }
+        ensures clock { OnOk result ((world_of (rules_of N.laws N.PROBES self.old) self.new).clock ≡
+            clock_after event (world_of (rules_of N.laws N.PROBES self.old) self.old)) }
+        ensures on { OnOk result ((world_of (rules_of N.laws N.PROBES self.old) self.old).clock ≤
+            (world_of (rules_of N.laws N.PROBES self.old) self.new).clock) }
+        ensures work { OnOk result (AddsAtEnd N.laws N.PROBES event self.old (N.Meter.work meter.old) (N.Meter.work meter.new)) }
         ensures err { OnErr result (self.new ≡ with_world self.new.warm self.new.reach self.old) }
     {
         self.log.reserve(alloc)?;

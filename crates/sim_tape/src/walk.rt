@@ -9,8 +9,8 @@ ghost use Rattle.sim_world.specs.Index.{LeadsBack};
 ghost use Rattle.sim_world.specs.Records.{AnswersFor};
 ghost use Rattle.sim_world.specs.Undone.{is_reaction};
 ghost use Rattle.circular_buffer.specs.Buffer.{buffer, keep_last};
-ghost use Rattle.sim_tape.specs.Inside.{IsRun, IsWalk};
-ghost use Rattle.sim_tape.specs.Places.{events_of, world_at, acting, IsAt, AreRecords};
+ghost use Rattle.sim_tape.specs.Inside.{IsRun, IsWalkIn, IsWalkAfter, AreRecordsIn, IsAtIn, IsAfter, rules_in, world_at_end, world_after};
+ghost use Rattle.sim_tape.specs.Places.{events_of, acting};
 ghost use Rattle.sim_tape.specs.Works.{undone_by, OnlyTurns, Plays};
 
 use crate::NoMemory;
@@ -46,7 +46,9 @@ fn copied<N: Node>(
     meter: &mut N::Meter,
 ) -> Result<Option<Arc<World<N>>>, NoMemory>
     ensures copy { IfOk result (λ copy. MatchOption copy (asked ≡ false) (λ c. (asked ≡ true) × (arc_value c ≡ world.now))) }
-    ensures work { OnOk result (N.Meter.work meter.new ≡ record (N.Meter.work meter.old) { copies = (N.Meter.work meter.old).copies + (if asked then running world.now.world else 0) }) }
+    ensures work { OnOk result (N.Meter.work meter.new ≡ record (N.Meter.work meter.old) {
+      copies = (N.Meter.work meter.old).copies + (if asked then running world.now.world else 0);
+    }) }
 {
     if !asked {
         return Ok(None);
@@ -91,14 +93,14 @@ impl Log {
         ring: &mut Ring<N>,
         meter: &mut N::Meter,
     ) -> Result<World<N>, NoMemory>
-        requires runs { IsRun (rules N.laws N.PROBES self.now.scenario) self.now.entries }
+        requires runs { IsRun (rules_in N.laws N.PROBES self.now) self.now.entries }
         requires order { place ≤ to }
         requires within { to ≤ length self.now.entries }
-        requires here { IsAt (rules N.laws N.PROBES self.now.scenario) (events_of self.now.entries) place world }
-        requires records { AreRecords N.told N.records (rules N.laws N.PROBES self.now.scenario) (events_of self.now.entries) place ring.old.items }
+        requires here { IsAtIn N.laws N.PROBES self.now place world }
+        requires records { AreRecordsIn N.told N.records N.laws N.PROBES self.now place ring.old.items }
         requires room { length ring.old.items ≤ ring.old.capacity }
-        ensures here { IfOk result (λ w. IsAt (rules N.laws N.PROBES self.now.scenario) (events_of self.now.entries) to w) }
-        ensures records { OnOk result (AreRecords N.told N.records (rules N.laws N.PROBES self.now.scenario) (events_of self.now.entries) to ring.new.items) }
+        ensures here { IfOk result (λ w. IsAtIn N.laws N.PROBES self.now to w) }
+        ensures records { OnOk result (AreRecordsIn N.told N.records N.laws N.PROBES self.now to ring.new.items) }
         ensures reach { OnOk result (length ring.new.items ≡ min ring.old.capacity (length ring.old.items + (to - place))) }
         ensures capacity { ring.new.capacity ≡ ring.old.capacity }
         ensures work { OnOk result (OnlyTurns (to - place) (N.Meter.work meter.old) (N.Meter.work meter.new)) }
@@ -123,14 +125,15 @@ impl Log {
         ring: &mut Ring<N>,
         meter: &mut N::Meter,
     ) -> Result<World<N>, NoMemory>
-        requires here { IsAt (rules N.laws N.PROBES self.now.scenario) (events_of self.now.entries) place world }
-        requires records { AreRecords N.told N.records (rules N.laws N.PROBES self.now.scenario) (events_of self.now.entries) place ring.old.items }
+        requires here { IsAtIn N.laws N.PROBES self.now place world }
+        requires records { AreRecordsIn N.told N.records N.laws N.PROBES self.now place ring.old.items }
         requires reach { count ≤ length ring.old.items }
-        ensures here { IfOk result (λ w. IsAt (rules N.laws N.PROBES self.now.scenario) (events_of self.now.entries) (place - count) w) }
-        ensures records { OnOk result (AreRecords N.told N.records (rules N.laws N.PROBES self.now.scenario) (events_of self.now.entries) (place - count) ring.new.items) }
+        ensures here { IfOk result (λ w. IsAtIn N.laws N.PROBES self.now (place - count) w) }
+        ensures records { OnOk result (AreRecordsIn N.told N.records N.laws N.PROBES self.now (place - count) ring.new.items) }
         ensures reach { OnOk result (length ring.new.items ≡ length ring.old.items - count) }
         ensures capacity { ring.new.capacity ≡ ring.old.capacity }
-        ensures work { OnOk result (N.Meter.work meter.new ≡ undone_by (acting (rules N.laws N.PROBES self.now.scenario) (place - count) count (events_of self.now.entries)) (N.Meter.work meter.old)) }
+        ensures work { OnOk result (N.Meter.work meter.new ≡
+            undone_by (acting (rules_in N.laws N.PROBES self.now) (place - count) count (events_of self.now.entries)) (N.Meter.work meter.old)) }
     {
         let mut world = world;
         for _ in 0..count {
@@ -171,17 +174,17 @@ impl<N: Node> Walk<N> {
         to: usize,
         meter: &mut N::Meter,
     ) -> Result<(), NoMemory>
-        requires runs { IsRun (rules N.laws N.PROBES log.now.scenario) log.now.entries }
-        requires walk { IsWalk N.told N.records (rules N.laws N.PROBES log.now.scenario) (events_of log.now.entries) place self.old.world self.old.ring.items }
+        requires runs { IsRun (rules_in N.laws N.PROBES log.now) log.now.entries }
+        requires walk { IsWalkIn N.told N.records N.laws N.PROBES log.now place self.old.world self.old.ring.items }
         requires warm { IsSome self.old.world }
         requires order { place ≤ to }
         requires within { to ≤ length log.now.entries }
-        ensures ok { OnOk result (IsWalk N.told N.records (rules N.laws N.PROBES log.now.scenario) (events_of log.now.entries) to self.new.world self.new.ring.items) }
+        ensures ok { OnOk result (IsWalkIn N.told N.records N.laws N.PROBES log.now to self.new.world self.new.ring.items) }
         ensures warm { OnOk result (IsSome self.new.world) }
         ensures reach { OnOk result (length self.new.ring.items ≡ min self.old.ring.capacity (length self.old.ring.items + (to - place))) }
         ensures work { OnOk result (OnlyTurns (to - place) (N.Meter.work meter.old) (N.Meter.work meter.new)) }
         ensures capacity { self.new.ring.capacity ≡ self.old.ring.capacity }
-        ensures err { OnErr result (IsWalk N.told N.records (rules N.laws N.PROBES log.now.scenario) (events_of log.now.entries) place self.new.world self.new.ring.items) }
+        ensures err { OnErr result (IsWalkIn N.told N.records N.laws N.PROBES log.now place self.new.world self.new.ring.items) }
     {
         let _room = self.ring.capacity();
         let Some(world) = self.world.take() else {
@@ -209,15 +212,16 @@ impl<N: Node> Walk<N> {
         count: usize,
         meter: &mut N::Meter,
     ) -> Result<(), NoMemory>
-        requires walk { IsWalk N.told N.records (rules N.laws N.PROBES log.now.scenario) (events_of log.now.entries) place self.old.world self.old.ring.items }
+        requires walk { IsWalkIn N.told N.records N.laws N.PROBES log.now place self.old.world self.old.ring.items }
         requires warm { IsSome self.old.world }
         requires reach { count ≤ length self.old.ring.items }
-        ensures ok { OnOk result (IsWalk N.told N.records (rules N.laws N.PROBES log.now.scenario) (events_of log.now.entries) (place - count) self.new.world self.new.ring.items) }
+        ensures ok { OnOk result (IsWalkIn N.told N.records N.laws N.PROBES log.now (place - count) self.new.world self.new.ring.items) }
         ensures warm { OnOk result (IsSome self.new.world) }
         ensures reach { OnOk result (length self.new.ring.items ≡ length self.old.ring.items - count) }
-        ensures work { OnOk result (N.Meter.work meter.new ≡ undone_by (acting (rules N.laws N.PROBES log.now.scenario) (place - count) count (events_of log.now.entries)) (N.Meter.work meter.old)) }
+        ensures work { OnOk result (N.Meter.work meter.new ≡
+            undone_by (acting (rules_in N.laws N.PROBES log.now) (place - count) count (events_of log.now.entries)) (N.Meter.work meter.old)) }
         ensures capacity { self.new.ring.capacity ≡ self.old.ring.capacity }
-        ensures err { OnErr result (IsWalk N.told N.records (rules N.laws N.PROBES log.now.scenario) (events_of log.now.entries) place self.new.world self.new.ring.items) }
+        ensures err { OnErr result (IsWalkIn N.told N.records N.laws N.PROBES log.now place self.new.world self.new.ring.items) }
     {
         let Some(world) = self.world.take() else {
             unreachable!()
@@ -245,15 +249,16 @@ impl<N: Node> Walk<N> {
         to: usize,
         meter: &mut N::Meter,
     ) -> Result<(), NoMemory>
-        requires runs { IsRun (rules N.laws N.PROBES log.now.scenario) log.now.entries }
-        requires checkpoint { IsAt (rules N.laws N.PROBES log.now.scenario) (events_of log.now.entries) from checkpoint.now }
+        requires runs { IsRun (rules_in N.laws N.PROBES log.now) log.now.entries }
+        requires checkpoint { IsAtIn N.laws N.PROBES log.now from checkpoint.now }
         requires order { from ≤ to }
         requires within { to ≤ length log.now.entries }
-        ensures ok { OnOk result (IsWalk N.told N.records (rules N.laws N.PROBES log.now.scenario) (events_of log.now.entries) to self.new.world self.new.ring.items) }
+        ensures ok { OnOk result (IsWalkIn N.told N.records N.laws N.PROBES log.now to self.new.world self.new.ring.items) }
         ensures warm { OnOk result (IsSome self.new.world) }
         ensures work { OnOk result (Plays (to - from) (running checkpoint.now.world) (N.Meter.work meter.old) (N.Meter.work meter.new)) }
         ensures capacity { self.new.ring.capacity ≡ self.old.ring.capacity }
-        ensures err { OnErr result ((place : ℕ) → IsWalk N.told N.records (rules N.laws N.PROBES log.now.scenario) (events_of log.now.entries) place self.old.world self.old.ring.items → IsWalk N.told N.records (rules N.laws N.PROBES log.now.scenario) (events_of log.now.entries) place self.new.world self.new.ring.items) }
+        ensures err { OnErr result ((place : ℕ) → IsWalkIn N.told N.records N.laws N.PROBES log.now place self.old.world self.old.ring.items →
+            IsWalkIn N.told N.records N.laws N.PROBES log.now place self.new.world self.new.ring.items) }
     {
         let world = checkpoint.copy(alloc, meter)?;
         self.world = None;
@@ -281,23 +286,24 @@ impl<N: Node> Walk<N> {
         asked: bool,
         meter: &mut N::Meter,
     ) -> Result<(u64, Option<Arc<World<N>>>), NoMemory>
-        requires runs { IsRun (rules N.laws N.PROBES log.now.scenario) log.now.entries }
-        requires walk { IsWalk N.told N.records (rules N.laws N.PROBES log.now.scenario) (events_of log.now.entries) (length log.now.entries) self.old.world self.old.ring.items }
+        requires runs { IsRun (rules_in N.laws N.PROBES log.now) log.now.entries }
+        requires walk { IsWalkIn N.told N.records N.laws N.PROBES log.now (length log.now.entries) self.old.world self.old.ring.items }
         requires warm { IsSome self.old.world }
         requires room { length log.now.entries < 65536 }
-        requires can { refusal_of (rules N.laws N.PROBES log.now.scenario) event (world_at (rules N.laws N.PROBES log.now.scenario) (length log.now.entries) (events_of log.now.entries)) ≡ None }
-        ensures ok { OnOk result (IsWalk N.told N.records (rules N.laws N.PROBES log.now.scenario) (events_of log.now.entries ++ event ∷ []) (length log.now.entries + 1) self.new.world self.new.ring.items) }
+        requires can { refusal_of (rules_in N.laws N.PROBES log.now) event (world_at_end N.laws N.PROBES log.now) ≡ None }
+        ensures ok { OnOk result (IsWalkAfter N.told N.records N.laws N.PROBES event log.now self.new.world self.new.ring.items) }
         ensures warm { OnOk result (IsSome self.new.world) }
-        ensures runs { OnOk result (IsSome (run (rules N.laws N.PROBES log.now.scenario) (events_of log.now.entries ++ event ∷ []))) }
-        ensures clock { IfOk result (λ x. x.0 ≡ (world_at (rules N.laws N.PROBES log.now.scenario) (length log.now.entries + 1) (events_of log.now.entries ++ event ∷ [])).clock) }
+        ensures runs { OnOk result (IsSome (run (rules_in N.laws N.PROBES log.now) (events_of log.now.entries ++ event ∷ []))) }
+        ensures clock { IfOk result (λ x. x.0 ≡ (world_after N.laws N.PROBES event log.now).clock) }
         ensures small { IfOk result (λ x. x.0 ≤ 60000 * 65536) }
-        ensures moved { OnOk result ((world_at (rules N.laws N.PROBES log.now.scenario) (length log.now.entries + 1) (events_of log.now.entries ++ event ∷ [])).clock ≡ clock_after event (world_at (rules N.laws N.PROBES log.now.scenario) (length log.now.entries) (events_of log.now.entries))) }
-        ensures on { OnOk result ((world_at (rules N.laws N.PROBES log.now.scenario) (length log.now.entries) (events_of log.now.entries)).clock ≤ (world_at (rules N.laws N.PROBES log.now.scenario) (length log.now.entries + 1) (events_of log.now.entries ++ event ∷ [])).clock) }
-        ensures copy { IfOk result (λ x. MatchOption x.1 (asked ≡ false) (λ c. (asked ≡ true) × IsAt (rules N.laws N.PROBES log.now.scenario) (events_of log.now.entries ++ event ∷ []) (length log.now.entries + 1) (arc_value c))) }
+        ensures moved { OnOk result ((world_after N.laws N.PROBES event log.now).clock ≡ clock_after event (world_at_end N.laws N.PROBES log.now)) }
+        ensures on { OnOk result ((world_at_end N.laws N.PROBES log.now).clock ≤ (world_after N.laws N.PROBES event log.now).clock) }
+        ensures copy { IfOk result (λ x. MatchOption x.1 (asked ≡ false) (λ c. (asked ≡ true) × IsAfter N.laws N.PROBES event log.now (arc_value c))) }
         ensures reach { OnOk result (length self.new.ring.items ≡ min self.old.ring.capacity (length self.old.ring.items + 1)) }
-        ensures work { OnOk result (Plays 1 (if asked then running (world_at (rules N.laws N.PROBES log.now.scenario) (length log.now.entries + 1) (events_of log.now.entries ++ event ∷ [])) else 0) (N.Meter.work meter.old) (N.Meter.work meter.new)) }
+        ensures work { OnOk result (Plays 1 (if asked then running (world_after N.laws N.PROBES event log.now) else 0)
+            (N.Meter.work meter.old) (N.Meter.work meter.new)) }
         ensures capacity { self.new.ring.capacity ≡ self.old.ring.capacity }
-        ensures err { OnErr result (IsWalk N.told N.records (rules N.laws N.PROBES log.now.scenario) (events_of log.now.entries) (length log.now.entries) self.new.world self.new.ring.items) }
+        ensures err { OnErr result (IsWalkIn N.told N.records N.laws N.PROBES log.now (length log.now.entries) self.new.world self.new.ring.items) }
     {
         let _room = self.ring.capacity();
         let Some(world) = self.world.take() else {

@@ -1,0 +1,134 @@
+//! A plain run of events: the worlds after each, made by steps from the start alone.
+ghost use Rattle.std.specs.Prelude.{◌<◌};
+
+use super::meter::Counts;
+use sim_node::Node;
+use sim_echo::Echo;
+use sim_world::{Event, Query, Scenario, View, World};
+use std::alloc::Global;
+use std::process::Abort;
+use std::test::Fail;
+
+pub type EchoWorld<R> = World<Echo<Counts<R>>>;
+
+/// An event of a plain run, and whether a node reacted in it.
+#[derive(Clone, Copy)]
+pub struct Happened {
+    pub event: Event,
+    pub acted: bool,
+}
+
+/// What happened, and the world after each of these events, the start first.
+#[derive(Drop)]
+pub struct Plain<R: Abort + Drop> {
+    happened: Vec<Happened>,
+    worlds: Vec<EchoWorld<R>>,
+}
+
+// How many hosts run.
+fn running<N: Node>(world: &World<N>) -> u64 {
+    (0..world.hosts()).filter(|host| world.is_up(*host)).count() as u64
+}
+
+// The world after an event that can happen.
+fn after<N: Node>(
+    alloc: Global,
+    world: &World<N>,
+    event: Event,
+    meter: &mut N::Meter,
+) -> Result<World<N>, Fail> {
+    if 65_536 <= world.age() {
+        return Err(Fail::from("too old"));
+    }
+    world.can(event)?;
+    let copy = world.copy(alloc, meter)?;
+    let (next, _undo) = copy.apply(alloc, event, meter)?;
+    Ok(next)
+}
+
+// What one sees of a host, of the directions from it and of its probes.
+fn looks_at<N: Node>(world: &World<N>, host: u16, views: &mut Vec<View>) -> Result<(), Fail>
+    requires { host < world.now.scenario.setup.hosts }
+{
+    views.push(world.look(Query::HostView(host)))?;
+    for other in 0..world.hosts() {
+        views.push(world.look(Query::Link(host, other)))?;
+    }
+    for probe in 0..N::PROBES {
+        views.push(world.look(Query::Probe(host, probe)))?;
+    }
+    Ok(())
+}
+
+/// All that one sees of a world.
+pub fn looks<N: Node>(alloc: Global, world: &World<N>) -> Result<Vec<View>, Fail> {
+    let mut views = Vec::new(alloc);
+    views.push(world.look(Query::Summary))?;
+    views.push(world.look(Query::Next))?;
+    for host in 0..world.hosts() {
+        looks_at(world, host, &mut views)?;
+    }
+    Ok(views)
+}
+
+impl<R: Abort + Drop> Plain<R> {
+    /// No event.
+    pub fn new(
+        alloc: Global,
+        scenario: &Scenario,
+        meter: &mut Counts<R>,
+    ) -> Result<Plain<R>, Fail> {
+        let start = World::start(alloc, scenario, meter)?;
+        let mut worlds = Vec::new(alloc);
+        worlds.push(start)?;
+        Ok(Plain {
+            happened: Vec::new(alloc),
+            worlds,
+        })
+    }
+
+    /// How many events there are.
+    pub fn len(&self) -> u32 {
+        self.happened.len().min(65_536) as u32
+    }
+
+    /// The event at a place.
+    pub fn event(&self, place: u32) -> Option<Event> {
+        self.happened.get(place as usize).map(|one| one.event)
+    }
+
+    /// The world after the first events.
+    pub fn world(&self, place: u32) -> Result<&EchoWorld<R>, Fail> {
+        match self.worlds.get(place as usize) {
+            Some(world) => Ok(world),
+            None => Err(Fail::from("no such place")),
+        }
+    }
+
+    /// In how many of the events from a place up to another a node reacted.
+    pub fn acted(&self, from: u32, to: u32) -> u64 {
+        let events = self.happened.iter().take(to as usize).skip(from as usize);
+        events.filter(|one| one.acted).count() as u64
+    }
+
+    /// How many hosts run after the first events.
+    pub fn running(&self, place: u32) -> Result<u64, Fail> {
+        Ok(running(self.world(place)?))
+    }
+
+    /// Adds an event that can happen.
+    pub fn add(&mut self, alloc: Global, event: Event, meter: &mut Counts<R>) -> Result<(), Fail> {
+        let before = meter.counted();
+        let next = after(alloc, self.world(self.len())?, event, meter)?;
+        let acted = event == Event::Step && 0 < meter.since(before).0;
+        self.happened.push(Happened { event, acted })?;
+        self.worlds.push(next)?;
+        Ok(())
+    }
+
+    /// Drops the events from a place on.
+    pub fn truncate(&mut self, place: u32) {
+        self.happened.truncate(place as usize);
+        self.worlds.truncate(place as usize + 1);
+    }
+}
