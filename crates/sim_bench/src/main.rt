@@ -6,8 +6,10 @@
 mod queue;
 mod ring;
 mod streams;
+mod tape;
 mod world;
 
+use crate::tape::TapeTurn;
 use crate::world::Cluster;
 use std::alloc::{AllocError, Global};
 use std::time::Instant;
@@ -26,6 +28,7 @@ const QUIET_TURNS: u32 = 1_000;
 ///     `WorldCopies`  a copy of a world in the midst of a run
 ///     `RingSteps`    a step whose record is kept until so many younger ones are
 ///     `RingUndos`    an event where so many steps are taken and then taken back, again and again
+///     `TapeTurns`    a turn on a tape
 #[derive(Clone, Copy)]
 enum Measure {
     Draws,
@@ -37,9 +40,10 @@ enum Measure {
     WorldCopies(Cluster),
     RingSteps(u32),
     RingUndos(u32),
+    TapeTurns(TapeTurn),
 }
 
-const MEASURES: [(&'static str, u32, Measure); 16] = [
+const MEASURES: [(&'static str, u32, Measure); 24] = [
     ("draws", 10_000_000, Measure::Draws),
     ("draws and undraws", 5_000_000, Measure::Undraws),
     (
@@ -108,6 +112,42 @@ const MEASURES: [(&'static str, u32, Measure); 16] = [
         1_000_000,
         Measure::RingUndos(1_024),
     ),
+    ("tape adds", 1_000_000, Measure::TapeTurns(TapeTurn::Add)),
+    (
+        "tape events forward",
+        1_200_000,
+        Measure::TapeTurns(TapeTurn::Forward),
+    ),
+    (
+        "tape events there and back",
+        1_000_000,
+        Measure::TapeTurns(TapeTurn::ThereAndBack),
+    ),
+    (
+        "tape jumps, interval 64",
+        10_000,
+        Measure::TapeTurns(TapeTurn::Jump(64)),
+    ),
+    (
+        "tape jumps, interval 256",
+        10_000,
+        Measure::TapeTurns(TapeTurn::Jump(256)),
+    ),
+    (
+        "tape jumps, interval 1024",
+        10_000,
+        Measure::TapeTurns(TapeTurn::Jump(1_024)),
+    ),
+    (
+        "tape branches, 2000 events",
+        10_000,
+        Measure::TapeTurns(TapeTurn::Branch(2_000)),
+    ),
+    (
+        "tape branches, 60000 events",
+        10_000,
+        Measure::TapeTurns(TapeTurn::Branch(60_000)),
+    ),
 ];
 
 impl Measure {
@@ -123,6 +163,7 @@ impl Measure {
             Measure::WorldCopies(cluster) => world::copies(alloc, cluster, turns),
             Measure::RingSteps(records) => ring::steps(alloc, records as usize, turns),
             Measure::RingUndos(depth) => ring::undos(alloc, depth, turns),
+            Measure::TapeTurns(turn) => turn.run(alloc, turns),
         }
     }
 }
