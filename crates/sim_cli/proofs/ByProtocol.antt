@@ -3,7 +3,7 @@ use Rattle.std.proofs.Common.{◌≡◌, List, Option, sym, subst}
 use Rattle.sim_scenario.specs.declared.Protocol.{Protocol as NamedProtocol}
 use Rattle.sim_scenario.specs.Scenario.{ScenarioText}
 use Rattle.sim_cli.specs.declared.status.Status.{Status}
-use Rattle.sim_cli.specs.Script.{Text, Names}
+use Rattle.sim_cli.specs.Script.{Text}
 use Rattle.sim_cli.specs.Turns.{beginning}
 use Rattle.sim_cli.specs.Play.{Ended, Plays, scenario, names_of}
 use Rattle.sim_cli.specs.Protocols.{nodes_by, nodes_of}

@@ -118,7 +118,8 @@ const LOSSY: &str =
 const TO_NO_HOST: &str =
     "[[link]]\nsource = \"w\"\ntarget = \"z\"\nlatency_min = 3\nlatency_max = 3\nloss = 0\n";
 
-const TWICE: &str = "[[link]]\nsource = \"w\"\ntarget = \"a\"\nlatency_min = 3\nlatency_max = 3\nloss = 0\n[[link]]\nsource = \"w\"\ntarget = \"a\"\nlatency_min = 3\nlatency_max = 3\nloss = 0\n";
+const TWICE: &str =
+    "[[link]]\nsource = \"w\"\ntarget = \"a\"\nlatency_min = 3\nlatency_max = 3\nloss = 0\n[[link]]\nsource = \"w\"\ntarget = \"a\"\nlatency_min = 3\nlatency_max = 3\nloss = 0\n";
 
 #[test]
 fn plays_links(rt: HostRuntime) -> Result<(), Fail> {
@@ -134,7 +135,11 @@ fn plays_links(rt: HostRuntime) -> Result<(), Fail> {
             "step\nstep\nstep\nlook\n",
             "place 1 clock 0\nplace 2 clock 0\nrefused 7 Idle\nplace 2 clock 0 serial 2 net 2 torn 0 pending 0 held 0\n",
         ),
-        (linked(AT_ONCE, TO_NO_HOST), "step\n", "scenario fault 13 link\n"),
+        (
+            linked(AT_ONCE, TO_NO_HOST),
+            "step\n",
+            "scenario fault 13 link\n",
+        ),
         (linked(AT_ONCE, TWICE), "step\n", "scenario fault 14 link\n"),
         (
             linked("format = 2", FAST),
@@ -152,7 +157,11 @@ fn plays_links(rt: HostRuntime) -> Result<(), Fail> {
             "step\n",
             "scenario fault 3 disk_latency\n",
         ),
-        (linked("format = 3", ""), "step\n", "scenario fault 8 format\n"),
+        (
+            linked("format = 3", ""),
+            "step\n",
+            "scenario fault 8 format\n",
+        ),
     ];
     for (case, script, want) in rows {
         let input = input(alloc, case, 0, script)?;

@@ -7,7 +7,8 @@ use std::process::Abort;
 use std::test::Fail;
 
 /// A scenario of the hosts `a` and `w`.
-const TWO_HOSTS: &str = "format = 1\nseed = \"0000000000000000000000000000000000000000000000000000000000000000\"\nprotocol = \"echo\"\ntick = 100\nlatency_min = 10\nlatency_max = 10\nloss = 0\nservers = [\"a\"]\ncheckpoint = 4\nwindow = 2\n[[client]]\nname = \"w\"\nops = 2\n";
+const TWO_HOSTS: &str =
+    "format = 1\nseed = \"0000000000000000000000000000000000000000000000000000000000000000\"\nprotocol = \"echo\"\ntick = 100\nlatency_min = 10\nlatency_max = 10\nloss = 0\nservers = [\"a\"]\ncheckpoint = 4\nwindow = 2\n[[client]]\nname = \"w\"\nops = 2\n";
 
 /// The hosts `a` and `w`, and echo's probes.
 fn names(rt: &impl Abort, alloc: Global) -> Result<Names, AllocError> {

@@ -1,4 +1,3 @@
-use Rattle.std.proofs.Common.{◌≡◌}
 use Rattle.sim_cli.proofs.Naming.{no_name}
 use Rattle.sim_cli.proofs.names.name_in.Goals as goal
 

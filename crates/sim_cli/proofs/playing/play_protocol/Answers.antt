@@ -32,4 +32,3 @@ pub returns-in-TwoPhase : goal.returns-in-TwoPhase
 unfolding nodes_by
 returns-in-TwoPhase g c = λ script at.
     plays_as (seen c.args.text) script _ _ _ _ named.TwoPhase _ c.in-TwoPhase.is (c.in-Ok.ensures.names ∙ ap probe_names (c.protocol_of.ensures ∙ ap protocol_of c.in-TwoPhase.is)) (c.play_nodes-in-TwoPhase.ensures script at)
-
