@@ -1,0 +1,9 @@
+-- What a session knows of the history when its command was not taken.
+use Rattle.std.specs.Prelude.{◌≡◌, ◌↔◌, List, length}
+use Rattle.sim_book.specs.declared.NotTaken.{NotTaken}
+use Rattle.sim_book.specs.declared.NotTaken.TheVariants.{HistoryFull}
+use Rattle.sim_book.specs.declared.Entry.{Entry}
+
+-- it is for a full history exactly where 65,536 entries are kept
+abbrev pub TellsFull : NotTaken → List Entry → Type 0
+TellsFull why log = (why ≡ HistoryFull) ↔ (length log ≡ 65536)
