@@ -1,0 +1,4 @@
+pub mod Leasts
+pub mod Cutting
+pub mod Seeding
+pub mod Refusing

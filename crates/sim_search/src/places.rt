@@ -1,0 +1,103 @@
+//! The first place of a frozen run at which a condition fails.
+ghost use Rattle.std.specs.Prelude.{◌≡◌, ℕ, ◌<◌, ◌≤◌, false, length, None, IfOk, OnOk, IfErr, vec_len, Option};
+ghost use Rattle.sim_world.specs.Events.{rules};
+ghost use Rattle.sim_watch.specs.Condition.{fault_of};
+ghost use Rattle.sim_watch.specs.Search.{pieces, piece, first_failing};
+ghost use Rattle.sim_search.specs.Faults.{is_bad_search, search_fault, reason};
+
+use crate::SearchFault;
+use sim_claims::{Gate, Pieces, least};
+use sim_node::{NoMemory, Node};
+use sim_tape::Frozen;
+use sim_watch::{Cond, Finding, piece, pieces, scan};
+use std::alloc::Global;
+use std::sync::Wait;
+use std::thread::Threads;
+
+// Places of a frozen run, cut into pieces between its checkpoints, and a condition that was checked for it.
+#[derive(Drop)]
+struct Places<'a, N: Node> {
+    alloc: Global,
+    frozen: &'a Frozen<N>,
+    cond: &'a Cond,
+    lo: u32,
+    hi: u32,
+    interval: u32,
+    ghost order: { lo ≤ hi },
+    ghost end: { hi ≤ length frozen.now.events },
+    ghost few: { hi ≤ 65536 },
+    ghost own: { interval ≡ frozen.now.scenario.interval },
+    ghost least: { 1 ≤ interval },
+    ghost most: { interval ≤ 1024 },
+    ghost checked: { fault_of frozen.now.scenario.setup.hosts N.PROBES cond.now ≡ None },
+}
+
+impl<'a, N: Node> Pieces<N::Meter> for Places<'a, N> {
+    ghost count = { λ s. pieces s.lo s.hi s.interval };
+
+    ghost finding = { λ s i. let p = piece s.lo s.hi s.interval i in first_failing (rules N.laws N.PROBES s.frozen.now.scenario) s.cond.now s.frozen.now.events p.lo p.hi };
+
+    fn count(&self) -> u64 {
+        pieces(self.lo, self.hi, self.interval)
+    }
+
+    fn scan(&self, number: u64, meter: &mut N::Meter) -> Result<Option<u32>, NoMemory> {
+        let part = piece(self.lo, self.hi, self.interval, number);
+        let Finding { piece: _, place } = scan(self.alloc, self.frozen, part, self.cond, meter)?;
+        Ok(place)
+    }
+}
+
+// Whether the places are not in order, or reach past the kept end.
+fn is_bad(lo: u64, hi: u64, end: u32) -> bool
+    ensures value { result ≡ is_bad_search lo hi end }
+    ensures fine { result ≡ false → (lo ≤ hi) × (hi ≤ end) }
+{
+    hi < lo || u64::from(end) < hi
+}
+
+/// The first place of a frozen run, from `lo` to `hi`, at which a condition fails, by as many workers as there are meters.
+///
+/// Each piece between two checkpoints is one worker's, and the gate is told of each. `BadRange` where `lo` is above `hi` or `hi`
+/// past the kept end, else `BadCondition` where the condition can't be asked of this run.
+pub fn search<N: Node + Send + Sync, G: Gate + Sync, R: Threads + Wait + Sync>(
+    rt: &R,
+    alloc: Global,
+    frozen: &Frozen<N>,
+    lo: u64,
+    hi: u64,
+    cond: &Cond,
+    meters: Vec<N::Meter>,
+    gate: &G,
+) -> Result<Option<u32>, SearchFault>
+where
+    N::Msg: Send + Sync,
+    N::Undo: Send,
+    N::Meter: Send,
+    requires some { 0 < vec_len meters }
+    requires few { vec_len meters ≤ 16 }
+    ensures found { IfOk result (λ place. place ≡ first_failing (rules N.laws N.PROBES frozen.now.scenario) cond.now frozen.now.events lo hi) }
+    ensures allowed { OnOk result (search_fault lo hi (length frozen.now.events) frozen.now.scenario.setup.hosts N.PROBES cond.now ≡ None) }
+    ensures refused { IfErr result (λ why. why ≡ reason (search_fault lo hi (length frozen.now.events) frozen.now.scenario.setup.hosts N.PROBES cond.now)) }
+{
+    if is_bad(lo, hi, frozen.events().len()) {
+        return Err(SearchFault::BadRange);
+    }
+    match cond.check(frozen.hosts(), N::PROBES) {
+        Err(_) => return Err(SearchFault::BadCondition),
+        Ok(()) => {}
+    }
+    let places = Places {
+        alloc,
+        frozen,
+        cond,
+        lo: lo as u32,
+        hi: hi as u32,
+        interval: frozen.interval(),
+    };
+    match least(rt, alloc, &places, gate, meters) {
+        Ok(Some((_, place))) => Ok(Some(place)),
+        Ok(None) => Ok(None),
+        Err(_) => Err(SearchFault::NoMemory),
+    }
+}
