@@ -7,7 +7,7 @@ use meter::Counts;
 use sim_book::{Book, Command, Refusal, Reply, Stop};
 use sim_links::{Way, Ways};
 use sim_node::Setup;
-use sim_protocols::Echo;
+use sim_echo::Echo;
 use sim_watch::{Cond, Op, Term};
 use sim_world::{Event, Fault, Query, Scenario, View};
 use std::alloc::Global;

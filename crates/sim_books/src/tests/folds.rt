@@ -5,7 +5,7 @@ use super::meter::Counts;
 use super::{Told, asked, tell};
 use sim_book::{Book, Command, Refusal, Stop};
 use sim_node::Node;
-use sim_protocols::Echo;
+use sim_echo::Echo;
 use sim_world::{Event, Fault, Query, Scenario, World};
 use std::alloc::Global;
 use std::process::Abort;
