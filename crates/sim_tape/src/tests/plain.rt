@@ -2,8 +2,8 @@
 ghost use Rattle.std.specs.Prelude.{◌<◌};
 
 use super::meter::Counts;
-use sim_node::Node;
 use sim_echo::Echo;
+use sim_node::Node;
 use sim_world::{Event, Query, Scenario, View, World};
 use std::alloc::Global;
 use std::process::Abort;
