@@ -9,3 +9,6 @@ mod shared;
 
 pub use held::Held;
 pub use shared::{History, Receipt, Seat, Shared};
+
+#[cfg(test)]
+mod tests;
