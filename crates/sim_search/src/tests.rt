@@ -2,9 +2,9 @@
 ghost use Rattle.std.specs.Prelude.{◌≡◌, IfOk, vec_len};
 
 use crate::{OpenGate, SearchFault, sweep};
+use sim_echo::Echo;
 use sim_links::{Way, Ways};
 use sim_node::{NoMemory, Setup};
-use sim_protocols::Echo;
 use sim_tally::Tally;
 use sim_watch::{Cond, Op, Term};
 use sim_world::Scenario;

@@ -6,9 +6,9 @@ ghost use Rattle.sim_shared.specs.Sharing.{IsAt};
 
 use crate::{History, Receipt, Seat, Shared};
 use sim_book::{Book, Command, Reply};
+use sim_echo::Echo;
 use sim_links::{Way, Ways};
 use sim_node::{NoMemory, Setup};
-use sim_protocols::Echo;
 use sim_tally::Tally;
 use sim_world::{Query, Scenario};
 use std::alloc::Global;
