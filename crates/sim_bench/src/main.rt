@@ -3,12 +3,14 @@
 //! With the word `quiet` each measure takes few turns and no time is written, so that what is written is always the same.
 #![tactic(auto)]
 
+mod book;
 mod queue;
 mod ring;
 mod streams;
 mod tape;
 mod world;
 
+use crate::book::BookTurn;
 use crate::tape::TapeTurn;
 use crate::world::Cluster;
 use std::alloc::{AllocError, Global};
@@ -29,6 +31,7 @@ const QUIET_TURNS: u32 = 1_000;
 ///     `RingSteps`    a step whose record is kept until so many younger ones are
 ///     `RingUndos`    an event where so many steps are taken and then taken back, again and again
 ///     `TapeTurns`    a turn on a tape
+///     `BookTurns`    an event of a turn of a book
 #[derive(Clone, Copy)]
 enum Measure {
     Draws,
@@ -41,9 +44,10 @@ enum Measure {
     RingSteps(u32),
     RingUndos(u32),
     TapeTurns(TapeTurn),
+    BookTurns(BookTurn),
 }
 
-const MEASURES: [(&'static str, u32, Measure); 24] = [
+const MEASURES: [(&'static str, u32, Measure); 28] = [
     ("draws", 10_000_000, Measure::Draws),
     ("draws and undraws", 5_000_000, Measure::Undraws),
     (
@@ -148,6 +152,22 @@ const MEASURES: [(&'static str, u32, Measure); 24] = [
         10_000,
         Measure::TapeTurns(TapeTurn::Branch(60_000)),
     ),
+    ("book runs", 1_000_000, Measure::BookTurns(BookTurn::Run)),
+    (
+        "book runs with a watch",
+        1_000_000,
+        Measure::BookTurns(BookTurn::WatchedRun),
+    ),
+    (
+        "book events there and back",
+        1_000_000,
+        Measure::BookTurns(BookTurn::Back),
+    ),
+    (
+        "book rewinds with a watch, and forward",
+        1_000_000,
+        Measure::BookTurns(BookTurn::WatchedRewind),
+    ),
 ];
 
 impl Measure {
@@ -164,6 +184,7 @@ impl Measure {
             Measure::RingSteps(records) => ring::steps(alloc, records as usize, turns),
             Measure::RingUndos(depth) => ring::undos(alloc, depth, turns),
             Measure::TapeTurns(turn) => turn.run(alloc, turns),
+            Measure::BookTurns(turn) => turn.run(alloc, turns),
         }
     }
 }

@@ -41,7 +41,7 @@ const WAY: Way = Way {
 };
 
 // One server and 31 clients, each with 1,000 operations.
-fn scenario(interval: u32, window: u32) -> Scenario
+pub fn scenario(interval: u32, window: u32) -> Scenario
     requires interval { (1 ≤ interval) × (interval ≤ 1024) }
     requires window { (1 ≤ window) × (window ≤ 4096) }
 {
