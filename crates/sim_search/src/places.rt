@@ -72,7 +72,7 @@ pub fn search<N: Node + Send + Sync, G: Gate + Sync, R: Threads + Wait + Sync>(
 ) -> Result<Option<u32>, SearchFault>
 where
     N::Msg: Send + Sync,
-    N::Undo: Send,
+    N::Undo: Send + Sync,
     N::Meter: Send,
     requires some { 0 < vec_len meters }
     requires few { vec_len meters ≤ 16 }

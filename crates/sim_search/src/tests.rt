@@ -1,14 +1,18 @@
-//! Sweeps over echo.
+//! Searches and sweeps over echo.
 ghost use Rattle.std.specs.Prelude.{◌≡◌, IfOk, vec_len};
 
-use crate::{OpenGate, SearchFault, sweep};
+use crate::{Gate, OpenGate, SearchFault, search, sweep};
 use sim_echo::Echo;
 use sim_links::{Way, Ways};
 use sim_node::{NoMemory, Setup};
 use sim_tally::Tally;
+use sim_tape::{Frozen, Tape};
 use sim_watch::{Cond, Op, Term};
-use sim_world::Scenario;
+use sim_world::{Event, Scenario};
 use std::alloc::Global;
+use std::sync::Wait;
+use std::sync::atomic::AtomicU64;
+use std::sync::atomic::Ordering::SeqCst;
 use std::test::Fail;
 
 // One server and one client of echo, which has two operations.
@@ -40,6 +44,113 @@ fn tallies(alloc: Global, workers: u32) -> Result<Vec<Tally>, NoMemory>
         meters.push(Tally::new())?;
     }
     Ok(meters)
+}
+
+// Adds a step at the end, where one can happen.
+fn add(alloc: Global, tape: &mut Tape<Echo<Tally>>, tally: &mut Tally) -> Result<bool, NoMemory> {
+    if tape.place() != tape.len() || 65_536 <= tape.len() {
+        return Ok(false);
+    }
+    tape.make_warm(alloc, tally)?;
+    if tape.here().can(Event::Step).is_err() {
+        return Ok(false);
+    }
+    tape.add(alloc, Event::Step, tally)?;
+    Ok(true)
+}
+
+// The run of the six steps that can happen.
+fn six_steps(alloc: Global) -> Result<Frozen<Echo<Tally>>, Fail> {
+    let mut tally = Tally::new();
+    let mut tape = Tape::new(alloc, &echoes()?, &mut tally)?;
+    for _step in 0..7 {
+        add(alloc, &mut tape, &mut tally)?;
+    }
+    Ok(tape.freeze(alloc)?)
+}
+
+// How often each of two pieces was entered, and a thousand for each time that it was left.
+#[derive(Drop)]
+struct Counts {
+    first: AtomicU64,
+    second: AtomicU64,
+}
+
+fn no_counts() -> Counts {
+    Counts {
+        first: AtomicU64::new(0),
+        second: AtomicU64::new(0),
+    }
+}
+
+impl Counts {
+    fn add(&self, piece: u64, n: u64) {
+        match piece {
+            0 => self.first.fetch_add(n, SeqCst),
+            _ => self.second.fetch_add(n, SeqCst),
+        };
+    }
+
+    // Both pieces were entered and left once.
+    fn are_even(&self) -> bool {
+        self.first.load(SeqCst) == 1_001 && self.second.load(SeqCst) == 1_001
+    }
+}
+
+impl Gate for Counts {
+    fn enter<R: Wait>(&self, _rt: &R, piece: u64) {
+        self.add(piece, 1);
+    }
+
+    fn leave<R: Wait>(&self, _rt: &R, piece: u64) {
+        self.add(piece, 1_000);
+    }
+}
+
+#[test]
+fn places_of_a_run(rt: HostRuntime) -> Result<(), Fail> {
+    let alloc = rt.alloc();
+    let run = six_steps(alloc)?;
+    for workers in [1, 2, 16] {
+        let meters = tallies(alloc, workers)?;
+        let gate = no_counts();
+        let cond = next_at_most(1)?;
+        let found = search(&rt, alloc, &run, 0, 6, &cond, meters, &gate);
+        assert!(rt; found == Ok(Some(4)));
+        assert!(rt; gate.are_even(), "one enter and one leave a piece");
+    }
+    Ok(())
+}
+
+#[test]
+fn no_place_of_a_run(rt: HostRuntime) -> Result<(), Fail> {
+    let alloc = rt.alloc();
+    let run = six_steps(alloc)?;
+    for workers in [1, 2, 16] {
+        let meters = tallies(alloc, workers)?;
+        let gate = no_counts();
+        let cond = next_at_most(3)?;
+        let found = search(&rt, alloc, &run, 0, 6, &cond, meters, &gate);
+        assert!(rt; found == Ok(None));
+        assert!(rt; gate.are_even(), "one enter and one leave a piece");
+    }
+    Ok(())
+}
+
+#[test]
+fn searches_that_are_refused(rt: HostRuntime) -> Result<(), Fail> {
+    let alloc = rt.alloc();
+    let run = six_steps(alloc)?;
+    let up = Cond::new().and(Term::Up(0))?;
+    for (lo, hi) in [(0, 7), (4, 3)] {
+        let meters = tallies(alloc, 1)?;
+        let found = search(&rt, alloc, &run, lo, hi, &up, meters, &OpenGate);
+        assert!(rt; found == Err(SearchFault::BadRange));
+    }
+    let up = Cond::new().and(Term::Up(2))?;
+    let found = search(&rt, alloc, &run, 0, 6, &up, tallies(alloc, 1)?, &OpenGate);
+    assert!(rt; found == Err(SearchFault::BadCondition));
+    Ok(())
 }
 
 #[test]
