@@ -398,7 +398,7 @@ fn commands_at_random_are_folded(rt: HostRuntime) -> Result<(), Fail> {
     for seed in 1..5 {
         let mut fold = Fold::new(alloc, &scenario, rt)?;
         let mut dice = Dice::new(seed);
-        for _turn in 0..100 {
+        for _turn in 0..600 {
             fold.turn(&rt, alloc, &mut dice)?;
         }
     }
