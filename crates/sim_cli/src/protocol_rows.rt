@@ -168,9 +168,10 @@ fn plays_links(rt: HostRuntime) -> Result<(), Fail> {
         let mut reader = input.as_bytes();
         let mut written = Vec::new(alloc);
         let status = play(alloc, &mut reader, &mut written);
-        let bad = want.starts_with("scenario fault");
-        assert_eq!(rt; status == Status::BadScenario, bad, "{want}");
-        assert_eq!(rt; str::from_utf8(written.as_slice())?, want);
+        let written = str::from_utf8(written.as_slice())?;
+        let bad = written.starts_with("scenario fault");
+        assert!(rt; (status == Status::BadScenario) == bad, "{written}");
+        assert!(rt; written == want, "{written}");
     }
     Ok(())
 }
