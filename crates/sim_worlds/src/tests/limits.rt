@@ -1,5 +1,22 @@
 //! What happens at the limits: 4,096 messages in flight and held, and the 4,096 bytes of a disk.
-use super::*;
+use super::play::{Act, applied, summary};
+use super::{STEP, Scribe, Tally, echoes, scribe_plays, scribes};
+use sim_echo::Echo;
+use sim_node::Node;
+use sim_world::{Event, Fault, Query, World};
+use std::alloc::Global;
+use std::test::Fail;
+
+// The world after an event.
+fn after<N: Node>(
+    alloc: Global,
+    world: World<N>,
+    event: Event,
+    meter: &mut N::Meter,
+) -> Result<World<N>, Fail> {
+    let (next, _undo) = applied(alloc, world, event, meter)?;
+    Ok(next)
+}
 
 // The world after its client started anew so many times, each time at once.
 fn started_anew<N: Node>(
@@ -10,7 +27,7 @@ fn started_anew<N: Node>(
 ) -> Result<World<N>, Fail> {
     let mut now = world;
     for _round in 0..times {
-        let bounced = faulted(alloc, now, Fault::Bounce(1), meter)?;
+        let bounced = after(alloc, now, Event::Fault(Fault::Bounce(1)), meter)?;
         now = after(alloc, bounced, Event::Step, meter)?;
     }
     Ok(now)
@@ -20,10 +37,12 @@ fn started_anew<N: Node>(
 #[test]
 fn a_message_beyond_4096_is_dropped(rt: HostRuntime) -> Result<(), Fail> {
     let alloc = rt.alloc();
-    let mut meter = Counts::new(rt.clone()?);
-    let world = echoes(alloc, 10, 0, &mut meter)?;
-    let world = stepped(&rt, alloc, world, &[0, 0], &mut meter)?;
-    let world = faulted(alloc, world, Fault::Hold(0, 1), &mut meter)?;
+    let mut meter = Tally::new();
+    let world = World::<Echo<Tally>>::start(alloc, &echoes(10, 0)?, &mut meter)?;
+    let world = after(alloc, world, Event::Step, &mut meter)?;
+    let world = after(alloc, world, Event::Step, &mut meter)?;
+    let hold = Event::Fault(Fault::Hold(0, 1));
+    let world = after(alloc, world, hold, &mut meter)?;
     let world = started_anew(alloc, world, 4_095, &mut meter)?;
     assert_eq!(rt;
         world.look(Query::Summary),
@@ -40,16 +59,9 @@ fn a_message_beyond_4096_is_dropped(rt: HostRuntime) -> Result<(), Fail> {
 // Its four bytes end at byte 4,096 of the disk, and at 4,097.
 #[test]
 fn a_write_past_the_end_is_skipped(rt: HostRuntime) -> Result<(), Fail> {
-    let alloc = rt.alloc();
-    let mut meter = Counts::new(rt.clone()?);
     for (offset, unsynced) in [(4_092, 1), (4_093, 0)] {
-        let world = scribes_at(alloc, 0, offset, 0, &mut meter)?;
-        let world = stepped(&rt, alloc, world, &[0], &mut meter)?;
-        assert_eq!(rt;
-            world.look(Query::HostView(0)),
-            host(0, true, 1, 0, unsynced),
-            "{offset}"
-        );
+        let acts = [STEP, Act::host(0, true, 1, 0, unsynced)];
+        scribe_plays(&rt, rt.alloc(), 0, offset, 0, &acts)?;
     }
     Ok(())
 }
@@ -58,12 +70,12 @@ fn a_write_past_the_end_is_skipped(rt: HostRuntime) -> Result<(), Fail> {
 #[test]
 fn a_record_gives_its_memory(rt: HostRuntime) -> Result<(), Fail> {
     let alloc = rt.alloc();
-    let mut meter = Counts::new(rt.clone()?);
-    let world = scribes(alloc, 2, 0, &mut meter)?;
+    let mut meter = Tally::new();
+    let world = World::<Scribe<Tally>>::start(alloc, &scribes(2, 0, 0)?, &mut meter)?;
     let (mut world, undo) = applied(alloc, world, Event::Step, &mut meter)?;
+    let seen = world.look(Query::Summary);
     world.reuse(undo);
-    assert_eq!(rt; world.age(), 1);
-    assert_eq!(rt; world.look(Query::Summary), summary(0, 5, 0, 0, 3, 0));
+    assert_eq!(rt; world.look(Query::Summary), seen);
     let world = after(alloc, world, Event::Step, &mut meter)?;
     assert_eq!(rt; world.look(Query::Summary), summary(0, 8, 0, 0, 4, 0));
     Ok(())
