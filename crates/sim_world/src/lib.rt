@@ -19,6 +19,8 @@ mod scenario;
 mod start;
 mod step;
 mod take_back;
+#[cfg(test)]
+mod tests;
 mod trail;
 mod undo;
 mod world;
