@@ -1,0 +1,10 @@
+-- Lemmas on words, numbers, names and conditions.
+pub mod FirstWords
+pub mod Numbers
+pub mod Positions
+pub mod Naming
+pub mod Joining
+pub mod Picking
+pub mod Dotted
+pub mod OneTerm
+pub mod Grammar

@@ -1,0 +1,4 @@
+-- What a line of a script asks: its words, the conditions that they write, and the commands.
+pub mod Words
+pub mod Conditions
+pub mod Script

@@ -1,0 +1,239 @@
+//! The lines of a script.
+ghost use Rattle.std.specs.Prelude.{◌≡◌, Some, None};
+ghost use Rattle.sim_script.specs.Script.{script_line, command_of, command_by, numbered_of, fault_of, query_of, a_host, a_number, two_hosts, a_host_and_probe, nothing, words, number};
+
+use crate::condition::condition_of;
+use crate::names::Names;
+use crate::words::{next_word, parse_number};
+use sim_book::Command;
+use sim_world::{Fault, Query};
+
+/// A longer line is bad (bytes).
+const LONGEST_LINE: usize = 256;
+
+/// The most digits of a number that is no bound of a term.
+const MOST_DIGITS: usize = 9;
+
+/// What a line of a script asks.
+#[derive(Drop)]
+pub enum ScriptLine {
+    /// An empty line, or a comment.
+    Nothing,
+    /// A line that is no command.
+    Bad,
+    Asked(Command),
+}
+
+/// A number of a command, of 1 to 9 decimal digits.
+fn parse_count(word: &[u8]) -> Option<u32>
+    ensures { result ≡ number 9 word.now }
+{
+    match parse_number(word, MOST_DIGITS) {
+        Some(count) => Some(count as u32),
+        None => None,
+    }
+}
+
+/// One number, and no more words.
+fn one_number(text: &[u8]) -> Option<u32>
+    ensures { result ≡ a_number (words text.now) }
+{
+    let (word, rest) = next_word(text)?;
+    match next_word(rest) {
+        None => parse_count(word),
+        Some(_) => None,
+    }
+}
+
+/// One host, and no more words.
+fn one_host(names: &Names, text: &[u8]) -> Option<u16>
+    ensures { result ≡ a_host names.now (words text.now) }
+{
+    let (word, rest) = next_word(text)?;
+    match next_word(rest) {
+        None => names.host(word),
+        Some(_) => None,
+    }
+}
+
+/// Two hosts, and no more words.
+fn both_hosts(names: &Names, text: &[u8]) -> Option<(u16, u16)>
+    ensures { result ≡ two_hosts names.now (words text.now) }
+{
+    let (first, rest) = next_word(text)?;
+    let (second, rest) = next_word(rest)?;
+    match next_word(rest) {
+        None => {
+            let a = names.host(first)?;
+            let b = names.host(second)?;
+            Some((a, b))
+        }
+        Some(_) => None,
+    }
+}
+
+/// A host and a probe, and no more words.
+fn host_and_probe(names: &Names, text: &[u8]) -> Option<(u16, u8)>
+    ensures { result ≡ a_host_and_probe names.now (words text.now) }
+{
+    let (first, rest) = next_word(text)?;
+    let (second, rest) = next_word(rest)?;
+    match next_word(rest) {
+        None => {
+            let host = names.host(first)?;
+            let probe = names.probe(second)?;
+            Some((host, probe))
+        }
+        Some(_) => None,
+    }
+}
+
+/// The command, where no more words follow.
+fn alone(text: &[u8], command: Command) -> Option<Command>
+    ensures { result ≡ nothing command (words text.now) }
+{
+    match next_word(text) {
+        None => Some(command),
+        Some(_) => None,
+    }
+}
+
+/// A fault, by its first word and what follows.
+#[tactic(auto, unfolding(crate::specs::Script::fault_of))]
+fn parse_fault(names: &Names, word: &[u8], rest: &[u8]) -> Option<Fault>
+    ensures { result ≡ fault_of names.now word.now (words rest.now) }
+{
+    if word == b"crash".as_slice() {
+        Some(Fault::Crash(one_host(names, rest)?))
+    } else if word == b"bounce".as_slice() {
+        Some(Fault::Bounce(one_host(names, rest)?))
+    } else if word == b"hold".as_slice() {
+        let (a, b) = both_hosts(names, rest)?;
+        Some(Fault::Hold(a, b))
+    } else if word == b"release".as_slice() {
+        let (a, b) = both_hosts(names, rest)?;
+        Some(Fault::Release(a, b))
+    } else if word == b"partition".as_slice() {
+        let (a, b) = both_hosts(names, rest)?;
+        Some(Fault::Cut(a, b))
+    } else if word == b"repair".as_slice() {
+        let (a, b) = both_hosts(names, rest)?;
+        Some(Fault::Repair(a, b))
+    } else if word == b"cutoneway".as_slice() {
+        let (a, b) = both_hosts(names, rest)?;
+        Some(Fault::CutOneway(a, b))
+    } else if word == b"repaironeway".as_slice() {
+        let (a, b) = both_hosts(names, rest)?;
+        Some(Fault::RepairOneway(a, b))
+    } else {
+        None
+    }
+}
+
+/// What is looked at, by what follows `look`.
+#[tactic(auto, unfolding(crate::specs::Script::query_of))]
+fn parse_query(names: &Names, text: &[u8]) -> Option<Query>
+    ensures { result ≡ query_of names.now (words text.now) }
+{
+    let Some((word, rest)) = next_word(text) else {
+        return Some(Query::Summary);
+    };
+    if word == b"next".as_slice() {
+        match next_word(rest) {
+            None => Some(Query::Next),
+            Some(_) => None,
+        }
+    } else if word == b"host".as_slice() {
+        Some(Query::HostView(one_host(names, rest)?))
+    } else if word == b"link".as_slice() {
+        let (a, b) = both_hosts(names, rest)?;
+        Some(Query::Link(a, b))
+    } else if word == b"probe".as_slice() {
+        let (host, probe) = host_and_probe(names, rest)?;
+        Some(Query::Probe(host, probe))
+    } else {
+        None
+    }
+}
+
+/// A command that takes a number, by its first word and what follows.
+#[tactic(auto, unfolding(crate::specs::Script::numbered_of))]
+fn parse_numbered(branch: u32, word: &[u8], rest: &[u8]) -> Option<Command>
+    ensures { result ≡ numbered_of branch word.now (words rest.now) }
+{
+    if word == b"run".as_slice() {
+        Some(Command::Run(branch, one_number(rest)?))
+    } else if word == b"back".as_slice() {
+        Some(Command::Back(branch, one_number(rest)?))
+    } else if word == b"forward".as_slice() {
+        Some(Command::Forward(branch, one_number(rest)?))
+    } else if word == b"goto".as_slice() {
+        Some(Command::Goto(branch, one_number(rest)?))
+    } else if word == b"rewind".as_slice() {
+        Some(Command::Rewind(branch, one_number(rest)?))
+    } else if word == b"branch".as_slice() {
+        Some(Command::Branch(branch, one_number(rest)?))
+    } else if word == b"unwatch".as_slice() {
+        Some(Command::Unwatch(branch, one_number(rest)?))
+    } else {
+        None
+    }
+}
+
+/// A command on a branch, by its first word and what follows.
+#[tactic(auto, unfolding(crate::specs::Script::command_by))]
+fn parse_on(names: &Names, branch: u32, word: &[u8], rest: &[u8]) -> Option<Command>
+    ensures { result ≡ command_by names.now branch word.now (words rest.now) }
+{
+    if word == b"step".as_slice() {
+        alone(rest, Command::Step(branch))
+    } else if word == b"tick".as_slice() {
+        alone(rest, Command::Tick(branch))
+    } else if word == b"cut".as_slice() {
+        alone(rest, Command::Cut(branch))
+    } else if word == b"trace".as_slice() {
+        alone(rest, Command::Freeze(branch))
+    } else if word == b"look".as_slice() {
+        Some(Command::Look(branch, parse_query(names, rest)?))
+    } else if word == b"watch".as_slice() {
+        Some(Command::Watch(branch, condition_of(names, rest)?))
+    } else {
+        match parse_numbered(branch, word, rest) {
+            Some(command) => Some(command),
+            None => Some(Command::Fault(branch, parse_fault(names, word, rest)?)),
+        }
+    }
+}
+
+/// A command, with its branch or without it.
+#[tactic(auto, unfolding(crate::specs::Script::command_of))]
+fn parse_command(names: &Names, text: &[u8]) -> Option<Command>
+    ensures { result ≡ command_of names.now (words text.now) }
+{
+    let (word, rest) = next_word(text)?;
+    match word {
+        [b'@', digits @ ..] => {
+            let branch = parse_count(digits)?;
+            let (word, rest) = next_word(rest)?;
+            parse_on(names, branch, word, rest)
+        }
+        _ => parse_on(names, 0, word, rest),
+    }
+}
+
+/// What a line of a script asks, without its line end. It takes no memory.
+#[tactic(auto, unfolding(crate::specs::Script::script_line))]
+pub fn line_of(names: &Names, line: &[u8]) -> ScriptLine
+    ensures { result ≡ script_line names.now line.now }
+{
+    if line.is_empty() || line[0] == b'#' {
+        return ScriptLine::Nothing;
+    }
+    if line.len() > LONGEST_LINE {
+        return ScriptLine::Bad;
+    }
+    match parse_command(names, line) {
+        Some(command) => ScriptLine::Asked(command),
+        None => ScriptLine::Bad,
+    }
+}
