@@ -1,5 +1,5 @@
 -- A name, a dot and another name.
-use Rattle.std.proofs.Common.{◌≡◌, ◌∙◌, refl, sym, ap, arith, ℕ, zero, suc, ◌+◌, ◌<◌, List, [], ◌∷◌, ◌++◌, length, take, drop, cond, Bool, true, false, not, ◌&&◌, ◌||◌, Option, Some, None, inl, inr, get_or, eqb-true, take_at, drop_at, append_assoc, take-append-drop, length-append, codes, option_and_then, option_map, add-one}
+use Rattle.std.proofs.Common.{◌≡◌, ◌∙◌, refl, sym, ap, arith, ℕ, ◌+◌, ◌<◌, List, [], ◌∷◌, ◌++◌, length, take, drop, cond, Bool, true, false, not, ◌&&◌, ◌||◌, Option, Some, None, inl, inr, get_or, eqb-true, take_at, drop_at, append_assoc, take-append-drop, length-append, option_and_then, option_map}
 use Rattle.std.specs.Prelude.{◌==◌, nat_le, nat_lt}
 use Rattle.std.specs.List.{list_all, position, position_or_len}
 use Rattle.std.specs.Option.{unwrap_or}

@@ -1,11 +1,11 @@
 -- What is read from the front is what the words write.
-use Rattle.std.proofs.Common.{◌≡◌, ◌∙◌, refl, sym, ap, arith, ℕ, zero, suc, ◌≤◌, List, [], ◌∷◌, ◌++◌, length, cond, true, Option, Some, None, inl, inr, codes, append-nil, option_and_then, option_map}
+use Rattle.std.proofs.Common.{◌≡◌, ◌∙◌, sym, ap, arith, ℕ, zero, suc, ◌≤◌, List, [], ◌∷◌, ◌++◌, length, Option, Some, None, inl, inr, codes, append-nil, option_and_then, option_map}
 use Rattle.std.specs.Str.{bytes_eq}
 use Rattle.std.proofs.lemmas.Slice.Eq.{bytes_eq-Decides}
 use Rattle.sim_watch.specs.declared.Term.{Term}
 use Rattle.sim_watch.specs.Condition.{Cond}
 use Rattle.sim_script.specs.Words.{Text, Names}
-use Rattle.sim_script.specs.Conditions.{term, joined, terms, condition, WritesTerm, Joins, Writes, IsWritten}
+use Rattle.sim_script.specs.Conditions.{term, joined, terms, condition, WritesTerm, Joins, IsWritten}
 use Rattle.sim_script.proofs.Picking.{of_if, of_map, of_then}
 use Rattle.sim_script.proofs.OneTerm.{term_is, term_reads}
 

@@ -1,5 +1,5 @@
 -- The words of one term, read from the front.
-use Rattle.std.proofs.Common.{◌≡◌, ◌∙◌, refl, sym, ap, subst, ℕ, List, [], ◌∷◌, ◌++◌, cond, true, false, Option, Some, None, inl, inr, codes, option_and_then, option_map}
+use Rattle.std.proofs.Common.{◌≡◌, ◌∙◌, refl, sym, ap, subst, ℕ, List, [], ◌∷◌, ◌++◌, cond, true, Option, Some, None, inl, inr, codes, option_and_then, option_map}
 use Rattle.std.specs.List.{position}
 use Rattle.std.specs.Str.{bytes_eq}
 use Rattle.std.proofs.lemmas.Slice.Eq.{bytes_eq-Decides}
@@ -36,21 +36,21 @@ op_is word o e =
     elim (of_if (bytes_eq word (codes "<")) (Some op.Less) r1 o e) [
       | inl w ↦ same_op word (codes "<") op.Less o w.0 w.1 refl
       | inr a ↦ elim (of_if (bytes_eq word (codes "<=")) (Some op.LessOrEqual) r2 o a.1) [
-          | inl w ↦ same_op word (codes "<=") op.LessOrEqual o w.0 w.1 refl
-          | inr b ↦ elim (of_if (bytes_eq word (codes "=")) (Some op.Equal) r3 o b.1) [
-              | inl w ↦ same_op word (codes "=") op.Equal o w.0 w.1 refl
-              | inr d ↦ elim (of_if (bytes_eq word (codes "!=")) (Some op.NotEqual) r4 o d.1) [
-                  | inl w ↦ same_op word (codes "!=") op.NotEqual o w.0 w.1 refl
-                  | inr f ↦ elim (of_if (bytes_eq word (codes ">=")) (Some op.GreaterOrEqual) r5 o f.1) [
-                      | inl w ↦ same_op word (codes ">=") op.GreaterOrEqual o w.0 w.1 refl
-                      | inr g ↦ elim (of_if (bytes_eq word (codes ">")) (Some op.Greater) r6 o g.1) [
-                          | inl w ↦ same_op word (codes ">") op.Greater o w.0 w.1 refl
-                          | inr h ↦ absurd (let n = h.1 in cc)
-                        ]
-                    ]
-                ]
+        | inl w ↦ same_op word (codes "<=") op.LessOrEqual o w.0 w.1 refl
+        | inr b ↦ elim (of_if (bytes_eq word (codes "=")) (Some op.Equal) r3 o b.1) [
+          | inl w ↦ same_op word (codes "=") op.Equal o w.0 w.1 refl
+          | inr d ↦ elim (of_if (bytes_eq word (codes "!=")) (Some op.NotEqual) r4 o d.1) [
+            | inl w ↦ same_op word (codes "!=") op.NotEqual o w.0 w.1 refl
+            | inr f ↦ elim (of_if (bytes_eq word (codes ">=")) (Some op.GreaterOrEqual) r5 o f.1) [
+              | inl w ↦ same_op word (codes ">=") op.GreaterOrEqual o w.0 w.1 refl
+              | inr g ↦ elim (of_if (bytes_eq word (codes ">")) (Some op.Greater) r6 o g.1) [
+                | inl w ↦ same_op word (codes ">") op.Greater o w.0 w.1 refl
+                | inr h ↦ absurd (let n = h.1 in cc)
+              ]
             ]
+          ]
         ]
+      ]
     ]
 
 module _ (names : Names) where
@@ -107,30 +107,34 @@ module _ (names : Names) where
   unfolding term
   term_is [] t rest e = absurd (cc)
   term_is (word ∷ more) t rest e =
-    let r3 = comparison names word more in
-    let r2 = cond (bytes_eq word (codes "agree")) (agreement names more) r3 in
-    let r1 = cond (bytes_eq word (codes "done")) (on_host names Done more) r2 in
-    elim (of_if (bytes_eq word (codes "up")) (on_host names Up more) r1 (t, rest) e) [
-    | inl w ↦
-        let g = host_is Up more t rest w.1 in
-        (codes "up" ∷ g.0 ∷ [], keyword word (codes "up") more (g.0 ∷ rest) w.0 g.2, as_term (codes "up" ∷ g.0 ∷ []) t (Up g.1) g.4 (g.0, refl, g.3))
-    | inr a ↦ elim (of_if (bytes_eq word (codes "done")) (on_host names Done more) r2 (t, rest) a.1) [
-      | inl w ↦
-          let g = host_is Done more t rest w.1 in
-          (codes "done" ∷ g.0 ∷ [], keyword word (codes "done") more (g.0 ∷ rest) w.0 g.2, as_term (codes "done" ∷ g.0 ∷ []) t (Done g.1) g.4 (g.0, refl, g.3))
-      | inr b ↦ elim (of_if (bytes_eq word (codes "agree")) (agreement names more) r3 (t, rest) b.1) [
+      let r3 = comparison names word more in
+      let r2 = cond (bytes_eq word (codes "agree")) (agreement names more) r3 in
+      let r1 = cond (bytes_eq word (codes "done")) (on_host names Done more) r2 in
+      elim (of_if (bytes_eq word (codes "up")) (on_host names Up more) r1 (t, rest) e) [
         | inl w ↦
-            let g = agreement_is more t rest w.1 in
-            (codes "agree" ∷ g.0 ∷ codes "unless" ∷ g.1 ∷ [], keyword word (codes "agree") more (g.0 ∷ codes "unless" ∷ g.1 ∷ rest) w.0 g.4,
-                as_term (codes "agree" ∷ g.0 ∷ codes "unless" ∷ g.1 ∷ []) t (Agree g.2 g.3) g.7 (g.0, g.1, refl, g.5, g.6))
-        | inr d ↦
-            let g = comparison_is word more t rest d.1 in
-            let v = dotted_is names word g.0 g.5 in
-            (word ∷ op_word g.1 ∷ g.2 ∷ [], ap (λ m. word ∷ m) g.4,
-                as_term (word ∷ op_word g.1 ∷ g.2 ∷ []) t (Cmp g.0.0 g.0.1 g.1 g.3) g.7 (v.0, v.1, g.2, ap (λ w. w ∷ op_word g.1 ∷ g.2 ∷ []) v.2, v.3, v.4, g.6))
+            let g = host_is Up more t rest w.1 in
+            (codes "up" ∷ g.0 ∷ [], keyword word (codes "up") more (g.0 ∷ rest) w.0 g.2, as_term (codes "up" ∷ g.0 ∷ []) t (Up g.1) g.4 (g.0, refl, g.3))
+        | inr a ↦ elim (of_if (bytes_eq word (codes "done")) (on_host names Done more) r2 (t, rest) a.1) [
+          | inl w ↦
+              let g = host_is Done more t rest w.1 in
+              (codes "done" ∷ g.0 ∷ [], keyword word (codes "done") more (g.0 ∷ rest) w.0 g.2, as_term (codes "done" ∷ g.0 ∷ []) t (Done g.1) g.4 (g.0, refl, g.3))
+          | inr b ↦ elim (of_if (bytes_eq word (codes "agree")) (agreement names more) r3 (t, rest) b.1) [
+            | inl w ↦
+                let g = agreement_is more t rest w.1 in (
+                  codes "agree" ∷ g.0 ∷ codes "unless" ∷ g.1 ∷ [],
+                  keyword word (codes "agree") more (g.0 ∷ codes "unless" ∷ g.1 ∷ rest) w.0 g.4,
+                  as_term (codes "agree" ∷ g.0 ∷ codes "unless" ∷ g.1 ∷ []) t (Agree g.2 g.3) g.7 (g.0, g.1, refl, g.5, g.6),
+                )
+            | inr d ↦
+                let g = comparison_is word more t rest d.1 in
+                let v = dotted_is names word g.0 g.5 in (
+                  word ∷ op_word g.1 ∷ g.2 ∷ [],
+                  ap (λ m. word ∷ m) g.4,
+                  as_term (word ∷ op_word g.1 ∷ g.2 ∷ []) t (Cmp g.0.0 g.0.1 g.1 g.3) g.7 (v.0, v.1, g.2, ap (λ w. w ∷ op_word g.1 ∷ g.2 ∷ []) v.2, v.3, v.4, g.6),
+                )
+          ]
         ]
       ]
-    ]
 
   -- a term's words are read as the term, whatever follows them
   pub term_reads : (front : List Text) (t : Term) (rest : List Text) → WritesTerm names front t → term names (front ++ rest) ≡ Some (t, rest)

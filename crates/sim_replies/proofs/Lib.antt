@@ -1,0 +1,3 @@
+-- Lemmas on the events of a trace.
+pub mod Plain
+pub mod Shown

@@ -1,0 +1,4 @@
+-- The lines that tell replies.
+pub mod Spacing
+pub mod Trace
+pub mod Lines

@@ -1,0 +1,10 @@
+//! The lines that tell replies.
+#![tactic(auto)]
+
+mod event;
+mod lines;
+mod named;
+mod trace;
+mod view;
+
+pub use lines::tell_turn;

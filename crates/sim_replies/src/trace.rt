@@ -1,0 +1,51 @@
+//! The kept events of a branch as JSON.
+ghost use Rattle.std.specs.Prelude.{◌≡◌, ◌++◌, IfOk, OnOk, map, string_bytes};
+ghost use Rattle.serde_json.specs.View.{view};
+ghost use Rattle.sim_replies.specs.Trace.{event_value as value_of, trace_value as branch_value, trace_words};
+
+use crate::event::event_value;
+use serde_json::{Value, json};
+use sim_script::Names;
+use sim_tape::EventList;
+use std::alloc::{AllocError, Global};
+
+/// The events as JSON strings, in their order.
+fn event_values(alloc: Global, names: &Names, events: &EventList) -> Result<Vec<Value>, AllocError>
+    ensures { IfOk result (λ v. map view v.items ≡ map (value_of names.now) events.now) }
+{
+    let mut values = Vec::new(alloc);
+    for i in 0..events.len() {
+        if let Some(event) = events.get(i) {
+            values.push(event_value(alloc, names, event)?)?;
+        }
+    }
+    Ok(values)
+}
+
+/// The kept events of a branch as one JSON value.
+fn trace_value(
+    alloc: Global,
+    names: &Names,
+    branch: u32,
+    events: &EventList,
+) -> Result<Value, AllocError>
+    ensures { IfOk result (λ v. view v ≡ branch_value names.now branch events.now) }
+{
+    let values = Value::Array(event_values(alloc, names, events)?);
+    json!(in alloc; {"branch": branch, "events": values})
+}
+
+/// Adds the words that tell the kept events of a branch to the text.
+#[tactic(auto, unfolding(crate::specs::Trace::trace_words))]
+pub fn tell_trace(
+    alloc: Global,
+    text: &mut String,
+    names: &Names,
+    branch: u32,
+    events: &EventList,
+) -> Result<(), AllocError>
+    ensures { OnOk result (string_bytes text.new ≡ string_bytes text.old ++ trace_words names.now branch events.now) }
+{
+    let trace = trace_value(alloc, names, branch, events)?.to_string(alloc)?;
+    text.push_str(trace.as_str())
+}
