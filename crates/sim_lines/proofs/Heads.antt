@@ -1,5 +1,5 @@
 -- The scenario's text, line by line.
-use Rattle.std.proofs.Common.{◌≡◌, ◌≢◌, ℕ, ◌+◌, ◌≤◌, List, [], ◌∷◌, ◌++◌, length, refl, sym, ◌∙◌, ap, append_assoc, append-nil, arith, cond, Bool, true, false, inl, inr, ◌⊎◌, Option, length-append, codes, Result, Ok, Err, OnOk, is_err}
+use Rattle.std.proofs.Common.{◌≡◌, ◌≢◌, ℕ, ◌+◌, ◌<◌, ◌≤◌, List, [], ◌∷◌, ◌++◌, length, refl, sym, ◌∙◌, ap, append_assoc, append-nil, arith, cond, Bool, true, false, inl, inr, ◌⊎◌, Option, length-append, codes, Result, Ok, Err, OnOk, is_err}
 use Rattle.std.specs.Prelude.{◌==◌}
 use Rattle.std.specs.List.{join_with_byte}
 use Rattle.std.specs.Io.KnownBytes.{Consumes, IsAtEnd}
@@ -84,9 +84,10 @@ at_line_end old now new lines line count f h m = record {
 }
 
 -- the line ends, and is the marker
-pub at_marker : (old now new : Option (List ℕ)) (lines line : List ℕ) (count : ℕ) → Head old now lines line count → Consumes now new (10 ∷ []) → is_marker (strip_carriage_return line) ≡ true → HasHead old new lines
-at_marker old now new lines line count f h m = record {
+pub at_marker : (old now new : Option (List ℕ)) (lines line : List ℕ) (count : ℕ) → Head old now lines line count → count < 65600 → Consumes now new (10 ∷ []) → is_marker (strip_carriage_return line) ≡ true → HasHead old new lines
+at_marker old now new lines line count f few h m = record {
   taken = (lines ++ line) ++ 10 ∷ [];
+  most = omega (arith, f.all, one_more (lines ++ line) 10);
   consumed = Consumes-append old now new (lines ++ line) (10 ∷ []) f.consumed h;
   ends = inl (λ tail.
       ap head_of (append_assoc (lines ++ line) (10 ∷ []) tail ∙ append_assoc lines line (10 ∷ tail))
@@ -95,23 +96,24 @@ at_marker old now new lines line count f h m = record {
       ∙ ap (λ xs. (xs, tail)) (append-nil lines));
 }
 
-last_at : (old now new : Option (List ℕ)) (lines line text : List ℕ) (count : ℕ) → Head old now lines line count → Consumes now new [] → IsAtEnd new → head_of (lines ++ line) ≡ (text, []) → HasHead old new text
-last_at old now new lines line text count f h end e = record {
+last_at : (old now new : Option (List ℕ)) (lines line text : List ℕ) (count : ℕ) → Head old now lines line count → count < 65600 → Consumes now new [] → IsAtEnd new → head_of (lines ++ line) ≡ (text, []) → HasHead old new text
+last_at old now new lines line text count f few h end e = record {
   taken = (lines ++ line) ++ [];
+  most = omega (arith, f.all, ap length (append-nil (lines ++ line)));
   consumed = Consumes-append old now new (lines ++ line) [] f.consumed h;
   ends = inr (inl (end, ap head_of (append-nil (lines ++ line)) ∙ e));
 }
 
 -- the input ends, with the marker and without it
-pub at_last_marker : (old now new : Option (List ℕ)) (lines line : List ℕ) (count : ℕ) → Head old now lines line count → Consumes now new [] → IsAtEnd new → is_marker line ≡ true → HasHead old new lines
-at_last_marker old now new lines line count f h end m =
-    last_at old now new lines line lines count f h end
+pub at_last_marker : (old now new : Option (List ℕ)) (lines line : List ℕ) (count : ℕ) → Head old now lines line count → count < 65600 → Consumes now new [] → IsAtEnd new → is_marker line ≡ true → HasHead old new lines
+at_last_marker old now new lines line count f few h end m =
+    last_at old now new lines line lines count f few h end
     (f.skips line ∙ ap (λ (p : List ℕ × List ℕ). (lines ++ p.0, p.1)) (head_of-last line f.plain ∙ ap (λ b. cond b ([], []) (line, [])) m)
     ∙ ap (λ xs. (xs, [])) (append-nil lines))
 
-pub at_last_line : (old now new : Option (List ℕ)) (lines line text : List ℕ) (count : ℕ) → Head old now lines line count → Consumes now new [] → IsAtEnd new → is_marker line ≡ false → text ≡ lines ++ line → HasHead old new text
-at_last_line old now new lines line text count f h end m e =
-    last_at old now new lines line text count f h end
+pub at_last_line : (old now new : Option (List ℕ)) (lines line text : List ℕ) (count : ℕ) → Head old now lines line count → count < 65600 → Consumes now new [] → IsAtEnd new → is_marker line ≡ false → text ≡ lines ++ line → HasHead old new text
+at_last_line old now new lines line text count f few h end m e =
+    last_at old now new lines line text count f few h end
     (f.skips line ∙ ap (λ (p : List ℕ × List ℕ). (lines ++ p.0, p.1)) (head_of-last line f.plain ∙ ap (λ b. cond b ([], []) (line, [])) m)
     ∙ ap (λ xs. (xs, [])) (sym e))
 
@@ -120,9 +122,10 @@ no_script true line = refl
 no_script false line = refl
 
 -- the reader failed
-pub at_failure : (old now new : Option (List ℕ)) (lines line : List ℕ) (count : ℕ) → Head old now lines line count → Consumes now new [] → HasNoMarker old new
-at_failure old now new lines line count f h = record {
+pub at_failure : (old now new : Option (List ℕ)) (lines line : List ℕ) (count : ℕ) → Head old now lines line count → count < 65600 → Consumes now new [] → HasNoMarker old new
+at_failure old now new lines line count f few h = record {
   taken = (lines ++ line) ++ [];
+  most = omega (arith, f.all, ap length (append-nil (lines ++ line)));
   consumed = Consumes-append old now new (lines ++ line) [] f.consumed h;
   none = ap (λ xs. (head_of xs).1) (append-nil (lines ++ line)) ∙ ap (λ (p : List ℕ × List ℕ). p.1) (f.skips line)
       ∙ ap (λ (p : List ℕ × List ℕ). p.1) (head_of-last line f.plain) ∙ no_script (is_marker line) line;
@@ -176,11 +179,13 @@ head_long line tail h = elim (first_end tail) [
 ]
 
 -- 65,600 bytes without a marker
-pub at_most : (old now : Option (List ℕ)) (lines line text : List ℕ) (count : ℕ) → Head old now lines line count → 65600 ≤ count → text ≡ lines ++ line → HasHead old now text
-at_most old now lines line text count f many e = record {
+pub at_most : (old now : Option (List ℕ)) (lines line text : List ℕ) (count : ℕ) → Head old now lines line count → count ≤ 65600 → 65600 ≤ count → text ≡ lines ++ line → HasHead old now text
+at_most old now lines line text count f few many e = record {
   taken = lines ++ line;
+  most = omega (arith, f.all);
   consumed = f.consumed;
   ends = inr (inr (record {
+    at = omega (arith, f.all);
     read = omega (arith, ap length e, f.all);
     whole = λ tail.
         let text : (head_of ((lines ++ line) ++ tail)).0 ≡ lines ++ (head_of (line ++ tail)).0 =

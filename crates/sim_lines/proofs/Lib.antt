@@ -1,5 +1,6 @@
 -- Lemmas on what a reader has left and a writer holds, and on the input cut at its line ends.
 pub mod Known
+pub mod Spending
 pub mod Cuts
 pub mod Fronts
 pub mod Heads

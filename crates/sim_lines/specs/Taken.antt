@@ -1,8 +1,9 @@
 -- What reading a line takes.
-use Rattle.std.specs.Prelude.{◌≡◌, ℕ, List, [], ◌∷◌, ◌++◌, ◌<◌, length, Option, ◌⊎◌, Result, Ok, Err, Vec}
+use Rattle.std.specs.Prelude.{◌≡◌, ℕ, List, [], ◌∷◌, ◌++◌, ◌<◌, ◌≤◌, length, Option, ◌⊎◌, Result, Ok, Err, Vec}
 use Rattle.std.specs.Io.KnownBytes.{Consumes, IsAtEnd}
 use Rattle.std.specs.Str.Lines.{lines}
 use Rattle.sim_lines.specs.Cut.{whole_lines, head_of, Shows}
+use Rattle.sim_lines.specs.Waiting.{Waiting, budget, IsUsedUp}
 use Rattle.sim_lines.specs.declared.head.HeadFault.{HeadFault}
 use Rattle.sim_lines.specs.declared.head.HeadFault.TheVariants as faults
 use Rattle.sim_lines.specs.declared.lines.NextLine.{NextLine}
@@ -48,6 +49,11 @@ TakesNext old new kept End = Consumes old new [] × IsAtEnd new
 TakesNext old new kept Failed = TakesPart old new
 TakesNext old new kept NoMemory = Unit {0}
 
+-- what a line's taking does to what waits: fewer bytes can still come, and where the reader failed none waits
+abbrev pub SpendsLine : Waiting → Waiting → NextLine → Type 0
+SpendsLine old new Failed = IsUsedUp old new
+SpendsLine old new _ = budget new < budget old
+
 -- these bytes have the scenario's text and the marker line, whatever follows
 abbrev pub IsWholeHead : List ℕ → List ℕ → Type 0
 IsWholeHead taken text = (tail : List ℕ) → head_of (taken ++ tail) ≡ (text, tail)
@@ -56,20 +62,23 @@ IsWholeHead taken text = (tail : List ℕ) → head_of (taken ++ tail) ≡ (text
 abbrev pub IsLastHead : List ℕ → List ℕ → Type 0
 IsLastHead taken text = head_of taken ≡ (text, [])
 
--- the scenario's text is longer than it may be, whatever follows these bytes
+-- the scenario's text is longer than it may be, whatever follows these 65,600 bytes
 pub record IsLongHead (taken text : List ℕ) : Type 0 where
+  pub at : length taken ≡ 65600
   pub read : 65536 < length text
   pub whole : (tail : List ℕ) → 65536 < length (head_of (taken ++ tail)).0
 
--- the scenario's text was taken, or so much of it that it is too long
+-- the scenario's text was taken, or so much of it that it is too long: at most 65,600 bytes
 pub record HasHead (old new : Option (List ℕ)) (text : List ℕ) : Type 0 where
   pub taken : List ℕ
+  pub most : length taken ≤ 65600
   pub consumed : Consumes old new taken
   pub ends : IsWholeHead taken text ⊎ ((IsAtEnd new × IsLastHead taken text) ⊎ IsLongHead taken text)
 
 -- what was taken has no marker line
 pub record HasNoMarker (old new : Option (List ℕ)) : Type 0 where
   pub taken : List ℕ
+  pub most : length taken ≤ 65600
   pub consumed : Consumes old new taken
   pub none : (head_of taken).1 ≡ []
 
@@ -77,3 +86,8 @@ abbrev pub TakesHead : {A : Type 0} → Option (List ℕ) → Option (List ℕ) 
 TakesHead old new (Ok text) = HasHead old new text.items
 TakesHead old new (Err faults.Failed) = HasNoMarker old new
 TakesHead old new (Err faults.NoMemory) = Unit {0}
+
+-- where the reader failed no byte waits
+abbrev pub SpendsHead : {A : Type 0} → Waiting → Waiting → Result (Vec ℕ A) HeadFault → Type 0
+SpendsHead old new (Err faults.Failed) = IsUsedUp old new
+SpendsHead old new _ = Unit {0}

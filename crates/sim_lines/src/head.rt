@@ -3,7 +3,7 @@ ghost use Rattle.std.specs.Prelude.{◌≡◌, ◌≢◌, ℕ, List, [], ◌∷�
 ghost use Rattle.std.specs.Io.KnownBytes.{prepend_known};
 ghost use Rattle.std.specs.Str.Lines.{strip_carriage_return};
 ghost use Rattle.sim_lines.specs.Cut.{is_marker};
-ghost use Rattle.sim_lines.specs.Taken.{TakesHead};
+ghost use Rattle.sim_lines.specs.Taken.{TakesHead, SpendsHead};
 
 use crate::reading::{Ahead, Next, next_byte};
 use std::alloc::{AllocError, Global};
@@ -105,14 +105,17 @@ fn is_marker_line(line: &[u8]) -> bool
     line == b"---".as_slice()
 }
 
-/// Reads the scenario's text and the marker line after it.
+/// Reads the scenario's text and the marker line after it, or 65,600 bytes without one. What was read beyond that waits: at most
+/// 4,096 bytes.
 pub fn read_head<R: Read>(
     alloc: Global,
     reader: &mut R,
     ahead: &mut Ahead,
 ) -> Result<Vec<u8>, HeadFault>
-    ensures { TakesHead (prepend_known ahead.old (R.remaining reader.old))
-        (prepend_known ahead.new (R.remaining reader.new)) result }
+    ensures takes { TakesHead (prepend_known ahead.old.bytes (R.remaining reader.old))
+        (prepend_known ahead.new.bytes (R.remaining reader.new)) result }
+    ensures spends { SpendsHead ahead.old ahead.new result }
+    ensures few { length ahead.new.bytes ≤ 4096 }
 {
     let mut lines = Lines::new(alloc);
     for _ in 0..MOST_BYTES {

@@ -2,7 +2,7 @@
 ghost use Rattle.std.specs.Prelude.{◌≡◌, ℕ, vec_len, ◌≤◌, ◌<◌, ◌-◌};
 ghost use Rattle.std.specs.Io.KnownBytes.{prepend_known};
 ghost use Rattle.std.specs.Str.Lines.{strip_carriage_return};
-ghost use Rattle.sim_lines.specs.Taken.{TakesNext};
+ghost use Rattle.sim_lines.specs.Taken.{TakesNext, SpendsLine};
 
 use crate::reading::{Ahead, Next, next_byte};
 use std::io::Read;
@@ -36,11 +36,12 @@ fn strip(line: &mut Vec<u8>)
 
 /// Takes the next line, with its end, and keeps it, or of a longer one a front that is too long.
 pub fn next_line<R: Read>(reader: &mut R, ahead: &mut Ahead, line: &mut Vec<u8>) -> NextLine
-    ensures { TakesNext (prepend_known ahead.old (R.remaining reader.old))
-        (prepend_known ahead.new (R.remaining reader.new)) line.new.items result }
+    ensures takes { TakesNext (prepend_known ahead.old.bytes (R.remaining reader.old))
+        (prepend_known ahead.new.bytes (R.remaining reader.new)) line.new.items result }
+    ensures spends { SpendsLine ahead.old ahead.new result }
 {
     line.clear();
-    for _ in 0..u64::MAX {
+    loop {
         match next_byte(reader, ahead) {
             Next::Byte(byte) => {
                 if byte == b'\n' {
@@ -61,5 +62,4 @@ pub fn next_line<R: Read>(reader: &mut R, ahead: &mut Ahead, line: &mut Vec<u8>)
             Next::Failed => return NextLine::Failed,
         }
     }
-    NextLine::Failed
 }

@@ -1,6 +1,7 @@
 //! A buffer between a reader and what takes its bytes one by one.
-ghost use Rattle.std.specs.Prelude.{◌≡◌, ℕ, List, [], ◌∷◌, ◌≤◌, ◌<◌, ◌^◌, ◌==◌, length, slice_range, IfNone, OnOk, OnErr, option_to_list, ◌++◌};
-ghost use Rattle.sim_lines.specs.Gives.{Gives};
+ghost use Rattle.std.specs.Prelude.{◌≡◌, ℕ, ◌+◌, List, [], ◌∷◌, ◌≤◌, ◌<◌, ◌^◌, ◌==◌, length, slice_range, IfNone, OnOk, OnErr, option_to_list, ◌++◌};
+ghost use Rattle.sim_lines.specs.Gives.{Gives, Spends};
+ghost use Rattle.sim_lines.specs.Waiting.{unread, IsUsedUp};
 ghost use Rattle.std.specs.Io.KnownBytes.{prepend_known, Consumes, Keeps, IsAtEnd};
 
 use std::io::Read;
@@ -15,7 +16,7 @@ const MOST_READS: u64 = 1 << 40;
 #[derive(Debug, Drop)]
 pub struct ReaderFault;
 
-/// What was read and not yet taken.
+/// What was read and not yet taken, at most 4,096 bytes, and how many reads may still be made.
 #[derive(Drop)]
 pub struct Ahead {
     bytes: [u8; ROOM],
@@ -25,44 +26,50 @@ pub struct Ahead {
 }
 
 impl Model for Ahead {
-    ghost Value = { List ℕ };
+    ghost use Rattle.std.specs.Prelude.{◌≤◌, slice_range};
+    ghost use Rattle.sim_lines.specs.Waiting.{Waiting};
 
-    ghost view = { λ a. slice_range a.bytes a.start a.end };
+    ghost Value = { Waiting };
+
+    ghost view = { λ a. record { bytes = slice_range a.bytes a.start a.end; reads = a.reads } };
 
     ghost invariant = { λ a. (a.start ≤ a.end) × (a.end ≤ 4096) };
 }
 
 impl Ahead {
-    /// Nothing was read.
+    /// Nothing was read, and 2^40 reads may be made.
     pub fn new() -> Ahead
-        ensures { result ≡ [] }
+        ensures { result ≡ unread }
     {
         Ahead {
             bytes: [0; ROOM],
             start: 0,
             end: 0,
-            reads: 0,
+            reads: MOST_READS,
         }
     }
 
     /// Whether no byte waits, so that the next one takes a read.
     pub fn is_empty(&self) -> bool
-        ensures { result ≡ (length self.now == 0) }
+        ensures { result ≡ (length self.now.bytes == 0) }
     {
         self.start == self.end
     }
 
-    /// One read, while no byte is waiting.
+    /// One read, where one is left, while no byte is waiting.
     fn fill<R: Read>(&mut self, reader: &mut R) -> Result<(), ReaderFault>
-        requires { self.old ≡ [] }
-        ensures ok { OnOk result (Consumes (R.remaining reader.old) (R.remaining reader.new) self.new) }
-        ensures end { OnOk result (self.new ≡ [] → IsAtEnd (R.remaining reader.new)) }
-        ensures err { OnErr result (Keeps (R.remaining reader.old) (R.remaining reader.new) × (self.new ≡ [])) }
+        requires { self.old.bytes ≡ [] }
+        ensures ok { OnOk result (Consumes (R.remaining reader.old) (R.remaining reader.new) self.new.bytes) }
+        ensures end { OnOk result (self.new.bytes ≡ [] → IsAtEnd (R.remaining reader.new)) }
+        ensures counted { OnOk result (self.old.reads ≡ self.new.reads + 1) }
+        ensures err { OnErr result (Keeps (R.remaining reader.old) (R.remaining reader.new)) }
+        ensures used_up { OnErr result (IsUsedUp self.old self.new) }
+        ensures few { length self.new.bytes ≤ 4096 }
     {
-        if self.reads >= MOST_READS {
+        if self.reads == 0 {
             return Err(ReaderFault);
         }
-        self.reads += 1;
+        self.reads -= 1;
         self.start = 0;
         self.end = 0;
         match reader.read(&mut self.bytes) {
@@ -76,8 +83,10 @@ impl Ahead {
 
     /// Takes the first byte that waits.
     fn take_first(&mut self) -> Option<u8>
-        ensures front { self.old ≡ option_to_list result ++ self.new }
-        ensures none { IfNone result (self.new ≡ []) }
+        ensures front { self.old.bytes ≡ option_to_list result ++ self.new.bytes }
+        ensures none { IfNone result (self.new.bytes ≡ []) }
+        ensures reads { self.new.reads ≡ self.old.reads }
+        ensures few { length self.new.bytes ≤ 4096 }
     {
         if self.start >= self.end {
             return None;
@@ -96,10 +105,12 @@ pub enum Next {
     Failed,
 }
 
-/// The next byte.
+/// The next byte. At most 4,096 bytes wait after it.
 pub fn next_byte<R: Read>(reader: &mut R, ahead: &mut Ahead) -> Next
-    ensures { Gives (prepend_known ahead.old (R.remaining reader.old))
-        (prepend_known ahead.new (R.remaining reader.new)) result }
+    ensures gives { Gives (prepend_known ahead.old.bytes (R.remaining reader.old))
+        (prepend_known ahead.new.bytes (R.remaining reader.new)) result }
+    ensures spends { Spends ahead.old ahead.new result }
+    ensures few { length ahead.new.bytes ≤ 4096 }
 {
     if let Some(byte) = ahead.take_first() {
         return Next::Byte(byte);

@@ -1,0 +1,21 @@
+-- What was read and not yet taken, and how much may still come.
+use Rattle.std.specs.Prelude.{◌≡◌, ℕ, ◌+◌, ◌*◌, ◌^◌, ◌<◌, List, [], length, ◌⊎◌}
+
+--     bytes     what waits, in order
+--     reads     how many reads may still be made
+pub record Waiting : Type 0 where
+  pub bytes : List ℕ
+  pub reads : ℕ
+
+-- nothing was read, and 2^40 reads may be made
+abbrev pub unread : Waiting
+unread = record { bytes = []; reads = 2 ^ 40 }
+
+-- so many bytes can still be taken: those that wait, and at most 4,096 for each read
+abbrev pub budget : Waiting → ℕ
+budget w = length w.bytes + 4096 * w.reads
+
+-- no byte waits; a read was made, or none was left to be made
+pub record IsUsedUp (old new : Waiting) : Type 0 where
+  pub none : new.bytes ≡ []
+  pub reads : (new.reads ≡ 0) ⊎ (new.reads < old.reads)
