@@ -5,7 +5,7 @@ use Rattle.std.specs.Str.Lines.{lines}
 use Rattle.sim_lines.specs.Cut.{head_of}
 use Rattle.sim_scenario.specs.Scenario.{ScenarioText, Fault}
 use Rattle.sim_cli.specs.declared.status.Status.{Status}
-use Rattle.sim_cli.specs.Script.{Text}
+use Rattle.sim_script.specs.Script.{Text}
 use Rattle.sim_cli.specs.Lines.{fault_line}
 use Rattle.sim_cli.specs.Turns.{beginning}
 use Rattle.sim_cli.specs.Play.{Nodes, Tells, TellsNoWant, TellsAll, Played, Ended, out, out_of, read_scenario, names_of}
@@ -34,7 +34,7 @@ module _ (nodes_of : ScenarioText → Nodes) where
   played_plain : (given written : Text) (left : _) (ended : Status) → IsDone ended → Played nodes_of given left ended written → IsPlain nodes_of given written
   played_plain given written left ended d p = elim d [
     | inl e ↦ let q = subst (λ s. Played nodes_of given left s written) e p in plain_of given written q.2
-    | inr e ↦ let q = subst (λ s. Played nodes_of given left s written) e p in plain_of given written q.1
+    | inr e ↦ let q = subst (λ s. Played nodes_of given left s written) e p in plain_of given written q.2
   ]
 
   -- what was played was written plainly

@@ -14,7 +14,7 @@ use Rattle.sim_scenario.specs.declared.fault.ScenarioFault.{ScenarioFault}
 use Rattle.sim_scenario.specs.declared.fault.ScenarioFault.TheVariants as reader
 use Rattle.sim_cli.specs.declared.scenario.WasRead.{WasRead}
 use Rattle.sim_cli.specs.declared.scenario.WasRead.TheVariants as was
-use Rattle.sim_cli.specs.Script.{Text}
+use Rattle.sim_script.specs.Script.{Text}
 use Rattle.sim_cli.specs.Play.{read_scenario}
 use Rattle.sim_cli.specs.Opens.{Reads, TellsFault}
 

@@ -1,27 +1,31 @@
 -- The lines of a script that were answered so far.
-use Rattle.std.proofs.Common.{◌≡◌, ℕ, ◌+◌, ◌<◌, ◌≤◌, List, [], ◌∷◌, ◌++◌, refl, sym, ◌∙◌, ap, subst, append_assoc, append-nil, arith, cond, Bool, true, false, inl, inr, Option, Some, None}
+use Rattle.std.proofs.Common.{◌≡◌, ℕ, ◌+◌, ◌<◌, ◌≤◌, List, [], ◌∷◌, ◌++◌, refl, sym, ◌∙◌, ap, subst, append_assoc, append-nil, arith, cond, Bool, true, false, inl, inr, Option, Some, None, Result, Ok, Err}
 use Rattle.std.specs.Prelude.{nat_lt}
 use Rattle.std.proofs.lemmas.Bool.Decides.{nat_tests}
 use Rattle.std.specs.List.{concat, AllByRecursion}
-use Rattle.std.specs.Io.KnownBytes.{Consumes, IsAtEnd}
+use Rattle.std.specs.Io.KnownBytes.{Consumes, IsAtEnd, prepend_known}
 use Rattle.std.specs.Str.Lines.{lines}
 use Rattle.sim_lines.specs.Cut.{whole_lines}
 use Rattle.sim_lines.specs.Left.{Passes, PassesSome}
 use Rattle.sim_lines.specs.Taken.{TakesLine, TakesLast, TakesPart}
-use Rattle.sim_lines.proofs.Known.{Consumes-append, Consumes-none}
+use Rattle.sim_lines.specs.Waiting.{Waiting}
+use Rattle.sim_lines.proofs.Known.{Consumes-append, Consumes-none, prepend-none}
 use Rattle.sim_lines.proofs.Passing.{Passes-none, Passes-append, PassesSome-append}
 use Rattle.sim_world.specs.Events.{Rules}
-use Rattle.sim_cli.specs.declared.command.Command.{Command}
-use Rattle.sim_cli.specs.declared.reply.Turn.{Turn}
-use Rattle.sim_cli.specs.declared.reply.Turn.TheVariants as turns
-use Rattle.sim_cli.specs.declared.script.ScriptLine.{ScriptLine}
-use Rattle.sim_cli.specs.declared.script.ScriptLine.TheVariants.{Nothing, Bad, Asked}
+use Rattle.sim_book.specs.declared.Command.{Command}
+use Rattle.sim_book.specs.declared.Entry.{Entry}
+use Rattle.sim_book.specs.declared.NotTaken.{NotTaken}
+use Rattle.sim_book.specs.declared.NotTaken.TheVariants.{HistoryFull, NoMemory}
+use Rattle.sim_book.specs.Answer.{answer, after}
+use Rattle.sim_book.specs.Book.{branch_of}
+use Rattle.sim_replies.specs.Lines.{line, reply_words, turn_line}
+use Rattle.sim_script.specs.declared.script.ScriptLine.{ScriptLine}
+use Rattle.sim_script.specs.declared.script.ScriptLine.TheVariants.{Nothing, Bad, Asked}
+use Rattle.sim_script.specs.Script.{Text, Names, script_line}
 use Rattle.sim_cli.specs.declared.status.Status.{Status}
 use Rattle.sim_cli.specs.declared.status.Status.TheVariants.{Well, ReaderFailed, WriterFailed, MemoryWanted}
-use Rattle.sim_cli.specs.Script.{Text, Names, script_line}
-use Rattle.sim_cli.specs.Answer.{answer, after}
-use Rattle.sim_cli.specs.Turns.{Course, IsTurn, plain_turn, plain_after}
-use Rattle.sim_cli.specs.Play.{Gives, Run, Tells, TellsLines, Begins, Plays, Ended, TellsNoWant, out_from, plain_text, plain_next, turn_line}
+use Rattle.sim_cli.specs.Turns.{Course, Takes, course_after}
+use Rattle.sim_cli.specs.Play.{Gives, Run, Tells, TellsLines, TellsTo, Begins, Plays, Ended, TellsNoWant, out_from, end_from, plain_text, plain_next, answer_line, full_line}
 use Rattle.sim_cli.specs.Answers.{GivesAll, GivesPart, Finishes}
 use Rattle.sim_cli.proofs.Shown.{shown_asks}
 
@@ -52,9 +56,9 @@ known script taken (Some rest) h = (rest, refl, h)
 pub at_end_of : (new : Option Text) (rest : Text) → new ≡ Some rest → IsAtEnd new → rest ≡ []
 at_end_of new rest e h = rw e at h
 
-same_course : (old : Course) (new : Course) → old.book ≡ new.book → old.taken ≡ new.taken → old ≡ new
+same_course : (old : Course) (new : Course) → old.branches ≡ new.branches → old.taken ≡ new.taken → old ≡ new
 same_course old new b t =
-    let one : old ≡ record { book = new.book; taken = old.taken } = ap (λ x. record old { book = x }) b in
+    let one : old ≡ record { branches = new.branches; taken = old.taken } = ap (λ x. record old { branches = x }) b in
     one ∙ ap (λ (n : ℕ). record new { taken = n }) t
 
 -- all was handed over, and then what waited was written
@@ -88,19 +92,20 @@ module _ {State Msg : Type 0} (r : Rules State Msg) (names : Names) where
   Run-join old mid new (l ∷ ls) (t ∷ ts) ks us h k = (h.0, h.1, Run-join h.0 mid new ls ts ks us h.2 k)
 
   -- there is always a text: the plain one
-  turn_by : (b : Bool) (old : Course) (command : Command) → (b ≡ true → old.taken < 65536) → (b ≡ false → 65536 ≤ old.taken) →
-      IsTurn r old command (cond b (turns.Taken (answer r old.book command)) turns.HistoryFull)
-      (cond {A = Course} b (record { book = after r old.book command; taken = old.taken + 1 }) old)
-  turn_by true old command h k = (h refl, refl, inl (refl, refl))
-  turn_by false old command h k = (k refl, refl)
+  plain_entry : Course → Command → Entry
+  plain_entry old command = record { session = 0; number = 0; command = command; reply = answer r old.branches command }
 
-  plain_turn_is : (old : Course) (command : Command) → IsTurn r old command (plain_turn r old command) (plain_after r old command)
-  plain_turn_is old command = turn_by (nat_lt old.taken 65536) old command (is_below old.taken) (at_least old.taken)
+  asked_by : (b : Bool) (old : Course) (command : Command) → (b ≡ true → old.taken < 65536) → (b ≡ false → 65536 ≤ old.taken) →
+      Gives r names old (Asked command) (cond b (answer_line r names old.branches command) full_line)
+      (cond {A = Course} b (record { branches = after r old.branches command; taken = old.taken + 1 }) old)
+  unfolding plain_entry
+  asked_by true old command h k = (Ok (plain_entry old command), (h refl, refl, refl, refl, inl (refl, refl)), refl)
+  asked_by false old command h k = (Err HistoryFull, (k refl, refl), refl)
 
   plain_gives : (old : Course) (line : ScriptLine) → Gives r names old line (plain_text r names old line) (plain_next r names old line)
   plain_gives old Nothing = (refl, refl)
   plain_gives old Bad = (refl, refl)
-  plain_gives old (Asked command) = (plain_turn r old command, plain_turn_is old command, refl)
+  plain_gives old (Asked command) = asked_by (nat_lt old.taken 65536) old command (is_below old.taken) (at_least old.taken)
 
   pub record Rest (old : Course) (ls : List Text) : Type 0 where
     pub texts : List Text
@@ -117,24 +122,25 @@ module _ {State Msg : Type 0} (r : Rules State Msg) (names : Names) where
         run = (plain_next r names old (script_line names l), plain_gives old (script_line names l), rest.run);
       }
 
-  asked_only : (old new : Course) (command : Command) (turn : Turn) (text : Text) → IsTurn r old command turn new → text ≡ turn_line r names turn → TellsNoWant text →
-      (text ≡ turn_line r names (plain_turn r old command)) × (new ≡ plain_after r old command)
-  asked_only old new command (turns.Taken reply) text t e n =
+  asked_only : (old new : Course) (command : Command) (turn : Result Entry NotTaken) (text : Text) → Takes r old command turn new → text ≡ turn_line names turn → TellsNoWant text →
+      (text ≡ plain_text r names old (Asked command)) × (new ≡ course_after r old command)
+  asked_only old new command (Ok e) text t w n =
       let few = below old.taken t.0 in
-      elim t.2 [
+      let told : text ≡ line (reply_words names (branch_of command) e.reply) = w ∙ ap (λ c. line (reply_words names (branch_of c) e.reply)) t.3 in
+      elim t.4 [
         | inl a ↦ (
-          e ∙ ap (λ x. turn_line r names (turns.Taken x)) a.0 ∙ ap (λ b. turn_line r names (cond b (turns.Taken (answer r old.book command)) turns.HistoryFull)) (sym few),
-          same_course new (record { book = after r old.book command; taken = old.taken + 1 }) a.1 t.1
-              ∙ ap (λ b. cond {A = Course} b (record { book = after r old.book command; taken = old.taken + 1 }) old) (sym few),
+          told ∙ ap (λ x. line (reply_words names (branch_of command) x)) a.0 ∙ ap (λ b. cond b (answer_line r names old.branches command) full_line) (sym few),
+          same_course new (record { branches = after r old.branches command; taken = old.taken + 1 }) a.1 t.1
+              ∙ ap (λ b. cond {A = Course} b (record { branches = after r old.branches command; taken = old.taken + 1 }) old) (sym few),
         )
-        | inr a ↦ absurd (n.0 (e ∙ ap (λ x. turn_line r names (turns.Taken x)) a.1))
+        | inr a ↦ absurd (n.0 (told ∙ ap (λ x. line (reply_words names (branch_of command) x)) a.2))
       ]
-  asked_only old new command turns.HistoryFull text t e n =
+  asked_only old new command (Err HistoryFull) text t w n =
       let many = not_below old.taken t.0 in (
-        e ∙ ap (λ b. turn_line r names (cond b (turns.Taken (answer r old.book command)) turns.HistoryFull)) (sym many),
-        t.1 ∙ ap (λ b. cond {A = Course} b (record { book = after r old.book command; taken = old.taken + 1 }) old) (sym many),
+        w ∙ ap (λ b. cond b (answer_line r names old.branches command) full_line) (sym many),
+        t.1 ∙ ap (λ b. cond {A = Course} b (record { branches = after r old.branches command; taken = old.taken + 1 }) old) (sym many),
       )
-  asked_only old new command turns.NoMemory text t e n = absurd (n.1 e)
+  asked_only old new command (Err NoMemory) text t w n = absurd (n.1 w)
 
   -- a text that doesn't tell of memory is the plain one
   plain_only : (old new : Course) (line : ScriptLine) (text : Text) → Gives r names old line text new → TellsNoWant text →
@@ -143,20 +149,33 @@ module _ {State Msg : Type 0} (r : Rules State Msg) (names : Names) where
   plain_only old new Bad text g n = g
   plain_only old new (Asked command) text g n = asked_only old new command g.0 text g.1 g.2 n
 
-  plain_run : (old new : Course) (ls ts : List Text) → Run r names old ls ts new → AllByRecursion TellsNoWant ts → concat ts ≡ out_from r names old ls
-  plain_run old new [] [] h n = refl
+  plain_run : (old new : Course) (ls ts : List Text) → Run r names old ls ts new → AllByRecursion TellsNoWant ts →
+      (concat ts ≡ out_from r names old ls) × (new ≡ end_from r names old ls)
+  plain_run old new [] [] h n = (refl, h)
   plain_run old new [] (t ∷ ts) h n = absurd h
   plain_run old new (l ∷ ls) [] h n = absurd h
   plain_run old new (l ∷ ls) (t ∷ ts) h n =
       let first = plain_only old h.0 (script_line names l) t h.1 n.0 in
-      ap (λ xs. xs ++ concat ts) first.0
-      ∙ ap (λ xs. plain_text r names old (script_line names l) ++ xs) (plain_run h.0 new ls ts h.2 n.1 ∙ ap (λ x. out_from r names x ls) first.1)
+      let rest = plain_run h.0 new ls ts h.2 n.1 in (
+        ap (λ xs. xs ++ concat ts) first.0
+            ∙ ap (λ xs. plain_text r names old (script_line names l) ++ xs) (rest.0 ∙ ap (λ x. out_from r names x ls) first.1),
+        rest.1 ∙ ap (λ x. end_from r names x ls) first.1,
+      )
 
   pub tells : (old new : Course) (ls ts : List Text) (written : Text) → Run r names old ls ts new → written ≡ concat ts → Tells r names old ls ts written
-  tells old new ls ts written h e = record { last = new; run = h; all = e; plain = λ n. e ∙ plain_run old new ls ts h n }
+  tells old new ls ts written h e = record {
+    last = new;
+    run = h;
+    all = e;
+    plain = λ n. let p = plain_run old new ls ts h n in (e ∙ p.0, p.1);
+  }
 
   pub tells_lines : (old new : Course) (ls ts : List Text) (written : Text) → Run r names old ls ts new → written ≡ concat ts → TellsLines r names old ls written
   tells_lines old new ls ts written h e = record { texts = ts; tells = tells old new ls ts written h e }
+
+  pub tells_to : (old new : Course) (ls ts : List Text) (written : Text) → Run r names old ls ts new → written ≡ concat ts → TellsTo r names old ls new written
+  unfolding tells
+  tells_to old new ls ts written h e = (record { texts = ts; tells = tells old new ls ts written h e }, refl)
 
   -- the lines so far were answered, and the last of the texts wait
   pub record So (old now held holds : Option Text) (waiting : Text) (course here : Course) : Type 0 where
@@ -238,42 +257,53 @@ module _ {State Msg : Type 0} (r : Rules State Msg) (names : Names) where
       begins course here (lines script) f.done (lines k.0) f.texts (ap lines k.2 ∙ f.all k.0) f.run
 
   -- there is no memory, and what waited was written
-  pub at_want : (script : Text) (now left held holds held' : Option Text) (waiting : Text) (course here : Course) (ended : Status) →
-      So (Some script) now held holds waiting course here → Finishes holds held' waiting MemoryWanted ended → Ended held held' (Plays r names course script left ended)
-  at_want script now left held holds held' waiting course here ended f w =
+  pub at_want : (script : Text) (ahead : Waiting) (now left held holds held' : Option Text) (waiting : Text) (course here new : Course) (ended : Status) →
+      So (Some script) now held holds waiting course here → Finishes holds held' waiting MemoryWanted ended → Ended held held' (Plays r names course script new ahead left ended)
+  at_want script ahead now left held holds held' waiting course here new ended f w =
       let b = begins_so script now held holds waiting course here f in
-      finished (λ e text. Plays r names course script left e text) MemoryWanted ended held holds held' waiting (concat f.texts) f.passed w b
+      finished (λ e text. Plays r names course script new ahead left e text) MemoryWanted ended held holds held' waiting (concat f.texts) f.passed w b
       (λ part more e. begins_part course (lines script) (concat f.texts) part more b e)
 
   -- the writer failed before more was handed over
-  pub at_stop : (script : Text) (now left held holds held' : Option Text) (waiting : Text) (course here : Course) →
-      So (Some script) now held holds waiting course here → PassesSome holds held' waiting [] → Ended held held' (Plays r names course script left WriterFailed)
-  at_stop script now left held holds held' waiting course here f p =
-      at_want script now left held holds held' waiting course here WriterFailed f (inr (refl, p))
+  pub at_stop : (script : Text) (ahead : Waiting) (now left held holds held' : Option Text) (waiting : Text) (course here new : Course) →
+      So (Some script) now held holds waiting course here → PassesSome holds held' waiting [] → Ended held held' (Plays r names course script new ahead left WriterFailed)
+  at_stop script ahead now left held holds held' waiting course here new f p =
+      at_want script ahead now left held holds held' waiting course here new WriterFailed f (inr (refl, p))
 
   -- the input ends after a line end
-  pub at_end : (script : Text) (now new held holds held' : Option Text) (waiting : Text) (course here : Course) (ended : Status) →
-      So (Some script) now held holds waiting course here → Consumes now new [] → IsAtEnd new → Finishes holds held' waiting Well ended →
-      Ended held held' (Plays r names course script new ended)
-  at_end script now new held holds held' waiting course here ended f c end w =
+  pub at_end : (script : Text) (ahead : Waiting) (now left held holds held' : Option Text) (waiting : Text) (course here : Course) (ended : Status) →
+      So (Some script) now held holds waiting course here → Consumes now (prepend_known ahead.bytes left) [] → IsAtEnd (prepend_known ahead.bytes left) →
+      Finishes holds held' waiting Well ended → Ended held held' (Plays r names course script here ahead left ended)
+  at_end script ahead now left held holds held' waiting course here ended f c end w =
+      let new = prepend_known ahead.bytes left in
       let k = known script (f.taken ++ []) new (Consumes-append (Some script) now new f.taken [] f.consumed c) in
       let whole : script ≡ f.taken ++ [] = k.2 ∙ ap (λ xs. (f.taken ++ []) ++ xs) (at_end_of new k.0 k.1 end) ∙ append-nil (f.taken ++ []) in
       let all : lines script ≡ f.done = ap lines whole ∙ f.all [] ∙ append-nil f.done in
       let b = begins_so script now held holds waiting course here f in
-      finished (λ e text. Plays r names course script new e text) Well ended held holds held' waiting (concat f.texts) f.passed w
-      (end, rw all (tells_lines course here f.done f.texts (concat f.texts) f.run refl))
+      finished (λ e text. Plays r names course script here ahead left e text) Well ended held holds held' waiting (concat f.texts) f.passed w
+      (end, rw all (tells_to course here f.done f.texts (concat f.texts) f.run refl))
       (λ part more e. begins_part course (lines script) (concat f.texts) part more b e)
 
-  -- the reader fails
-  pub at_failure : (script : Text) (now new left held holds held' : Option Text) (waiting : Text) (course here : Course) (ended : Status) →
-      So (Some script) now held holds waiting course here → TakesPart now new → Finishes holds held' waiting ReaderFailed ended →
-      Ended held held' (Plays r names course script left ended)
-  at_failure script now new left held holds held' waiting course here ended f t w =
+  -- the reader fails, where all that it gave was taken
+  pub at_failure : (script : Text) (ahead : Waiting) (now left held holds held' : Option Text) (waiting : Text) (course here : Course) (ended : Status) →
+      So (Some script) now held holds waiting course here → TakesPart now (prepend_known ahead.bytes left) → ahead.bytes ≡ [] → Finishes holds held' waiting ReaderFailed ended →
+      Ended held held' (Plays r names course script here ahead left ended)
+  at_failure script ahead now left held holds held' waiting course here ended f t none w =
+      let new = prepend_known ahead.bytes left in
       let k = known script (f.taken ++ t.taken) new (Consumes-append (Some script) now new f.taken t.taken f.consumed t.consumed) in
       let whole : whole_lines (f.taken ++ t.taken) ≡ f.done = f.whole t.taken ∙ ap (λ ls. f.done ++ ls) t.whole ∙ append-nil f.done in
+      let stays : left ≡ Some k.0 = sym (prepend-none left) ∙ ap (λ xs. prepend_known xs left) (sym none) ∙ k.1 in
       let b = begins_so script now held holds waiting course here f in
-      finished (λ e text. Plays r names course script left e text) ReaderFailed ended held holds held' waiting (concat f.texts) f.passed w
-      (record { read = f.taken ++ t.taken; rest = k.0; front = k.2; tells = rw whole (tells_lines course here f.done f.texts (concat f.texts) f.run refl) })
+      finished (λ e text. Plays r names course script here ahead left e text) ReaderFailed ended held holds held' waiting (concat f.texts) f.passed w (
+        none,
+        record {
+          read = f.taken ++ t.taken;
+          rest = k.0;
+          front = k.2;
+          is_left = stays;
+          tells = rw whole (tells_to course here f.done f.texts (concat f.texts) f.run refl);
+        },
+      )
       (λ part more e. begins_part course (lines script) (concat f.texts) part more b e)
 
   -- the last line has no line end
@@ -285,17 +315,18 @@ module _ {State Msg : Type 0} (r : Rules State Msg) (names : Names) where
       ap lines whole ∙ f.all t.taken ∙ ap (λ ls. f.done ++ ls) t.ends.all
 
   -- it was answered, and what waited was written
-  pub at_last : (script : Text) (now new held holds mid held' : Option Text) (waiting left : Text) (course here next : Course) (kept : Text) (ended : Status) →
-      So (Some script) now held holds waiting course here → TakesLast now new kept → GivesAll r names here next (script_line names kept) holds mid waiting left →
-      Finishes mid held' left Well ended → Ended held held' (Plays r names course script new ended)
-  at_last script now new held holds mid held' waiting left course here next kept ended f t g w =
-      let all = last_all script now new held holds waiting course here kept f t in
+  pub at_last : (script : Text) (ahead : Waiting) (now left held holds mid held' : Option Text) (waiting rest : Text) (course here next : Course) (kept : Text) (ended : Status) →
+      So (Some script) now held holds waiting course here → TakesLast now (prepend_known ahead.bytes left) kept →
+      GivesAll r names here next (script_line names kept) holds mid waiting rest →
+      Finishes mid held' rest Well ended → Ended held held' (Plays r names course script next ahead left ended)
+  at_last script ahead now left held holds mid held' waiting rest course here next kept ended f t g w =
+      let all = last_all script now (prepend_known ahead.bytes left) held holds waiting course here kept f t in
       let run = Run-append course here next f.done f.texts t.line g.text f.run (rw (shown_asks names kept t.line t.shown) at g.gives) in
       let texts = f.texts ++ g.text ∷ [] in
-      let passed : Passes held mid [] (concat texts) left = rw (concat-one f.texts g.text) (Passes-append held holds mid [] (concat f.texts) waiting g.text left f.passed g.passes) in
+      let passed : Passes held mid [] (concat texts) rest = rw (concat-one f.texts g.text) (Passes-append held holds mid [] (concat f.texts) waiting g.text rest f.passed g.passes) in
       let b = begins course next (lines script) (f.done ++ t.line ∷ []) [] texts (all ∙ sym (append-nil (f.done ++ t.line ∷ []))) run in
-      finished (λ e text. Plays r names course script new e text) Well ended held mid held' left (concat texts) passed w
-      (t.end, rw all (tells_lines course next (f.done ++ t.line ∷ []) texts (concat texts) run refl))
+      finished (λ e text. Plays r names course script next ahead left e text) Well ended held mid held' rest (concat texts) passed w
+      (t.end, rw all (tells_to course next (f.done ++ t.line ∷ []) texts (concat texts) run refl))
       (λ part more e. begins_part course (lines script) (concat texts) part more b e)
 
   -- the writer failed in the answer to a line
@@ -328,7 +359,3 @@ module _ {State Msg : Type 0} (r : Rules State Msg) (names : Names) where
       let all = last_all script now new held holds waiting course here kept f t in
       let run = Run-append course here g.new f.done f.texts t.line g.text f.run (rw (shown_asks names kept t.line t.shown) at g.gives) in
       part_begins course g.new (lines script) f.done [] f.texts t.line g.text held holds held' waiting (all ∙ sym (append-nil (f.done ++ t.line ∷ []))) run f.passed g.passes
-
--- nothing more was taken
-pub no_part : (now : Option Text) → TakesPart now now
-no_part now = record { taken = []; consumed = Consumes-none now; whole = refl }

@@ -3,8 +3,8 @@ use Rattle.std.proofs.Common.{◌≡◌, ℕ, ◌<◌, List, [], ◌∷◌, leng
 use Rattle.std.specs.Prelude.{◌==◌, slice_index, nat_lt}
 use Rattle.std.proofs.lemmas.Bool.Decides.{nat_tests}
 use Rattle.sim_lines.specs.Cut.{Shows}
-use Rattle.sim_cli.specs.declared.script.ScriptLine.TheVariants.{Nothing, Bad}
-use Rattle.sim_cli.specs.Script.{Names, script_line, is_comment, asked, command_of, words}
+use Rattle.sim_script.specs.declared.script.ScriptLine.TheVariants.{Nothing, Bad}
+use Rattle.sim_script.specs.Script.{Names, script_line, is_comment, asked, command_of, words}
 
 long : (names : Names) (line : List ℕ) → 256 < length line → script_line names line ≡ cond (is_comment line) Nothing Bad
 unfolding script_line

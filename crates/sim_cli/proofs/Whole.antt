@@ -1,21 +1,22 @@
 -- A whole play: the scenario's text, and then the script.
-use Rattle.std.proofs.Common.{◌≡◌, ◌<◌, List, [], ◌∷◌, ◌++◌, length, refl, sym, ◌∙◌, ap, append_assoc, append-nil, inl, inr, ◌⊎◌, Option, Some, None, Result, Ok, Err, MatchResult, IsOk, IsErr}
+use Rattle.std.proofs.Common.{◌≡◌, ◌<◌, ◌≤◌, List, [], ◌∷◌, ◌++◌, length, refl, sym, ◌∙◌, ap, append_assoc, append-nil, inl, inr, ◌⊎◌, Option, Some, None, Result, Ok, Err, MatchResult, IsOk, IsErr}
 use Rattle.std.specs.Io.KnownBytes.{IsAtEnd, Appends, Keeps, prepend_known}
 use Rattle.std.specs.Str.Lines.{lines}
 use Rattle.sim_lines.specs.Cut.{head_of, whole_lines}
 use Rattle.sim_lines.specs.Left.{AppendsPart}
 use Rattle.sim_lines.specs.Taken.{HasHead, HasNoMarker}
-use Rattle.sim_lines.proofs.Known.{Appends-none, Appends-append}
+use Rattle.sim_lines.specs.Waiting.{Waiting}
+use Rattle.sim_lines.proofs.Known.{Appends-none, Appends-append, prepend-none}
 use Rattle.sim_lines.proofs.Passing.{Keeps-Appends}
 use Rattle.sim_world.specs.Events.{Rules}
 use Rattle.sim_scenario.specs.Scenario.{ScenarioText, Fault, read}
 use Rattle.sim_cli.specs.declared.status.Answered.TheVariants as ends
 use Rattle.sim_cli.specs.declared.status.Status.{Status}
 use Rattle.sim_cli.specs.declared.status.Status.TheVariants.{Well, BadScenario, BadRequest, ReaderFailed, WriterFailed, MemoryWanted}
-use Rattle.sim_cli.specs.Script.{Text, Names}
+use Rattle.sim_script.specs.Script.{Text, Names}
 use Rattle.sim_cli.specs.Lines.{fault_line}
 use Rattle.sim_cli.specs.Turns.{Course, beginning}
-use Rattle.sim_cli.specs.Play.{Nodes, Tells, TellsLines, Ended, Plays, Played, TellsAll, TellsWhole, out_of, read_scenario, names_of}
+use Rattle.sim_cli.specs.Play.{Nodes, Tells, TellsLines, TellsTo, Ended, Plays, PlaysOn, Played, ReadsHead, TellsAll, TellsWhole, out_of, read_scenario, names_of}
 use Rattle.sim_cli.specs.Answers.{Writes, Faults}
 use Rattle.sim_cli.proofs.Readings.{too_long}
 use Rattle.sim_cli.proofs.Runs.{known, at_end_of, rest_of, tells_lines}
@@ -114,7 +115,7 @@ module _ (nodes_of : ScenarioText → Nodes) where
     texts = t.texts;
     tells = matches_ok (read_scenario (head_of given).0) scenario
         (λ s. Tells (nodes_of s).rules (names_of nodes_of s) beginning (lines (head_of given).1) t.texts written) (λ f. written ≡ fault_line f) e t.tells;
-    plain = λ n. t.tells.plain n ∙ ap (λ s. out_of nodes_of s (lines (head_of given).1)) (sym e);
+    plain = λ n. (t.tells.plain n).0 ∙ ap (λ s. out_of nodes_of s (lines (head_of given).1)) (sym e);
   }
 
   -- so is the line of a fault
@@ -131,13 +132,20 @@ module _ (nodes_of : ScenarioText → Nodes) where
   no_lines (Err fault) ls e = refl
 
   -- the reader failed before there was a scenario
-  pub fails_in_head : (given : Text) (new left held : Option Text) → HasNoMarker (Some given) new → Ended held held (Played nodes_of given left ReaderFailed)
-  fails_in_head given new left held h =
-      let k = known given h.taken new h.consumed in
+  pub fails_in_head : (given ahead : Text) (left held : Option Text) → HasNoMarker (Some given) (prepend_known ahead left) → ahead ≡ [] →
+      Ended held held (Played nodes_of given left ReaderFailed)
+  fails_in_head given ahead left held h none =
+      let k = known given h.taken (prepend_known ahead left) h.consumed in
       record {
         written = [];
         appended = Appends-none held;
-        is = record { read = h.taken; rest = k.0; front = k.2; tells = no_lines (read_scenario (head_of h.taken).0) (whole_lines (head_of h.taken).1) (ap whole_lines h.none) };
+        is = record {
+          read = h.taken;
+          rest = k.0;
+          front = k.2;
+          is_left = sym (prepend-none left) ∙ ap (λ xs. prepend_known xs left) (sym none) ∙ k.1;
+          tells = no_lines (read_scenario (head_of h.taken).0) (whole_lines (head_of h.taken).1) (ap whole_lines h.none);
+        };
       }
 
   some_text : (given : Text) (s : Result ScenarioText Fault) → read_scenario (head_of given).0 ≡ s → (text : Text) × TellsAll nodes_of given text
@@ -153,12 +161,12 @@ module _ (nodes_of : ScenarioText → Nodes) where
       record { written = []; appended = a; is = record { more = t.0; tells = t.1 } }
 
   -- a bad scenario
-  pub told_fault : (given : Text) (left held holds : Option Text) (line : Text) (f : Faults (head_of given).0 line) → Writes held holds line ends.Well →
+  pub told_fault : (given : Text) (left held holds : Option Text) (line : Text) (f : Faults (head_of given).0 line) → ReadsHead given left → Writes held holds line ends.Well →
       Ended held holds (Played nodes_of given left BadScenario)
-  told_fault given left held holds line f a = record {
+  told_fault given left held holds line f h a = record {
     written = line;
     appended = a;
-    is = (is_err_of (read_scenario (head_of given).0) f.fault f.read, fault_tells given line f.fault f.read f.told);
+    is = (is_err_of (read_scenario (head_of given).0) f.fault f.read, h, fault_tells given line f.fault f.read f.told);
   }
 
   pub told_part : (given : Text) (left held holds : Option Text) (line : Text) (f : Faults (head_of given).0 line) → Writes held holds line ends.WriterFailed →
@@ -188,32 +196,33 @@ module _ (nodes_of : ScenarioText → Nodes) where
         (ap (λ (p : Text × Text). read_scenario p.0) cut ∙ e) (rw script t)
 
     -- what was played of the script was played of what was given
-    play_of : (ahead : Text) (left : Option Text) (status : Status) (written : Text) →
-        Plays (nodes_of scenario).rules (names_of nodes_of scenario) beginning h.script (prepend_known ahead left) status written → Played nodes_of given left status written
-    play_of ahead left Well written p = (is_ok_of (read_scenario (head_of given).0) scenario the_scenario, nothing_left ahead left p.0, all_told written p.1)
-    play_of ahead left BadScenario written p = absurd p
-    play_of ahead left BadRequest written p = absurd p
-    play_of ahead left ReaderFailed written p = record {
-      read = h.taken ++ p.read;
-      rest = p.rest;
-      front = h.front ∙ ap (λ xs. h.taken ++ xs) p.front ∙ sym (append_assoc h.taken p.read p.rest);
-      tells = some_told p.read p.rest written p.front p.tells;
+    play_of : (ahead : Waiting) (left : Option Text) (last : Course) (status : Status) (written : Text) →
+        Plays (nodes_of scenario).rules (names_of nodes_of scenario) beginning h.script last ahead left status written → Played nodes_of given left status written
+    play_of ahead left last Well written p = (is_ok_of (read_scenario (head_of given).0) scenario the_scenario, nothing_left ahead.bytes left p.0, all_told written p.1.0)
+    play_of ahead left last BadScenario written p = absurd p
+    play_of ahead left last BadRequest written p = absurd p
+    play_of ahead left last ReaderFailed written p = record {
+      read = h.taken ++ p.1.read;
+      rest = p.1.rest;
+      front = h.front ∙ ap (λ xs. h.taken ++ xs) p.1.front ∙ sym (append_assoc h.taken p.1.read p.1.rest);
+      is_left = p.1.is_left;
+      tells = some_told p.1.read p.1.rest written p.1.front p.1.tells.0;
     }
-    play_of ahead left WriterFailed written p = record { more = p.more; tells = all_told (written ++ p.more) p.tells }
-    play_of ahead left MemoryWanted written p = record { more = p.more; tells = all_told (written ++ p.more) p.tells }
+    play_of ahead left last WriterFailed written p = record { more = p.more; tells = all_told (written ++ p.more) p.tells }
+    play_of ahead left last MemoryWanted written p = record { more = p.more; tells = all_told (written ++ p.more) p.tells }
 
-    pub play_all : (ahead : Text) (left held holds : Option Text) (status : Status) →
-        Ended held holds (Plays (nodes_of scenario).rules (names_of nodes_of scenario) beginning h.script (prepend_known ahead left) status) → Ended held holds (Played nodes_of given left status)
-    play_all ahead left held holds status p = record { written = p.written; appended = p.appended; is = play_of ahead left status p.written p.is }
+    pub play_all : (ahead : Waiting) (left held holds : Option Text) (status : Status) →
+        Ended held holds (PlaysOn (nodes_of scenario).rules (names_of nodes_of scenario) beginning h.script ahead left status) → Ended held holds (Played nodes_of given left status)
+    play_all ahead left held holds status p = record { written = p.written; appended = p.appended; is = play_of ahead left p.is.0 status p.written p.is.1 }
 
 -- memory was wanted before a line was answered
-pub wants_script : {State Msg : Type 0} (r : Rules State Msg) (names : Names) (old : Course) (script : Text) (left held holds : Option Text) → Appends held holds [] → Ended held holds (Plays r names old script left MemoryWanted)
-wants_script r names old script left held holds a =
+pub wants_script : {State Msg : Type 0} (r : Rules State Msg) (names : Names) (old : Course) (script : Text) (ahead : Waiting) (left held holds : Option Text) → Appends held holds [] → Ended held holds (PlaysOn r names old script ahead left MemoryWanted)
+wants_script r names old script ahead left held holds a =
     let rest = rest_of r names old (lines script) in
-    record { written = []; appended = a; is = record { more = _; tells = tells_lines r names old rest.last (lines script) rest.texts _ rest.run refl } }
+    record { written = []; appended = a; is = (old, record { more = _; tells = tells_lines r names old rest.last (lines script) rest.texts _ rest.run refl }) }
 
--- a session that begins as the scenario says
-pub play_begun : {State Msg : Type 0} (r rules : Rules State Msg) (n names : Names) (course : Course) (script : Text) (left held holds : Option Text) (status : Status) →
-    rules ≡ r → names ≡ n → course ≡ beginning → Ended held holds (Plays rules names course script left status) → Ended held holds (Plays r n beginning script left status)
-play_begun r rules n names course script left held holds status a b c p =
-    record { written = p.written; appended = p.appended; is = rw (a, b, c) at p.is }
+-- a book that opens as the scenario says
+pub play_begun : {State Msg : Type 0} (r rules : Rules State Msg) (n names : Names) (course last : Course) (script : Text) (ahead : Waiting) (left held holds : Option Text) (status : Status) →
+    rules ≡ r → names ≡ n → course ≡ beginning → Ended held holds (Plays rules names course script last ahead left status) → Ended held holds (PlaysOn r n beginning script ahead left status)
+play_begun r rules n names course last script ahead left held holds status a b c p =
+    record { written = p.written; appended = p.appended; is = (last, rw (a, b, c) at p.is) }

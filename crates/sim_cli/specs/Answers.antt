@@ -4,12 +4,12 @@ use Rattle.std.specs.Io.KnownBytes.{Appends}
 use Rattle.sim_lines.specs.Left.{AppendsPart, Passes, PassesSome}
 use Rattle.sim_world.specs.Events.{Rules}
 use Rattle.sim_scenario.specs.Scenario.{Fault}
-use Rattle.sim_cli.specs.declared.script.ScriptLine.{ScriptLine}
+use Rattle.sim_script.specs.declared.script.ScriptLine.{ScriptLine}
 use Rattle.sim_cli.specs.declared.status.Answered.{Answered}
 use Rattle.sim_cli.specs.declared.status.Answered.TheVariants.{Well, WriterFailed, MemoryWanted}
 use Rattle.sim_cli.specs.declared.status.Status.{Status}
 use Rattle.sim_cli.specs.declared.status.Status.TheVariants as status
-use Rattle.sim_cli.specs.Script.{Text, Names}
+use Rattle.sim_script.specs.Script.{Text, Names}
 use Rattle.sim_cli.specs.Lines.{fault_line}
 use Rattle.sim_cli.specs.Turns.{Course}
 use Rattle.sim_cli.specs.Play.{Gives, read_scenario}

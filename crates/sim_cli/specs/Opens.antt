@@ -6,7 +6,7 @@ use Rattle.sim_scenario.specs.Limits.{IsWithinLimits}
 use Rattle.sim_scenario.specs.Seen.{seen}
 use Rattle.sim_cli.specs.declared.scenario.WasRead.{WasRead}
 use Rattle.sim_cli.specs.declared.scenario.WasRead.TheVariants as was
-use Rattle.sim_cli.specs.Script.{Text}
+use Rattle.sim_script.specs.Script.{Text}
 use Rattle.sim_cli.specs.Lines.{fault_line}
 use Rattle.sim_cli.specs.Play.{read_scenario}
 use Rattle.sim_cli.specs.Answers.{Faults}

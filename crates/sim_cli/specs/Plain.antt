@@ -3,7 +3,7 @@ use Rattle.std.specs.Prelude.{◌≡◌, ◌++◌, codes, ◌⊎◌}
 use Rattle.sim_scenario.specs.Scenario.{ScenarioText}
 use Rattle.sim_cli.specs.declared.status.Status.{Status}
 use Rattle.sim_cli.specs.declared.status.Status.TheVariants as status
-use Rattle.sim_cli.specs.Script.{Text}
+use Rattle.sim_script.specs.Script.{Text}
 use Rattle.sim_cli.specs.Play.{Nodes, out}
 
 -- a text stands somewhere in another

@@ -1,38 +1,42 @@
 -- What is written for what is read.
-use Rattle.std.specs.Prelude.{◌≡◌, ◌++◌, nat_lt, List, [], ◌∷◌, length, Option, codes, Result, Ok, Err, MatchResult, IsOk, IsErr, if◌then◌else◌}
+use Rattle.std.specs.Prelude.{◌≡◌, ◌++◌, ◌≤◌, nat_lt, List, [], ◌∷◌, length, Option, Some, codes, Result, Ok, Err, MatchResult, IsOk, IsErr, if◌then◌else◌}
 use Rattle.std.specs.List.{concat, AllByRecursion}
-use Rattle.std.specs.Io.KnownBytes.{Appends, IsAtEnd}
+use Rattle.std.specs.Io.KnownBytes.{Appends, IsAtEnd, prepend_known}
 use Rattle.std.specs.Str.{is_utf8}
 use Rattle.std.specs.Str.Lines.{lines}
 use Rattle.sim_lines.specs.Cut.{head_of, whole_lines}
+use Rattle.sim_lines.specs.Taken.{HasHead}
+use Rattle.sim_lines.specs.Waiting.{Waiting}
 use Rattle.sim_world.specs.World.{Scenario}
 use Rattle.sim_world.specs.Events.{Rules}
 use Rattle.sim_scenario.specs.Scenario.{ScenarioText, Fault, read, text_fault}
-use Rattle.sim_cli.specs.declared.reply.Turn.{Turn}
-use Rattle.sim_cli.specs.declared.script.ScriptLine.{ScriptLine}
-use Rattle.sim_cli.specs.declared.script.ScriptLine.TheVariants.{Nothing, Bad, Asked}
+use Rattle.sim_script.specs.declared.script.ScriptLine.{ScriptLine}
+use Rattle.sim_script.specs.declared.script.ScriptLine.TheVariants.{Nothing, Bad, Asked}
+use Rattle.sim_script.specs.Script.{Text, Names, script_line}
+use Rattle.sim_book.specs.declared.Command.{Command}
+use Rattle.sim_book.specs.declared.Entry.{Entry}
+use Rattle.sim_book.specs.declared.NotTaken.{NotTaken}
+use Rattle.sim_book.specs.Book.{Book, branch_of}
+use Rattle.sim_book.specs.Answer.{answer}
+use Rattle.sim_replies.specs.Lines.{line, reply_words, turn_line}
 use Rattle.sim_cli.specs.declared.status.Status.{Status}
 use Rattle.sim_cli.specs.declared.status.Status.TheVariants.{Well, BadScenario, BadRequest, ReaderFailed, WriterFailed, MemoryWanted}
-use Rattle.sim_cli.specs.Script.{Text, Names, script_line}
-use Rattle.sim_cli.specs.Lines.{line, turn_words, fault_line}
-use Rattle.sim_cli.specs.Turns.{Course, beginning, IsTurn, plain_turn, plain_after}
+use Rattle.sim_cli.specs.Lines.{bad_line, fault_line}
+use Rattle.sim_cli.specs.Turns.{Course, beginning, most_entries, Takes, course_after}
 
-abbrev pub bad_line : Text
-bad_line = codes "bad line\n"
+abbrev pub full_line : Text
+full_line = codes "not taken HistoryFull\n"
 
 -- a text doesn't tell of memory
 abbrev pub TellsNoWant : Text → Type 0
 TellsNoWant text = (text ≡ codes "refused 12 NoMemory\n" → ⊥) × (text ≡ codes "not taken NoMemory\n" → ⊥)
 
 module _ {State Msg : Type 0} (r : Rules State Msg) (names : Names) where
-  abbrev pub turn_line : Turn → Text
-  turn_line turn = line (turn_words names turn)
-
   -- what may be written for a line of a script, and what it leaves
   abbrev pub Gives : Course → ScriptLine → Text → Course → Type 0
   Gives old Nothing text new = (text ≡ []) × (new ≡ old)
   Gives old Bad text new = (text ≡ bad_line) × (new ≡ old)
-  Gives old (Asked command) text new = (turn : Turn) × IsTurn r old command turn new × (text ≡ turn_line turn)
+  Gives old (Asked command) text new = (turn : Result Entry NotTaken) × Takes r old command turn new × (text ≡ turn_line names turn)
 
   -- one text for each line, from one course to another
   abbrev pub Run : Course → List Text → List Text → Course → Type 0
@@ -41,53 +45,71 @@ module _ {State Msg : Type 0} (r : Rules State Msg) (names : Names) where
   Run old [] (text ∷ texts) new = ⊥
   Run old (l ∷ ls) [] new = ⊥
 
+  -- the line of the answer to a command
+  abbrev pub answer_line : Book → Command → Text
+  answer_line book command = line (reply_words names (branch_of command) (answer r book command))
+
   -- what is written for a line where memory is ample, and what it leaves
   abbrev pub plain_text : Course → ScriptLine → Text
   plain_text old Nothing = []
   plain_text old Bad = bad_line
-  plain_text old (Asked command) = turn_line (plain_turn r old command)
+  plain_text old (Asked command) = if nat_lt old.taken most_entries then answer_line old.branches command else full_line
 
   abbrev pub plain_next : Course → ScriptLine → Course
   plain_next old Nothing = old
   plain_next old Bad = old
-  plain_next old (Asked command) = plain_after r old command
+  plain_next old (Asked command) = course_after r old command
 
   -- what is written for the lines of a script where memory is ample
   abbrev pub out_from : Course → List Text → Text
   out_from old [] = []
   out_from old (l ∷ ls) = plain_text old (script_line names l) ++ out_from (plain_next old (script_line names l)) ls
 
-  -- What was written are these texts of turns, one for each line. Where none tells of memory they are the answers.
+  -- what they leave
+  abbrev pub end_from : Course → List Text → Course
+  end_from old [] = old
+  end_from old (l ∷ ls) = end_from (plain_next old (script_line names l)) ls
+
+  -- What was written are these texts of turns, one for each line, up to the last course. Where none tells of memory they are the answers.
   pub record Tells (old : Course) (ls texts : List Text) (written : Text) : Type 0 where
     pub last : Course
     pub run : Run old ls texts last
     pub all : written ≡ concat texts
-    pub plain : AllByRecursion TellsNoWant texts → written ≡ out_from old ls
+    pub plain : AllByRecursion TellsNoWant texts → (written ≡ out_from old ls) × (last ≡ end_from old ls)
 
   pub record TellsLines (old : Course) (ls : List Text) (written : Text) : Type 0 where
     pub texts : List Text
     pub tells : Tells old ls texts written
+
+  -- the same, up to this course
+  abbrev pub TellsTo : Course → List Text → Course → Text → Type 0
+  TellsTo old ls new written = (t : TellsLines old ls written) × (t.tells.last ≡ new)
 
   -- a beginning of such texts
   pub record Begins (old : Course) (ls : List Text) (written : Text) : Type 0 where
     pub more : Text
     pub tells : TellsLines old ls (written ++ more)
 
-  -- a front of the script was read, and its whole lines were answered
-  pub record StopsAfter (old : Course) (script written : Text) : Type 0 where
+  -- A front of the script was read, the rest is left, and all whole lines that were read were answered.
+  pub record StopsAfter (old : Course) (script : Text) (new : Course) (left : Option Text) (written : Text) : Type 0 where
     pub read : Text
     pub rest : Text
     pub front : script ≡ read ++ rest
-    pub tells : TellsLines old (whole_lines read) written
+    pub is_left : left ≡ Some rest
+    pub tells : TellsTo old (whole_lines read) new written
 
-  -- what is written for a script
-  abbrev pub Plays : Course → Text → Option Text → Status → Text → Type 0
-  Plays old script left Well written = IsAtEnd left × TellsLines old (lines script) written
-  Plays old script left BadScenario written = ⊥
-  Plays old script left BadRequest written = ⊥
-  Plays old script left ReaderFailed written = StopsAfter old script written
-  Plays old script left WriterFailed written = Begins old (lines script) written
-  Plays old script left MemoryWanted written = Begins old (lines script) written
+  -- What is written for a script, which leaves a course. Of what was read and is not taken this waits, and this is left to be read.
+  abbrev pub Plays : Course → Text → Course → Waiting → Option Text → Status → Text → Type 0
+  Plays old script new ahead left Well written = IsAtEnd (prepend_known ahead.bytes left) × TellsTo old (lines script) new written
+  Plays old script new ahead left BadScenario written = ⊥
+  Plays old script new ahead left BadRequest written = ⊥
+  Plays old script new ahead left ReaderFailed written = (ahead.bytes ≡ []) × StopsAfter old script new left written
+  Plays old script new ahead left WriterFailed written = Begins old (lines script) written
+  Plays old script new ahead left MemoryWanted written = Begins old (lines script) written
+
+  -- the same, whatever course it leaves
+  abbrev pub PlaysOn : Course → Text → Waiting → Option Text → Status → Text → Type 0
+  PlaysOn old script ahead left status written = (new : Course) × Plays old script new ahead left status written
 
 -- what was written, and that it is what it must be
 pub record Ended (held holds : Option Text) (P : Text → Type 0) : Type 0 where
@@ -117,6 +139,13 @@ pub record Nodes : Type 1 where
   pub Msg : Type 0
   pub rules : Rules State Msg
   pub probes : List Text
+
+-- No more was read than a scenario's text with its marker line, or 65,600 bytes without one, and the block of at most 4,096 bytes in which this ended.
+pub record ReadsHead (given : Text) (left : Option Text) : Type 0 where
+  pub text : Text
+  pub block : Text
+  pub few : length block ≤ 4096
+  pub head : HasHead (Some given) (prepend_known block left) text
 
 -- A scenario stands for the nodes of a run.
 module _ (nodes_of : ScenarioText → Nodes) where
@@ -149,18 +178,19 @@ module _ (nodes_of : ScenarioText → Nodes) where
     pub more : Text
     pub tells : TellsAll given (written ++ more)
 
-  -- a front of what was given was read
-  pub record StopsIn (given written : Text) : Type 0 where
+  -- A front of what was given was read, the rest is left, and all whole lines that were read were answered.
+  pub record StopsIn (given : Text) (left : Option Text) (written : Text) : Type 0 where
     pub read : Text
     pub rest : Text
     pub front : given ≡ read ++ rest
+    pub is_left : left ≡ Some rest
     pub tells : TellsWhole read written
 
-  -- What is written for what is given, by how the play ends.
+  -- What is written for what is given, and what is left of it, by how the play ends.
   abbrev pub Played : Text → Option Text → Status → Text → Type 0
   Played given left Well written = IsOk (read_scenario (head_of given).0) × IsAtEnd left × TellsAll given written
-  Played given left BadScenario written = IsErr (read_scenario (head_of given).0) × TellsAll given written
+  Played given left BadScenario written = IsErr (read_scenario (head_of given).0) × ReadsHead given left × TellsAll given written
   Played given left BadRequest written = ⊥
-  Played given left ReaderFailed written = StopsIn given written
+  Played given left ReaderFailed written = StopsIn given left written
   Played given left WriterFailed written = BeginsAll given written
   Played given left MemoryWanted written = BeginsAll given written

@@ -13,7 +13,7 @@ use Rattle.sim_protocols.specs.declared.Protocol.TheVariants as protocol
 use Rattle.sim_scenario.specs.declared.Protocol.{Protocol as NamedProtocol}
 use Rattle.sim_scenario.specs.declared.Protocol.TheVariants as named
 use Rattle.sim_scenario.specs.Scenario.{ScenarioText}
-use Rattle.sim_cli.specs.Script.{Text}
+use Rattle.sim_script.specs.Script.{Text}
 use Rattle.sim_cli.specs.Play.{Nodes, scenario}
 
 -- the protocol that a scenario names

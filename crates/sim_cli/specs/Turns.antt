@@ -1,53 +1,45 @@
--- The turns of a session: each is the answer to a command, or memory was wanted, or the history is full.
-use Rattle.std.specs.Prelude.{◌≡◌, ℕ, ◌+◌, ◌<◌, ◌≤◌, nat_lt, Bool, true, false, ◌⊎◌, Option, None, Some, IsTrue, if◌then◌else◌}
+-- The turns of a play: each answers a command, or memory is wanted, or the history is full.
+use Rattle.std.specs.Prelude.{◌≡◌, ℕ, ◌+◌, ◌<◌, ◌≤◌, nat_lt, length, Result, Ok, Err, if◌then◌else◌}
 use Rattle.sim_world.specs.Events.{Rules}
-use Rattle.sim_cli.specs.declared.command.Command.{Command}
-use Rattle.sim_cli.specs.declared.reply.Refusal.{Refusal}
-use Rattle.sim_cli.specs.declared.reply.Refusal.TheVariants as refusal
-use Rattle.sim_cli.specs.declared.reply.Reply.{Reply}
-use Rattle.sim_cli.specs.declared.reply.Reply.TheVariants as reply
-use Rattle.sim_cli.specs.declared.reply.Turn.{Turn}
-use Rattle.sim_cli.specs.declared.reply.Turn.TheVariants as turn
-use Rattle.sim_cli.specs.Book.{Book, opening}
-use Rattle.sim_cli.specs.Answer.{answer, after, refusal_of}
+use Rattle.sim_book.specs.declared.Command.{Command}
+use Rattle.sim_book.specs.declared.Entry.{Entry}
+use Rattle.sim_book.specs.declared.NotTaken.{NotTaken}
+use Rattle.sim_book.specs.declared.NotTaken.TheVariants.{HistoryFull, NoMemory}
+use Rattle.sim_book.specs.Book.{Book, opening}
+use Rattle.sim_book.specs.Answer.{answer, after}
+use Rattle.sim_book.specs.History.{IsTurn}
+use Rattle.sim_book.specs.Kept.{BookView, all_shown}
 
--- a command that is refused for another reason than that nothing is pending is not refused for want of memory
-abbrev pub leaves_room_for_want : Option Refusal → Bool
-leaves_room_for_want None = true
-leaves_room_for_want (Some refusal.Idle) = true
-leaves_room_for_want (Some _) = false
-
--- the book so far, and how many commands were taken
+--     branches     the book's branches
+--     taken        how many entries are kept
 pub record Course : Type 0 where
-  pub book : Book
+  pub branches : Book
   pub taken : ℕ
 
-abbrev pub most_commands : ℕ
-most_commands = 65536
+abbrev pub most_entries : ℕ
+most_entries = 65536
 
--- no command was taken
+-- the session of a play
+abbrev pub session : ℕ
+session = 0
+
+-- the opening book, and no entry
 abbrev pub beginning : Course
-beginning = record { book = opening; taken = 0 }
+beginning = record { branches = opening; taken = 0 }
+
+-- how far a book has come
+abbrev pub course_of : BookView → Course
+course_of book = record { branches = all_shown book.kept; taken = length book.history }
 
 module _ {State Msg : Type 0} (r : Rules State Msg) where
-  -- A command is answered and the book changes accordingly; or memory is wanted, and the book stays.
-  abbrev pub IsAnswered : Book → Command → Reply → Book → Type 0
-  IsAnswered old c given new = (given ≡ answer r old c) × (new ≡ after r old c)
+  -- A command is taken: its entry is kept and tells a turn. Or it is not taken, where 65,536 entries are kept or memory is wanted, and all stays.
+  abbrev pub Takes : Course → Command → Result Entry NotTaken → Course → Type 0
+  Takes old c (Ok e) new =
+      (old.taken < most_entries) × (new.taken ≡ old.taken + 1) × (e.session ≡ session) × (e.command ≡ c)
+      × IsTurn r old.branches c e.reply new.branches
+  Takes old c (Err HistoryFull) new = (most_entries ≤ old.taken) × (new ≡ old)
+  Takes old c (Err NoMemory) new = (old.taken < most_entries) × (new ≡ old)
 
-  abbrev pub WantsMemory : Book → Command → Reply → Book → Type 0
-  WantsMemory old c given new = IsTrue (leaves_room_for_want (refusal_of r c old)) × (given ≡ reply.Refused refusal.NoMemory) × (new ≡ old)
-
-  -- A command is taken and counted; or it is not taken, where 65,536 were taken before or memory is wanted, and all stays.
-  abbrev pub IsTurn : Course → Command → Turn → Course → Type 0
-  IsTurn old c (turn.Taken given) new =
-      (old.taken < most_commands) × (new.taken ≡ old.taken + 1)
-      × (IsAnswered old.book c given new.book ⊎ WantsMemory old.book c given new.book)
-  IsTurn old c turn.HistoryFull new = (most_commands ≤ old.taken) × (new ≡ old)
-  IsTurn old c turn.NoMemory new = (old.taken < most_commands) × (new ≡ old)
-
-  -- the turn where memory is ample
-  abbrev pub plain_turn : Course → Command → Turn
-  plain_turn old c = if nat_lt old.taken most_commands then turn.Taken (answer r old.book c) else turn.HistoryFull
-
-  abbrev pub plain_after : Course → Command → Course
-  plain_after old c = if nat_lt old.taken most_commands then record { book = after r old.book c; taken = old.taken + 1 } else old
+  -- the course after a command where memory is ample
+  abbrev pub course_after : Course → Command → Course
+  course_after old c = if nat_lt old.taken most_entries then record { branches = after r old.branches c; taken = old.taken + 1 } else old

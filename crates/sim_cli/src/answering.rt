@@ -2,18 +2,23 @@
 ghost use Rattle.std.specs.Prelude.{◌≡◌, ℕ, List, [], Some};
 ghost use Rattle.std.specs.Io.KnownBytes.{prepend_known};
 ghost use Rattle.sim_lines.specs.Left.{HandsOver};
+ghost use Rattle.sim_world.specs.Events.{rules};
+ghost use Rattle.sim_script.specs.Script.{script_line};
+ghost use Rattle.sim_cli.specs.Turns.{course_of};
 ghost use Rattle.sim_cli.specs.Play.{Ended, Plays};
 ghost use Rattle.sim_cli.specs.Answers.{Answers, Hands, Finishes};
-ghost use Rattle.sim_cli.specs.Script.{script_line};
 
-use crate::lines::tell_turn;
-use crate::names::Names;
-use crate::script::{ScriptLine, line_of};
-use crate::session::Session;
 use crate::status::{Answered, Status};
+use sim_book::Book;
 use sim_lines::{Ahead, NextLine, Outlet, WriterFault, next_line};
+use sim_node::Node;
+use sim_replies::tell_turn;
+use sim_script::{Names, ScriptLine, line_of};
 use std::alloc::Global;
 use std::io::{Read, Write};
+
+/// The session of a play.
+const SESSION: u8 = 0;
 
 /// Hands a text over.
 fn hand<W: Write>(outlet: &mut Outlet, writer: &mut W, text: &[u8]) -> Answered
@@ -35,25 +40,26 @@ fn finish<W: Write>(outlet: &mut Outlet, writer: &mut W, status: Status) -> Stat
     }
 }
 
-/// Answers a line of a script. The text is room for the answer, to be used again.
-fn answer_line<S: Session, W: Write>(
-    session: &mut S,
+/// Answers a line of a script by a turn of the book. The text is room for the answer, to be used again.
+fn answer_line<N: Node, W: Write>(
+    alloc: Global,
+    book: &mut Book<N>,
     names: &Names,
     line: &[u8],
     text: &mut String,
     outlet: &mut Outlet,
     writer: &mut W,
 ) -> Answered
-    ensures answers { Answers (S.rules session.old) names.now (S.course session.old) (S.course session.new) (script_line names.now line.now)
+    ensures answers { Answers (rules N.laws N.PROBES book.old.scenario) names.now (course_of book.old) (course_of book.new) (script_line names.now line.now)
         (W.contents writer.old) (W.contents writer.new) outlet.old outlet.new result }
-    ensures rules { S.rules session.new ≡ S.rules session.old }
+    ensures scenario { book.new.scenario ≡ book.old.scenario }
 {
     match line_of(names, line) {
         ScriptLine::Nothing => Answered::Well,
         ScriptLine::Bad => hand(outlet, writer, b"bad line\n"),
         ScriptLine::Asked(command) => {
-            let turn = session.turn(command);
-            match tell_turn(text, names, turn) {
+            let turn = book.turn(alloc, SESSION, command);
+            match tell_turn(alloc, text, names, &turn) {
                 Ok(()) => hand(outlet, writer, text.as_bytes()),
                 Err(_) => Answered::MemoryWanted,
             }
@@ -75,23 +81,26 @@ fn flush_before_read<W: Write>(
     outlet.flush(writer)
 }
 
-/// Answers the lines of a script, and writes the answers: at once where the next line takes a read, else gathered.
-pub fn answer_lines<S: Session, R: Read, W: Write>(
+/// Answers the lines of a script by turns of the book, and writes the answers: at once where the next line takes a read, else gathered.
+///
+/// Of want of memory outside a command `MemoryWanted` tells. Then, and where the writer failed, the book may be ahead of what was written.
+pub fn answer_lines<N: Node, R: Read, W: Write>(
     alloc: Global,
-    session: &mut S,
+    book: &mut Book<N>,
     names: &Names,
     reader: &mut R,
     ahead: &mut Ahead,
     writer: &mut W,
 ) -> Status
-    ensures { (script : List ℕ) → prepend_known ahead.old (R.remaining reader.old) ≡ Some script →
+    ensures played { (script : List ℕ) → prepend_known ahead.old.bytes (R.remaining reader.old) ≡ Some script →
         Ended (W.contents writer.old) (W.contents writer.new)
-        (Plays (S.rules session.old) names.now (S.course session.old) script (prepend_known ahead.new (R.remaining reader.new)) result) }
+        (Plays (rules N.laws N.PROBES book.old.scenario) names.now (course_of book.old) script (course_of book.new) ahead.new (R.remaining reader.new) result) }
+    ensures scenario { book.new.scenario ≡ book.old.scenario }
 {
     let mut line = Vec::new(alloc);
     let mut text = String::new(alloc);
     let mut outlet = Outlet::new(alloc);
-    for _ in 0..u64::MAX {
+    loop {
         match flush_before_read(ahead, &mut outlet, writer) {
             Ok(()) => {}
             Err(_) => return Status::WriterFailed,
@@ -99,7 +108,8 @@ pub fn answer_lines<S: Session, R: Read, W: Write>(
         match next_line(reader, ahead, &mut line) {
             NextLine::Line => {
                 match answer_line(
-                    session,
+                    alloc,
+                    book,
                     names,
                     line.as_slice(),
                     &mut text,
@@ -115,7 +125,8 @@ pub fn answer_lines<S: Session, R: Read, W: Write>(
             }
             NextLine::Last => {
                 match answer_line(
-                    session,
+                    alloc,
+                    book,
                     names,
                     line.as_slice(),
                     &mut text,
@@ -134,5 +145,4 @@ pub fn answer_lines<S: Session, R: Read, W: Write>(
             NextLine::NoMemory => return finish(&mut outlet, writer, Status::MemoryWanted),
         }
     }
-    finish(&mut outlet, writer, Status::ReaderFailed)
 }

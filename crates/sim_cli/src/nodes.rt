@@ -5,23 +5,22 @@ ghost use Rattle.sim_world.specs.Events.{rules};
 ghost use Rattle.sim_scenario.specs.Hosts.{IsNumbered, names_in};
 ghost use Rattle.sim_scenario.specs.Limits.{IsWithinLimits};
 ghost use Rattle.sim_scenario.specs.Seen.{seen};
-ghost use Rattle.sim_cli.specs.KeptBook.{opened};
-ghost use Rattle.sim_cli.specs.Play.{Ended, Plays, scenario};
+ghost use Rattle.sim_cli.specs.Play.{Ended, PlaysOn, scenario};
 ghost use Rattle.sim_cli.specs.Turns.{beginning};
 
 use crate::answering::answer_lines;
-use crate::names::Names;
 use crate::status::Status;
-use crate::world_session::WorldSession;
+use sim_book::Book;
 use sim_lines::Ahead;
 use sim_node::{Node, Setup};
 use sim_scenario::ScenarioText;
+use sim_script::Names;
 use sim_world::Scenario;
 use std::alloc::Global;
 use std::io::{Read, Write};
 
-/// The scenario of a run and the names, by what was read and the names of the probes.
-fn set_up(text: ScenarioText, probes: Vec<String>) -> (Scenario, Names)
+/// The scenario of a run and the names, by what was read and the names of the probes, in the order of their numbers.
+pub fn set_up(text: ScenarioText, probes: Vec<String>) -> (Scenario, Names)
     requires numbered { IsNumbered text.names }
     requires within { IsWithinLimits (seen text) }
     requires few { vec_len probes ≤ 16 }
@@ -61,14 +60,14 @@ pub fn play_nodes<N: Node, R: Read, W: Write>(
     requires numbered { IsNumbered text.names }
     requires within { IsWithinLimits (seen text) }
     requires few { vec_len probes ≤ 16 }
-    ensures { (script : List ℕ) → prepend_known ahead.old (R.remaining reader.old) ≡ Some script →
+    ensures { (script : List ℕ) → prepend_known ahead.old.bytes (R.remaining reader.old) ≡ Some script →
         Ended (W.contents writer.old) (W.contents writer.new)
-        (Plays (rules N.laws N.PROBES (scenario (seen text))) (record { hosts = names_in text.names; probes = map string_bytes probes.items })
-        beginning script (prepend_known ahead.new (R.remaining reader.new)) result) }
+        (PlaysOn (rules N.laws N.PROBES (scenario (seen text))) (record { hosts = names_in text.names; probes = map string_bytes probes.items })
+        beginning script ahead.new (R.remaining reader.new) result) }
 {
     let (scenario, names) = set_up(text, probes);
-    match WorldSession::<N>::begin(alloc, scenario, meter) {
-        Ok(mut session) => answer_lines(alloc, &mut session, &names, reader, ahead, writer),
+    match Book::<N>::new(alloc, &scenario, meter) {
+        Ok(mut book) => answer_lines(alloc, &mut book, &names, reader, ahead, writer),
         Err(_) => Status::MemoryWanted,
     }
 }

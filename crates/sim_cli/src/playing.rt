@@ -4,7 +4,7 @@ ghost use Rattle.std.specs.Io.KnownBytes.{prepend_known};
 ghost use Rattle.sim_scenario.specs.Hosts.{IsNumbered};
 ghost use Rattle.sim_scenario.specs.Limits.{IsWithinLimits};
 ghost use Rattle.sim_scenario.specs.Seen.{seen};
-ghost use Rattle.sim_cli.specs.Play.{Ended, Played, Plays, names_of};
+ghost use Rattle.sim_cli.specs.Play.{Ended, Played, PlaysOn, names_of};
 ghost use Rattle.sim_cli.specs.Protocols.{nodes_of};
 ghost use Rattle.sim_cli.specs.Turns.{beginning};
 ghost use Rattle.sim_cli.specs.Answers.{Writes};
@@ -44,9 +44,9 @@ fn play_protocol<R: Read, W: Write>(
 ) -> Status
     requires numbered { IsNumbered text.names }
     requires within { IsWithinLimits (seen text) }
-    ensures { (script : List ℕ) → prepend_known ahead.old (R.remaining reader.old) ≡ Some script →
+    ensures { (script : List ℕ) → prepend_known ahead.old.bytes (R.remaining reader.old) ≡ Some script →
         Ended (W.contents writer.old) (W.contents writer.new)
-        (Plays (nodes_of (seen text)).rules (names_of nodes_of (seen text)) beginning script (prepend_known ahead.new (R.remaining reader.new)) result) }
+        (PlaysOn (nodes_of (seen text)).rules (names_of nodes_of (seen text)) beginning script ahead.new (R.remaining reader.new) result) }
 {
     let protocol = text.protocol;
     let Ok(probes) = probe_names(alloc, protocol_of(protocol)) else {
@@ -93,6 +93,7 @@ fn play_scenario<R: Read, W: Write>(alloc: Global, reader: &mut R, writer: &mut 
 
 /// Plays what the reader gives, a scenario and a script, over the nodes of the protocol that the scenario names, and writes a line
 /// for each command. What is written is a function of what is read where memory is ample, and where it is not, the lines tell so.
+/// At most 2^40 reads are made, of at most 4,096 bytes each; a reader that has more to give counts as failed.
 pub fn play<R: Read, W: Write>(alloc: Global, reader: &mut R, writer: &mut W) -> Status
     ensures played { (given : List ℕ) → R.remaining reader.old ≡ Some given →
         Ended (W.contents writer.old) (W.contents writer.new) (Played nodes_of given (R.remaining reader.new) result) }

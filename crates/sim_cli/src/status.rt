@@ -10,7 +10,7 @@ pub enum Status {
     BadScenario,
     /// What was asked for can't be done.
     BadRequest,
-    /// The reader failed. The whole lines before were answered.
+    /// The reader failed, or still gave bytes after 2^40 reads. All whole lines that were read were answered.
     ReaderFailed,
     /// The writer failed, and nothing more was written.
     WriterFailed,

@@ -1,10 +1,19 @@
 use Rattle.std.proofs.Common.{◌≡◌}
 use Rattle.std.specs.Io.KnownBytes.{prepend_known}
+use Rattle.sim_world.specs.Events.{rules}
+use Rattle.sim_lines.specs.Waiting.{budget}
+use Rattle.sim_cli.specs.Turns.{course_of}
 use Rattle.sim_cli.proofs.Runs.{So}
 use Rattle.sim_cli.proofs.answering.answer_lines.Given as goal
 
--- the rules stay, and the lines so far were answered
-abbrev pub invariant-loop : goal.invariant-loop
-invariant-loop g l = (g.S.Session.rules l.session ≡ g.S.Session.rules l.fn.session)
-    × So (g.S.Session.rules l.fn.session) l.names (prepend_known l.fn.ahead (g.R.Read.remaining l.fn.reader)) (prepend_known l.ahead (g.R.Read.remaining l.reader))
-    (g.W.Write.contents l.fn.writer) (g.W.Write.contents l.writer) l.outlet (g.S.Session.course l.fn.session) (g.S.Session.course l.session)
+-- the scenario stays, and the lines so far were answered
+abbrev pub invariant-loop-outlet : goal.invariant-loop-outlet
+invariant-loop-outlet g l = record {
+  scenario : l.book.scenario ≡ l.fn.book.scenario;
+  so : So (rules g.N.Node.laws g.N.Node.PROBES l.fn.book.scenario) l.names (prepend_known l.fn.ahead.bytes (g.R.Read.remaining l.fn.reader)) (prepend_known l.ahead.bytes (g.R.Read.remaining l.reader))
+      (g.W.Write.contents l.fn.writer) (g.W.Write.contents l.writer) l.outlet (course_of l.fn.book) (course_of l.book);
+}
+
+-- fewer bytes can come
+abbrev pub decreases-loop-outlet : goal.decreases-loop-outlet
+decreases-loop-outlet g l = budget l.ahead

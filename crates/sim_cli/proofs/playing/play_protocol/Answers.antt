@@ -11,24 +11,24 @@ use Rattle.sim_cli.proofs.Whole.{wants_script}
 use Rattle.sim_cli.proofs.playing.play_protocol.Goals as goal
 
 pub returns-in_default : goal.returns-in_default
-returns-in_default g c = λ script at. wants_script (nodes_of (seen c.args.text)).rules (names_of nodes_of (seen c.args.text)) beginning script None _ _ (Appends-none _)
+returns-in_default g c = λ script at. wants_script (nodes_of (seen c.args.text)).rules (names_of nodes_of (seen c.args.text)) beginning script c.args.ahead.now None _ _ (Appends-none _)
 
 pub returns-in-Echo : goal.returns-in-Echo
 unfolding nodes_by
 returns-in-Echo g c = λ script at.
-    plays_as (seen c.args.text) script _ _ _ _ named.Echo _ c.in-Echo.is (c.in-Ok.ensures.names ∙ ap probe_names (c.protocol_of.ensures ∙ ap protocol_of c.in-Echo.is)) (c.play_nodes.ensures script at)
+    plays_as (seen c.args.text) script c.play_nodes.new.ahead _ _ _ _ named.Echo _ c.in-Echo.is (c.in-Ok.ensures.names ∙ ap probe_names (c.protocol_of.ensures ∙ ap protocol_of c.in-Echo.is)) (c.play_nodes.ensures script at)
 
 pub returns-in-PrimaryBackup : goal.returns-in-PrimaryBackup
 unfolding nodes_by
 returns-in-PrimaryBackup g c = λ script at.
-    plays_as (seen c.args.text) script _ _ _ _ named.PrimaryBackup _ c.in-PrimaryBackup.is (c.in-Ok.ensures.names ∙ ap probe_names (c.protocol_of.ensures ∙ ap protocol_of c.in-PrimaryBackup.is)) (c.play_nodes-in-PrimaryBackup.ensures script at)
+    plays_as (seen c.args.text) script c.play_nodes-in-PrimaryBackup.new.ahead _ _ _ _ named.PrimaryBackup _ c.in-PrimaryBackup.is (c.in-Ok.ensures.names ∙ ap probe_names (c.protocol_of.ensures ∙ ap protocol_of c.in-PrimaryBackup.is)) (c.play_nodes-in-PrimaryBackup.ensures script at)
 
 pub returns-in-Abd : goal.returns-in-Abd
 unfolding nodes_by
 returns-in-Abd g c = λ script at.
-    plays_as (seen c.args.text) script _ _ _ _ named.Abd _ c.in-Abd.is (c.in-Ok.ensures.names ∙ ap probe_names (c.protocol_of.ensures ∙ ap protocol_of c.in-Abd.is)) (c.play_nodes-in-Abd.ensures script at)
+    plays_as (seen c.args.text) script c.play_nodes-in-Abd.new.ahead _ _ _ _ named.Abd _ c.in-Abd.is (c.in-Ok.ensures.names ∙ ap probe_names (c.protocol_of.ensures ∙ ap protocol_of c.in-Abd.is)) (c.play_nodes-in-Abd.ensures script at)
 
 pub returns-in-TwoPhase : goal.returns-in-TwoPhase
 unfolding nodes_by
 returns-in-TwoPhase g c = λ script at.
-    plays_as (seen c.args.text) script _ _ _ _ named.TwoPhase _ c.in-TwoPhase.is (c.in-Ok.ensures.names ∙ ap probe_names (c.protocol_of.ensures ∙ ap protocol_of c.in-TwoPhase.is)) (c.play_nodes-in-TwoPhase.ensures script at)
+    plays_as (seen c.args.text) script c.play_nodes-in-TwoPhase.new.ahead _ _ _ _ named.TwoPhase _ c.in-TwoPhase.is (c.in-Ok.ensures.names ∙ ap probe_names (c.protocol_of.ensures ∙ ap protocol_of c.in-TwoPhase.is)) (c.play_nodes-in-TwoPhase.ensures script at)
