@@ -1,11 +1,11 @@
 -- A whole play: the scenario's text, and then the script.
-use Rattle.std.proofs.Common.{◌≡◌, ◌<◌, ◌≤◌, List, [], ◌∷◌, ◌++◌, length, refl, sym, ◌∙◌, ap, append_assoc, append-nil, inl, inr, ◌⊎◌, Option, Some, None, Result, Ok, Err, MatchResult, IsOk, IsErr}
+use Rattle.std.proofs.Common.{◌≡◌, ◌<◌, ◌≤◌, arith, List, [], ◌∷◌, ◌++◌, length, refl, sym, ◌∙◌, ap, append_assoc, append-nil, inl, inr, ◌⊎◌, Option, Some, None, Result, Ok, Err, MatchResult, IsOk, IsErr}
 use Rattle.std.specs.Io.KnownBytes.{IsAtEnd, Appends, Keeps, prepend_known}
 use Rattle.std.specs.Str.Lines.{lines}
 use Rattle.sim_lines.specs.Cut.{head_of, whole_lines}
 use Rattle.sim_lines.specs.Left.{AppendsPart}
 use Rattle.sim_lines.specs.Taken.{HasHead, HasNoMarker}
-use Rattle.sim_lines.specs.Waiting.{Waiting}
+use Rattle.sim_lines.specs.Waiting.{Waiting, CountsReads, unread}
 use Rattle.sim_lines.proofs.Known.{Appends-none, Appends-append, prepend-none}
 use Rattle.sim_lines.proofs.Passing.{Keeps-Appends}
 use Rattle.sim_world.specs.Events.{Rules}
@@ -16,7 +16,7 @@ use Rattle.sim_cli.specs.declared.status.Status.TheVariants.{Well, BadScenario, 
 use Rattle.sim_script.specs.Script.{Text, Names}
 use Rattle.sim_cli.specs.Lines.{fault_line}
 use Rattle.sim_cli.specs.Turns.{Course, beginning}
-use Rattle.sim_cli.specs.Play.{Nodes, Tells, TellsLines, TellsTo, Ended, Plays, PlaysOn, Played, ReadsHead, TellsAll, TellsWhole, out_of, read_scenario, names_of}
+use Rattle.sim_cli.specs.Play.{Nodes, Tells, TellsLines, TellsTo, Ended, Plays, PlaysOn, Played, ReadsHead, IsWithinReads, TellsAll, TellsWhole, out_of, read_scenario, names_of}
 use Rattle.sim_cli.specs.Answers.{Writes, Faults}
 use Rattle.sim_cli.proofs.Readings.{too_long}
 use Rattle.sim_cli.proofs.Runs.{known, at_end_of, rest_of, tells_lines}
@@ -30,6 +30,10 @@ written_part old mid new text h k = (text, [], sym (append-nil text), written_al
 
 pub given_is : (ahead : Text) (old : Option Text) (given : Text) → ahead ≡ [] → old ≡ Some given → prepend_known ahead old ≡ Some given
 given_is ahead old given a e = ap (λ (o : Option Text). prepend_known ahead o) e ∙ ap (λ (xs : Text). Some (xs ++ given)) a
+
+-- no more was read than the counted reads can give
+pub within : (ahead new : Waiting) (left left' : Option Text) → ahead ≡ unread → CountsReads ahead new left left' → IsWithinReads left left'
+within ahead new left left' e c = record { read = c.read; consumed = c.consumed; few = omega (arith, c.counted, ap (λ w. w.reads) e) }
 
 -- the scenario's text was read, and this script is left
 pub record HeadIs (given : Text) (new : Option Text) (text : Text) : Type 0 where

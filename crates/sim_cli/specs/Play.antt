@@ -1,7 +1,7 @@
 -- What is written for what is read.
-use Rattle.std.specs.Prelude.{◌≡◌, ◌++◌, ◌≤◌, nat_lt, List, [], ◌∷◌, length, Option, Some, codes, Result, Ok, Err, MatchResult, IsOk, IsErr, if◌then◌else◌}
+use Rattle.std.specs.Prelude.{◌≡◌, ◌++◌, ◌≤◌, ◌*◌, ◌^◌, nat_lt, List, [], ◌∷◌, length, Option, Some, codes, Result, Ok, Err, MatchResult, IsOk, IsErr, if◌then◌else◌}
 use Rattle.std.specs.List.{concat, AllByRecursion}
-use Rattle.std.specs.Io.KnownBytes.{Appends, IsAtEnd, prepend_known}
+use Rattle.std.specs.Io.KnownBytes.{Appends, Consumes, IsAtEnd, prepend_known}
 use Rattle.std.specs.Str.{is_utf8}
 use Rattle.std.specs.Str.Lines.{lines}
 use Rattle.sim_lines.specs.Cut.{head_of, whole_lines}
@@ -146,6 +146,12 @@ pub record ReadsHead (given : Text) (left : Option Text) : Type 0 where
   pub block : Text
   pub few : length block ≤ 4096
   pub head : HasHead (Some given) (prepend_known block left) text
+
+-- no more was read than 2^40 reads of 4,096 bytes give
+pub record IsWithinReads (left left' : Option Text) : Type 0 where
+  pub read : Text
+  pub consumed : Consumes left left' read
+  pub few : length read ≤ 4096 * 2 ^ 40
 
 -- A scenario stands for the nodes of a run.
 module _ (nodes_of : ScenarioText → Nodes) where

@@ -2,6 +2,7 @@
 ghost use Rattle.std.specs.Prelude.{◌≡◌, ℕ, List, [], Some};
 ghost use Rattle.std.specs.Io.KnownBytes.{prepend_known};
 ghost use Rattle.sim_lines.specs.Left.{HandsOver};
+ghost use Rattle.sim_lines.specs.Waiting.{CountsReads};
 ghost use Rattle.sim_world.specs.Events.{rules};
 ghost use Rattle.sim_script.specs.Script.{script_line};
 ghost use Rattle.sim_cli.specs.Turns.{course_of};
@@ -96,6 +97,7 @@ pub fn answer_lines<N: Node, R: Read, W: Write>(
         Ended (W.contents writer.old) (W.contents writer.new)
         (Plays (rules N.laws N.PROBES book.old.scenario) names.now (course_of book.old) script (course_of book.new) ahead.new (R.remaining reader.new) result) }
     ensures scenario { book.new.scenario ≡ book.old.scenario }
+    ensures counts { CountsReads ahead.old ahead.new (R.remaining reader.old) (R.remaining reader.new) }
 {
     let mut line = Vec::new(alloc);
     let mut text = String::new(alloc);

@@ -1,6 +1,7 @@
 //! A script is played over nodes of a type.
 ghost use Rattle.std.specs.Prelude.{◌≡◌, ◌≤◌, ℕ, List, Some, IfOk, map, string_bytes, vec_len};
 ghost use Rattle.std.specs.Io.KnownBytes.{prepend_known};
+ghost use Rattle.sim_lines.specs.Waiting.{CountsReads};
 ghost use Rattle.sim_world.specs.Events.{rules};
 ghost use Rattle.sim_scenario.specs.Hosts.{IsNumbered, names_in};
 ghost use Rattle.sim_scenario.specs.Limits.{IsWithinLimits};
@@ -60,10 +61,11 @@ pub fn play_nodes<N: Node, R: Read, W: Write>(
     requires numbered { IsNumbered text.names }
     requires within { IsWithinLimits (seen text) }
     requires few { vec_len probes ≤ 16 }
-    ensures { (script : List ℕ) → prepend_known ahead.old.bytes (R.remaining reader.old) ≡ Some script →
+    ensures played { (script : List ℕ) → prepend_known ahead.old.bytes (R.remaining reader.old) ≡ Some script →
         Ended (W.contents writer.old) (W.contents writer.new)
         (PlaysOn (rules N.laws N.PROBES (scenario (seen text))) (record { hosts = names_in text.names; probes = map string_bytes probes.items })
         beginning script ahead.new (R.remaining reader.new) result) }
+    ensures counts { CountsReads ahead.old ahead.new (R.remaining reader.old) (R.remaining reader.new) }
 {
     let (scenario, names) = set_up(text, probes);
     match Book::<N>::new(alloc, &scenario, meter) {

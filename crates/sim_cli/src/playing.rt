@@ -1,10 +1,11 @@
 //! A scenario and a script are played over any reader and any writer.
 ghost use Rattle.std.specs.Prelude.{◌≡◌, ℕ, List, Some};
 ghost use Rattle.std.specs.Io.KnownBytes.{prepend_known};
+ghost use Rattle.sim_lines.specs.Waiting.{CountsReads};
 ghost use Rattle.sim_scenario.specs.Hosts.{IsNumbered};
 ghost use Rattle.sim_scenario.specs.Limits.{IsWithinLimits};
 ghost use Rattle.sim_scenario.specs.Seen.{seen};
-ghost use Rattle.sim_cli.specs.Play.{Ended, Played, PlaysOn, names_of};
+ghost use Rattle.sim_cli.specs.Play.{Ended, IsWithinReads, Played, PlaysOn, names_of};
 ghost use Rattle.sim_cli.specs.Protocols.{nodes_of};
 ghost use Rattle.sim_cli.specs.Turns.{beginning};
 ghost use Rattle.sim_cli.specs.Answers.{Writes};
@@ -44,9 +45,10 @@ fn play_protocol<R: Read, W: Write>(
 ) -> Status
     requires numbered { IsNumbered text.names }
     requires within { IsWithinLimits (seen text) }
-    ensures { (script : List ℕ) → prepend_known ahead.old.bytes (R.remaining reader.old) ≡ Some script →
+    ensures played { (script : List ℕ) → prepend_known ahead.old.bytes (R.remaining reader.old) ≡ Some script →
         Ended (W.contents writer.old) (W.contents writer.new)
         (PlaysOn (nodes_of (seen text)).rules (names_of nodes_of (seen text)) beginning script ahead.new (R.remaining reader.new) result) }
+    ensures counts { CountsReads ahead.old ahead.new (R.remaining reader.old) (R.remaining reader.new) }
 {
     let protocol = text.protocol;
     let Ok(probes) = probe_names(alloc, protocol_of(protocol)) else {
@@ -71,8 +73,9 @@ fn play_protocol<R: Read, W: Write>(
 
 /// Reads a scenario and plays the script that follows it.
 fn play_scenario<R: Read, W: Write>(alloc: Global, reader: &mut R, writer: &mut W) -> Status
-    ensures { (given : List ℕ) → R.remaining reader.old ≡ Some given →
+    ensures played { (given : List ℕ) → R.remaining reader.old ≡ Some given →
         Ended (W.contents writer.old) (W.contents writer.new) (Played nodes_of given (R.remaining reader.new) result) }
+    ensures within { IsWithinReads (R.remaining reader.old) (R.remaining reader.new) }
 {
     let mut ahead = Ahead::new();
     let text = match read_head(alloc, reader, &mut ahead) {
@@ -99,6 +102,7 @@ pub fn play<R: Read, W: Write>(alloc: Global, reader: &mut R, writer: &mut W) ->
         Ended (W.contents writer.old) (W.contents writer.new) (Played nodes_of given (R.remaining reader.new) result) }
     ensures plain { (given : List ℕ) → R.remaining reader.old ≡ Some given → IsDone result →
         Ended (W.contents writer.old) (W.contents writer.new) (IsPlain nodes_of given) }
+    ensures within { IsWithinReads (R.remaining reader.old) (R.remaining reader.new) }
 {
     play_scenario(alloc, reader, writer)
 }

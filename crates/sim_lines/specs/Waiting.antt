@@ -1,5 +1,6 @@
 -- What was read and not yet taken, and how much may still come.
-use Rattle.std.specs.Prelude.{◌≡◌, ℕ, ◌+◌, ◌*◌, ◌^◌, ◌<◌, List, [], length, ◌⊎◌}
+use Rattle.std.specs.Prelude.{◌≡◌, ℕ, ◌+◌, ◌*◌, ◌^◌, ◌<◌, ◌≤◌, List, [], length, Option, ◌⊎◌}
+use Rattle.std.specs.Io.KnownBytes.{Consumes}
 
 --     bytes     what waits, in order
 --     reads     how many reads may still be made
@@ -19,3 +20,9 @@ budget w = length w.bytes + 4096 * w.reads
 pub record IsUsedUp (old new : Waiting) : Type 0 where
   pub none : new.bytes ≡ []
   pub reads : (new.reads ≡ 0) ⊎ (new.reads < old.reads)
+
+-- each read that was made is counted, and gave at most 4,096 bytes of what the reader had left
+pub record CountsReads (old new : Waiting) (left left' : Option (List ℕ)) : Type 0 where
+  pub read : List ℕ
+  pub consumed : Consumes left left' read
+  pub counted : length read + 4096 * new.reads ≤ 4096 * old.reads

@@ -4,6 +4,7 @@ ghost use Rattle.std.specs.Io.KnownBytes.{prepend_known};
 ghost use Rattle.std.specs.Str.Lines.{strip_carriage_return};
 ghost use Rattle.sim_lines.specs.Cut.{is_marker};
 ghost use Rattle.sim_lines.specs.Taken.{TakesHead, SpendsHead};
+ghost use Rattle.sim_lines.specs.Waiting.{CountsReads};
 
 use crate::reading::{Ahead, Next, next_byte};
 use std::alloc::{AllocError, Global};
@@ -115,6 +116,7 @@ pub fn read_head<R: Read>(
     ensures takes { TakesHead (prepend_known ahead.old.bytes (R.remaining reader.old))
         (prepend_known ahead.new.bytes (R.remaining reader.new)) result }
     ensures spends { SpendsHead ahead.old ahead.new result }
+    ensures counts { CountsReads ahead.old ahead.new (R.remaining reader.old) (R.remaining reader.new) }
     ensures few { length ahead.new.bytes ≤ 4096 }
 {
     let mut lines = Lines::new(alloc);

@@ -3,6 +3,7 @@ ghost use Rattle.std.specs.Prelude.{◌≡◌, ℕ, vec_len, ◌≤◌, ◌<◌,
 ghost use Rattle.std.specs.Io.KnownBytes.{prepend_known};
 ghost use Rattle.std.specs.Str.Lines.{strip_carriage_return};
 ghost use Rattle.sim_lines.specs.Taken.{TakesNext, SpendsLine};
+ghost use Rattle.sim_lines.specs.Waiting.{CountsReads};
 
 use crate::reading::{Ahead, Next, next_byte};
 use std::io::Read;
@@ -39,6 +40,7 @@ pub fn next_line<R: Read>(reader: &mut R, ahead: &mut Ahead, line: &mut Vec<u8>)
     ensures takes { TakesNext (prepend_known ahead.old.bytes (R.remaining reader.old))
         (prepend_known ahead.new.bytes (R.remaining reader.new)) line.new.items result }
     ensures spends { SpendsLine ahead.old ahead.new result }
+    ensures counts { CountsReads ahead.old ahead.new (R.remaining reader.old) (R.remaining reader.new) }
 {
     line.clear();
     loop {

@@ -1,7 +1,7 @@
 //! A buffer between a reader and what takes its bytes one by one.
 ghost use Rattle.std.specs.Prelude.{◌≡◌, ℕ, ◌+◌, List, [], ◌∷◌, ◌≤◌, ◌<◌, ◌^◌, ◌==◌, length, slice_range, IfNone, OnOk, OnErr, option_to_list, ◌++◌};
 ghost use Rattle.sim_lines.specs.Gives.{Gives, Spends};
-ghost use Rattle.sim_lines.specs.Waiting.{unread, IsUsedUp};
+ghost use Rattle.sim_lines.specs.Waiting.{unread, CountsReads, IsUsedUp};
 ghost use Rattle.std.specs.Io.KnownBytes.{prepend_known, Consumes, Keeps, IsAtEnd};
 
 use std::io::Read;
@@ -110,6 +110,7 @@ pub fn next_byte<R: Read>(reader: &mut R, ahead: &mut Ahead) -> Next
     ensures gives { Gives (prepend_known ahead.old.bytes (R.remaining reader.old))
         (prepend_known ahead.new.bytes (R.remaining reader.new)) result }
     ensures spends { Spends ahead.old ahead.new result }
+    ensures counts { CountsReads ahead.old ahead.new (R.remaining reader.old) (R.remaining reader.new) }
     ensures few { length ahead.new.bytes ≤ 4096 }
 {
     if let Some(byte) = ahead.take_first() {

@@ -1,11 +1,12 @@
 use Rattle.std.proofs.Common.{refl, ◌∙◌, None}
 use Rattle.std.specs.Io.KnownBytes.{prepend_known}
+use Rattle.sim_lines.proofs.Counting.{counts_none, counts_append}
 use Rattle.sim_cli.specs.Turns.{course_of}
 use Rattle.sim_cli.proofs.Runs.{as_given, at_start, at_flush, at_line, at_want, at_stop, at_end, at_failure, at_last, at_part, at_last_part}
 use Rattle.sim_cli.proofs.answering.answer_lines.Goals as goal
 
 pub loop-outlet-init : goal.loop-outlet-init
-loop-outlet-init g c = record { scenario = refl; so = at_start _ _ _ _ c.new-outlet.result _ c.new-outlet.ensures }
+loop-outlet-init g c = record { scenario = refl; counts = counts_none _ _ _ refl; so = at_start _ _ _ _ c.new-outlet.result _ c.new-outlet.ensures }
 
 pub returns-in-Err-clause-played : goal.returns-in-Err-clause-played
 returns-in-Err-clause-played g c = λ script e.
@@ -60,8 +61,33 @@ loop-outlet-preserved g c =
     let so = at_flush _ _ _ _ _ _ _ c.loop-outlet.outlet c.flush_before_read.new.outlet _ _ c.loop-outlet.invariant.so c.in-Ok.ensures in
     record {
       scenario = c.answer_line.ensures.scenario ∙ c.loop-outlet.invariant.scenario;
+      counts = counts_append _ _ _ _ _ _ c.loop-outlet.invariant.counts c.next_line.ensures.counts;
       so = at_line _ _ _ _ _ _ _ _ _ _ _ _ _ c.next_line.new.line.items so c.in-Line.ensures.takes (rw (c.as_slice.ensures.value, c.loop-outlet.invariant.scenario) at c.in-Well.ensures.answers);
     }
 
 pub loop-outlet-smaller : goal.loop-outlet-smaller
 loop-outlet-smaller g c = c.in-Line.ensures.spends
+
+pub returns-in-WriterFailed-clause-counts : goal.returns-in-WriterFailed-clause-counts
+returns-in-WriterFailed-clause-counts g c = counts_append _ _ _ _ _ _ c.loop-outlet.invariant.counts c.next_line.ensures.counts
+
+pub returns-in-MemoryWanted-clause-counts : goal.returns-in-MemoryWanted-clause-counts
+returns-in-MemoryWanted-clause-counts g c = counts_append _ _ _ _ _ _ c.loop-outlet.invariant.counts c.next_line.ensures.counts
+
+pub returns-in-Well-answer_line-clause-counts : goal.returns-in-Well-answer_line-clause-counts
+returns-in-Well-answer_line-clause-counts g c = counts_append _ _ _ _ _ _ c.loop-outlet.invariant.counts c.next_line.ensures.counts
+
+pub returns-in-WriterFailed-answer_line-clause-counts : goal.returns-in-WriterFailed-answer_line-clause-counts
+returns-in-WriterFailed-answer_line-clause-counts g c = counts_append _ _ _ _ _ _ c.loop-outlet.invariant.counts c.next_line.ensures.counts
+
+pub returns-in-MemoryWanted-answer_line-clause-counts : goal.returns-in-MemoryWanted-answer_line-clause-counts
+returns-in-MemoryWanted-answer_line-clause-counts g c = counts_append _ _ _ _ _ _ c.loop-outlet.invariant.counts c.next_line.ensures.counts
+
+pub returns-in-End-clause-counts : goal.returns-in-End-clause-counts
+returns-in-End-clause-counts g c = counts_append _ _ _ _ _ _ c.loop-outlet.invariant.counts c.next_line.ensures.counts
+
+pub returns-in-Failed-clause-counts : goal.returns-in-Failed-clause-counts
+returns-in-Failed-clause-counts g c = counts_append _ _ _ _ _ _ c.loop-outlet.invariant.counts c.next_line.ensures.counts
+
+pub returns-in-NoMemory-clause-counts : goal.returns-in-NoMemory-clause-counts
+returns-in-NoMemory-clause-counts g c = counts_append _ _ _ _ _ _ c.loop-outlet.invariant.counts c.next_line.ensures.counts

@@ -3,6 +3,7 @@ use Rattle.sim_lines.proofs.Heads.{at_byte, at_line_end, at_marker, at_last_mark
 use Rattle.sim_lines.proofs.Spending.{byte_spent, used_up}
 use Rattle.sim_lines.specs.Cut.{is_marker}
 use Rattle.std.specs.Str.Lines.{strip_carriage_return}
+use Rattle.sim_lines.proofs.Counting.{counts_append}
 use Rattle.sim_lines.proofs.head.read_head.Goals as goal
 use Rattle.sim_lines.proofs.head.read_head.Goals.{then-byte-eq10+else-is_marker_line+else-is_err, else-byte-eq10+else-is_err-2}
 
@@ -41,6 +42,7 @@ loop-preserved g c = record {
         (at_byte _ _ _ c.loop.lines.0 c.loop.lines.1 c.loop.counter c.in-Byte.byte c.loop.invariant.head c.in-Byte.ensures.gives w.if-byte-eq10.false)
   ];
   spent = byte_spent _ _ _ _ c.loop.invariant.spent c.in-Byte.ensures.spends;
+  counts = counts_append _ _ _ _ _ _ c.loop.invariant.counts c.in-Byte.ensures.counts;
   few = λ _. c.in-Byte.ensures.few;
 }
 
@@ -49,3 +51,21 @@ returns-clause-takes g c = at_most _ _ c.loop.lines.0 c.loop.lines.1 _ c.loop.co
 
 pub returns-clause-few : goal.returns-clause-few
 returns-clause-few g c = c.loop.invariant.few (omega (arith, c.loop-test.false))
+
+pub returns-then-is_marker_line-clause-counts : goal.returns-then-is_marker_line-clause-counts
+returns-then-is_marker_line-clause-counts g c = counts_append _ _ _ _ _ _ c.loop.invariant.counts c.in-Byte.ensures.counts
+
+pub returns-then-is_err-clause-counts : goal.returns-then-is_err-clause-counts
+returns-then-is_err-clause-counts g c = counts_append _ _ _ _ _ _ c.loop.invariant.counts c.in-Byte.ensures.counts
+
+pub returns-then-is_err-2-clause-counts : goal.returns-then-is_err-2-clause-counts
+returns-then-is_err-2-clause-counts g c = counts_append _ _ _ _ _ _ c.loop.invariant.counts c.in-Byte.ensures.counts
+
+pub returns-then-is_marker_line-2-clause-counts : goal.returns-then-is_marker_line-2-clause-counts
+returns-then-is_marker_line-2-clause-counts g c = counts_append _ _ _ _ _ _ c.loop.invariant.counts c.in-End.ensures.counts
+
+pub returns-else-is_marker_line-2-clause-counts : goal.returns-else-is_marker_line-2-clause-counts
+returns-else-is_marker_line-2-clause-counts g c = counts_append _ _ _ _ _ _ c.loop.invariant.counts c.in-End.ensures.counts
+
+pub returns-in-Failed-clause-counts : goal.returns-in-Failed-clause-counts
+returns-in-Failed-clause-counts g c = counts_append _ _ _ _ _ _ c.loop.invariant.counts c.in-Failed.ensures.counts

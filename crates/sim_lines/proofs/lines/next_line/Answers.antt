@@ -2,6 +2,7 @@ use Rattle.std.proofs.Common.{◌≡◌, ◌<◌, ◌≤◌, ◌++◌, ◌∷◌
 use Rattle.std.proofs.lemmas.Grind.{common_steps}
 use Rattle.sim_lines.proofs.Fronts.{at_line_end, more_kept, more_same, at_last, at_failure}
 use Rattle.sim_lines.proofs.Spending.{byte_spent, less_byte, less_end, used_up, nothing_spent}
+use Rattle.sim_lines.proofs.Counting.{counts_append}
 use Rattle.sim_lines.proofs.lines.next_line.Goals as goal
 use Rattle.sim_lines.proofs.lines.next_line.Goals.{else-len-lt-KEPT-via-then-len-lt-KEPT+else-is_err, else-len-lt-KEPT-via-else-len-lt-KEPT}
 
@@ -46,7 +47,23 @@ loop-byte-preserved g c = record {
         (ap (λ v. v.items) w.line-is)
   ];
   spent = byte_spent _ _ _ _ c.loop-byte.invariant.spent c.in-Byte.ensures.spends;
+  counts = counts_append _ _ _ _ _ _ c.loop-byte.invariant.counts c.in-Byte.ensures.counts;
 }
 
 pub loop-byte-smaller : goal.loop-byte-smaller
 loop-byte-smaller g c = less_byte _ _ _ _ (nothing_spent _) c.in-Byte.ensures.spends
+
+pub returns-then-byte-eq10-clause-counts : goal.returns-then-byte-eq10-clause-counts
+returns-then-byte-eq10-clause-counts g c = counts_append _ _ _ _ _ _ c.loop-byte.invariant.counts c.in-Byte.ensures.counts
+
+pub returns-then-is_err-clause-counts : goal.returns-then-is_err-clause-counts
+returns-then-is_err-clause-counts g c = counts_append _ _ _ _ _ _ c.loop-byte.invariant.counts c.in-Byte.ensures.counts
+
+pub returns-then-is_empty-clause-counts : goal.returns-then-is_empty-clause-counts
+returns-then-is_empty-clause-counts g c = counts_append _ _ _ _ _ _ c.loop-byte.invariant.counts c.in-End.ensures.counts
+
+pub returns-else-is_empty-clause-counts : goal.returns-else-is_empty-clause-counts
+returns-else-is_empty-clause-counts g c = counts_append _ _ _ _ _ _ c.loop-byte.invariant.counts c.in-End.ensures.counts
+
+pub returns-in-Failed-clause-counts : goal.returns-in-Failed-clause-counts
+returns-in-Failed-clause-counts g c = counts_append _ _ _ _ _ _ c.loop-byte.invariant.counts c.in-Failed.ensures.counts
