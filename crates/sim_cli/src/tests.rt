@@ -1,3 +1,8 @@
+ghost use Rattle.std.specs.Prelude.{IfSome};
+ghost use Rattle.sim_scenario.specs.Hosts.{IsNumbered};
+ghost use Rattle.sim_scenario.specs.Limits.{IsWithinLimits};
+ghost use Rattle.sim_scenario.specs.Seen.{seen};
+
 use super::*;
 use sim_book::{Book, Reply};
 use sim_lines::{Ahead, read_head};
@@ -248,7 +253,10 @@ impl Write for Nowhere {
 }
 
 /// The scenario that a reader gives, where it gives one.
-fn read_text<R: Read>(alloc: Global, reader: &mut R, ahead: &mut Ahead) -> Option<ScenarioText> {
+fn read_text<R: Read>(alloc: Global, reader: &mut R, ahead: &mut Ahead) -> Option<ScenarioText>
+    ensures numbered { IfSome result (λ text. IsNumbered text.names) }
+    ensures within { IfSome result (λ text. IsWithinLimits (seen text)) }
+{
     let Ok(text) = read_head(alloc, reader, ahead) else {
         return None;
     };
