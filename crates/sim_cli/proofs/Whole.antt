@@ -1,5 +1,5 @@
 -- A whole play: the scenario's text, and then the script.
-use Rattle.std.proofs.Common.{◌≡◌, ◌<◌, ◌≤◌, arith, List, [], ◌∷◌, ◌++◌, length, refl, sym, ◌∙◌, ap, append_assoc, append-nil, inl, inr, ◌⊎◌, Option, Some, None, Result, Ok, Err, MatchResult, IsOk, IsErr}
+use Rattle.std.proofs.Common.{◌≡◌, ◌<◌, arith, List, [], ◌∷◌, ◌++◌, length, refl, sym, ◌∙◌, ap, append_assoc, append-nil, inl, inr, ◌⊎◌, Option, Some, None, Result, Ok, Err, MatchResult, IsOk, IsErr}
 use Rattle.std.specs.Io.KnownBytes.{IsAtEnd, Appends, Keeps, prepend_known}
 use Rattle.std.specs.Str.Lines.{lines}
 use Rattle.sim_lines.specs.Cut.{head_of, whole_lines}
@@ -16,7 +16,7 @@ use Rattle.sim_cli.specs.declared.status.Status.TheVariants.{Well, BadScenario, 
 use Rattle.sim_script.specs.Script.{Text, Names}
 use Rattle.sim_cli.specs.Lines.{fault_line}
 use Rattle.sim_cli.specs.Turns.{Course, beginning}
-use Rattle.sim_cli.specs.Play.{Nodes, Tells, TellsLines, TellsTo, Ended, Plays, PlaysOn, Played, ReadsHead, IsWithinReads, TellsAll, TellsWhole, out_of, read_scenario, names_of}
+use Rattle.sim_cli.specs.Play.{Nodes, Tells, TellsLines, Ended, Plays, PlaysOn, Played, ReadsHead, IsWithinReads, TellsAll, TellsWhole, out_of, read_scenario, names_of}
 use Rattle.sim_cli.specs.Answers.{Writes, Faults}
 use Rattle.sim_cli.proofs.Readings.{too_long}
 use Rattle.sim_cli.proofs.Runs.{known, at_end_of, rest_of, tells_lines}

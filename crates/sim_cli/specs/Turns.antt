@@ -6,7 +6,7 @@ use Rattle.sim_book.specs.declared.Entry.{Entry}
 use Rattle.sim_book.specs.declared.NotTaken.{NotTaken}
 use Rattle.sim_book.specs.declared.NotTaken.TheVariants.{HistoryFull, NoMemory}
 use Rattle.sim_book.specs.Book.{Book, opening}
-use Rattle.sim_book.specs.Answer.{answer, after}
+use Rattle.sim_book.specs.Answer.{after}
 use Rattle.sim_book.specs.History.{IsTurn}
 use Rattle.sim_book.specs.Kept.{BookView, all_shown}
 

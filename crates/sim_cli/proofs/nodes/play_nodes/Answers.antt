@@ -5,7 +5,7 @@ use Rattle.sim_world.specs.World.{Scenario}
 use Rattle.sim_world.specs.Events.{rules}
 use Rattle.sim_scenario.specs.Seen.{seen}
 use Rattle.sim_cli.specs.Play.{scenario}
-use Rattle.sim_cli.specs.Turns.{Course, beginning, course_of}
+use Rattle.sim_cli.specs.Turns.{beginning, course_of}
 use Rattle.sim_cli.proofs.Whole.{play_begun, wants_script}
 use Rattle.sim_cli.proofs.nodes.play_nodes.Goals as goal
 
