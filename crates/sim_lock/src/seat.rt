@@ -34,3 +34,14 @@ pub struct Seat<B: Kept> {
     ghost bare: { raw.me.1 ≡ [] },
     ghost number: { session ≡ session_in raw.me.0 },
 }
+
+impl<B: Kept> Seat<B> {
+    ghost use Rattle.sim_lock.specs.Seats.{session};
+
+    /// The number of the seat's session, from 0.
+    pub fn session(&self) -> u8
+        ensures { result ≡ session self.now }
+    {
+        self.session
+    }
+}
