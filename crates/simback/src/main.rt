@@ -1,55 +1,58 @@
 //! The program `simback`: a simulated cluster that can be walked backwards.
 //!
-//! `simback play` reads a scenario and a script from the standard input, and writes a line for each command.
+//! `simback play` reads a scenario and a script from the standard input, and writes a line for each command. `simback search` looks
+//! for the first place of that run at which a condition fails, and `simback sweep` for the first seed with such a place.
 #![tactic(auto)]
 
-use sim_cli::{Status, play};
-use std::alloc::Global;
+use sim_perform::{LineFault, Status, job, perform};
 use std::process::ExitCode;
+use std::rt::{Clock, Env};
+use std::sync::Wait;
+use std::thread::Threads;
 use std::{env, io};
 
-const USAGE: &str = "\
-usage: simback play
+// The words of the command line, the first of which names the program.
+fn words<R: Env + AllocGlobal>(rt: &R) -> io::Result<Vec<String>> {
+    let mut words = Vec::new(rt.alloc());
+    for word in env::args(rt)? {
+        words.push(word)?;
+    }
+    Ok(words)
+}
 
-play    reads a scenario, a line `---` and a script from the standard input,
-        and writes one line for each command of the script
+// Tells why there is no job: help on the standard output, a mistake on the standard error. Where that takes nothing, there is nobody
+// to tell.
+fn tell<R: Print + Eprint>(rt: &R, fault: &LineFault) -> u8 {
+    let _told = match fault {
+        LineFault::Help(text) => print!(rt; "{text}"),
+        LineFault::Usage(text) => eprint!(rt; "{text}"),
+        LineFault::NoMemory => Ok(()),
+    };
+    fault.status()
+}
 
-status  0  the script was answered
-        1  there is no scenario; its fault was written, as
-           `scenario fault 4 tick`: docs/SCENARIO.md explains each
-        2  the command line is wrong
-        3  the input or the output failed
-        4  there was not enough memory
-";
-
-/// Whether the words of a command line, the first of which names the program, are `play` alone.
-fn asks_play(mut words: env::Args<Global>) -> bool {
-    words.next();
-    match (words.next(), words.next()) {
-        (Some(word), None) => word.as_str() == "play",
-        _ => false,
+// Carries out what the words ask for, and answers the exit status.
+fn run<R: Threads + Wait + Sync + Clock + Input + Print + Eprint + AllocGlobal>(
+    rt: &R,
+    words: &[String],
+) -> u8 {
+    match job(rt.alloc(), words) {
+        Ok(asked) => {
+            let mut reader = rt.reader();
+            let mut writer = io::writer(rt);
+            perform(rt, rt.alloc(), &asked, &mut reader, &mut writer).number()
+        }
+        Err(fault) => tell(rt, &fault),
     }
 }
 
-/// Tells how the program is called. Where the standard error takes nothing, there is nobody to tell.
-fn tell_usage<R: Eprint>(rt: &R) -> Status {
-    let _told = eprint!(rt; "{USAGE}");
-    Status::BadRequest
-}
-
 fn main(rt: HostRuntime) -> ExitCode {
-    let status = match env::args(&rt) {
-        Ok(words) => {
-            if asks_play(words) {
-                play(rt.alloc(), &mut rt.reader(), &mut io::writer(&rt))
-            } else {
-                tell_usage(&rt)
-            }
-        }
+    let number = match words(&rt) {
+        Ok(words) => run(&rt, &words),
         Err(fault) => match fault.kind() {
-            io::ErrorKind::OutOfMemory => Status::MemoryWanted,
-            _ => tell_usage(&rt),
+            io::ErrorKind::OutOfMemory => Status::MemoryWanted.number(),
+            _ => Status::BadRequest.number(),
         },
     };
-    ExitCode::from(status.number())
+    ExitCode::from(number)
 }

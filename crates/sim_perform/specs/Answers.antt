@@ -1,0 +1,40 @@
+-- What a search and a sweep answer, and the lines that tell it.
+use Rattle.std.specs.Prelude.{ℕ, codes, List, ◌++◌, Bool, true, false, Option, Some, None, Result, Ok, Err, ◌≡◌}
+use Rattle.std.specs.Fmt.{decimal}
+use Rattle.sim_search.specs.declared.SearchFault.{SearchFault}
+use Rattle.sim_search.specs.declared.SearchFault.TheVariants as fault
+use Rattle.sim_perform.specs.declared.answer.Answer.{Answer}
+use Rattle.sim_perform.specs.declared.answer.Answer.TheVariants.{Place, Seed, Nowhere, BadRange, BadCondition}
+
+abbrev pub answer_words : Answer → List ℕ
+answer_words (Place p) = codes "first " ++ decimal p
+answer_words (Seed i p) = codes "seed " ++ decimal i ++ codes " place " ++ decimal p
+answer_words Nowhere = codes "none"
+answer_words BadRange = codes "bad range"
+answer_words BadCondition = codes "bad condition"
+
+abbrev pub answer_line : Answer → List ℕ
+answer_line a = answer_words a ++ codes "\n"
+
+-- whether it tells that the request was wrong
+abbrev pub is_refused : Answer → Bool
+is_refused BadRange = true
+is_refused BadCondition = true
+is_refused _ = false
+
+-- the first place, or nowhere
+abbrev pub at_place : Option ℕ → Answer
+at_place (Some p) = Place p
+at_place None = Nowhere
+
+-- the first seed with its first place, or nowhere
+abbrev pub at_seed : Option (ℕ × ℕ) → Answer
+at_seed (Some found) = Seed found.0 found.1
+at_seed None = Nowhere
+
+-- what was found is told, or the fault; want of memory is no answer
+abbrev pub Tells : {A : Type 0} → (A → Answer) → Result A SearchFault → Answer → Type 0
+Tells tell (Ok found) a = a ≡ tell found
+Tells tell (Err fault.BadRange) a = a ≡ BadRange
+Tells tell (Err fault.BadCondition) a = a ≡ BadCondition
+Tells tell (Err fault.NoMemory) a = ⊥
