@@ -9,3 +9,6 @@ mod progress;
 pub use performing::perform;
 pub use sim_cli::Status;
 pub use sim_job::{Job, LineFault, job};
+
+#[cfg(test)]
+mod tests;
