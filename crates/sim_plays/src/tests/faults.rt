@@ -1,0 +1,105 @@
+//! Scenarios that are none, and plays without a script.
+use super::scenes::{FORMATS, Scene, TWO_PINGS, played, scenario};
+use sim_cli::Status;
+use std::alloc::Global;
+use std::process::Abort;
+use std::test::Fail;
+
+/// Wants the line of a fault, with a script after the scenario and without.
+fn is_bad(rt: &impl Abort, alloc: Global, text: &[u8], want: &str) -> Result<(), Fail> {
+    for end in ["", "---\nstep\n"] {
+        let mut input = Vec::from_slice(alloc, text)?;
+        if !end.is_empty() && !text.is_empty() && !text.ends_with(b"\n") {
+            input.push(b'\n')?;
+        }
+        input.extend_from_slice(end.as_bytes())?;
+        let (status, written) = played(alloc, input.as_slice());
+        let line = format!(in alloc; "scenario fault {want}\n")?;
+        assert_eq!(rt; str::from_utf8(written.as_slice())?, line.as_str());
+        assert!(rt; status == Status::BadScenario, "{want}");
+    }
+    Ok(())
+}
+
+#[test]
+fn tells_the_fault_of_a_text(rt: HostRuntime) -> Result<(), Fail> {
+    let alloc = rt.alloc();
+    let mut long = Vec::new(alloc);
+    for _ in 0..65_537 {
+        long.push(b'#')?;
+    }
+    is_bad(&rt, alloc, long.as_slice(), "1 text")?;
+    is_bad(&rt, alloc, b"", "4 format")?;
+    is_bad(&rt, alloc, b"\xff\n", "2 text")?;
+    is_bad(&rt, alloc, b"format = 1\n[", "2 text")?;
+    is_bad(
+        &rt,
+        alloc,
+        b"format = 1\nseed = \"0000000000000000000000000000000000000000000000000000000000000000\"\nprotocol = \"echo\"\n",
+        "4 tick",
+    )
+}
+
+#[test]
+fn tells_the_fault_of_a_key(rt: HostRuntime) -> Result<(), Fail> {
+    let alloc = rt.alloc();
+    let rows = [
+        (FORMATS[0], "seed = \"00", "seed = \"0", "6 seed"),
+        (FORMATS[0], "format = 1", "format = \"1\"", "5 format"),
+        (FORMATS[0], "format = 1", "format = 3", "8 format"),
+        (FORMATS[0], "\"echo\"", "\"paxos\"", "7 protocol"),
+        (FORMATS[0], "ops = 2", "ops = 0", "9 client"),
+        (FORMATS[0], "name = \"w\"", "name = \"W\"", "10 client"),
+        (FORMATS[0], "name = \"w\"", "name = \"a\"", "12 client"),
+    ];
+    for (format, old, new, want) in rows {
+        let text = scenario(alloc, format, TWO_PINGS, 4, 2)?;
+        let text = text.as_str().replacen(alloc, old, new, 1)?;
+        is_bad(&rt, alloc, text.as_bytes(), want)?;
+    }
+    Ok(())
+}
+
+const TO_NO_HOST: &str =
+    "[[link]]\nsource = \"w\"\ntarget = \"z\"\nlatency_min = 3\nlatency_max = 3\nloss = 0\n";
+
+const ONE: &str =
+    "[[link]]\nsource = \"w\"\ntarget = \"a\"\nlatency_min = 3\nlatency_max = 3\nloss = 0\n";
+
+const TWICE: &str =
+    "[[link]]\nsource = \"w\"\ntarget = \"a\"\nlatency_min = 3\nlatency_max = 3\nloss = 0\n[[link]]\nsource = \"w\"\ntarget = \"a\"\nlatency_min = 3\nlatency_max = 3\nloss = 0\n";
+
+const ITSELF: &str =
+    "[[link]]\nsource = \"w\"\ntarget = \"w\"\nlatency_min = 3\nlatency_max = 3\nloss = 0\n";
+
+#[test]
+fn tells_the_fault_of_a_link(rt: HostRuntime) -> Result<(), Fail> {
+    let alloc = rt.alloc();
+    let rows = [
+        (FORMATS[1], TO_NO_HOST, "13 link"),
+        (FORMATS[1], ITSELF, "13 link"),
+        (FORMATS[1], TWICE, "14 link"),
+        ("format = 2\n", ONE, "4 disk_latency"),
+        (FORMATS[0], ONE, "3 link"),
+        ("format = 1\ndisk_latency = 0\n", ONE, "3 disk_latency"),
+        ("format = 3\ndisk_latency = 0\n", ONE, "3 disk_latency"),
+    ];
+    for (format, links, want) in rows {
+        let scene = Scene { links, ..TWO_PINGS };
+        let text = scenario(alloc, format, scene, 4, 2)?;
+        is_bad(&rt, alloc, text.as_bytes(), want)?;
+    }
+    Ok(())
+}
+
+#[test]
+fn writes_nothing_without_a_script(rt: HostRuntime) -> Result<(), Fail> {
+    let alloc = rt.alloc();
+    for format in FORMATS {
+        let text = scenario(alloc, format, TWO_PINGS, 4, 2)?;
+        let (status, written) = played(alloc, text.as_bytes());
+        assert_eq!(rt; status, Status::Well);
+        assert!(rt; written.is_empty());
+    }
+    Ok(())
+}

@@ -1,0 +1,171 @@
+//! Plays of two pings.
+use super::scenes::{FORMATS, LATE, LOSSY, Scene, TWO_PINGS, plays};
+use std::test::Fail;
+
+/// All that can happen to the two pings.
+const FIRST_RUN: &str = "step; step; step; step; step; step; step; look";
+
+const FIRST_ANSWERS: &str =
+    "place 1 clock 0; place 2 clock 0; place 3 clock 10; place 4 clock 20; place 5 clock 30; place 6 clock 40; refused 7 Idle; place 6 clock 40 serial 6 net 8 torn 0 pending 0 held 0";
+
+/// Scripts, with what is written for them.
+const ROWS: [(Scene, &str, &str); 14] = [
+    (TWO_PINGS, FIRST_RUN, FIRST_ANSWERS),
+    // 2917185654 mod 10 is 4, and 3848953152 mod 10 is 2.
+    (
+        LATE,
+        "step; step; look next; step; look next",
+        "place 1 clock 0; place 2 clock 0; due 14 serial 2 host a message; place 3 clock 14; due 26 serial 3 host w message",
+    ),
+    // 2419978656 mod 1000 is 656, and 683509331 mod 1000 is 331.
+    (
+        LOSSY,
+        "step; step; step; step; look",
+        "place 1 clock 0; place 2 clock 0; place 3 clock 14; refused 7 Idle; place 3 clock 14 serial 3 net 4 torn 0 pending 0 held 0",
+    ),
+    (
+        TWO_PINGS,
+        "cutoneway w a; step; step; step; look link w a; look link a w; look",
+        "place 1 clock 0; place 2 clock 0; place 3 clock 0; refused 7 Idle; w a cut messages 0; a w open messages 0; place 3 clock 0 serial 2 net 0 torn 0 pending 0 held 0",
+    ),
+    (
+        TWO_PINGS,
+        "hold a w; step; step; look link w a; release a w; look next; step; look",
+        "place 1 clock 0; place 2 clock 0; place 3 clock 0; w a held messages 1; place 4 clock 0; due 0 serial 2 host a message; place 5 clock 0; place 5 clock 0 serial 4 net 2 torn 0 pending 1 held 0",
+    ),
+    (
+        TWO_PINGS,
+        "hold a w; step; step; look link w a; release a w; back 1; look; forward 1; look next",
+        "place 1 clock 0; place 2 clock 0; place 3 clock 0; w a held messages 1; place 4 clock 0; place 3 clock 0; place 3 clock 0 serial 2 net 0 torn 0 pending 0 held 1; place 4 clock 0; due 0 serial 2 host a message",
+    ),
+    (
+        TWO_PINGS,
+        "crash a; look; crash a; look; back 1; look; forward 1; bounce a; look",
+        "place 1 clock 0; place 1 clock 0 serial 2 net 0 torn 0 pending 1 held 0; place 2 clock 0; place 2 clock 0 serial 2 net 0 torn 0 pending 1 held 0; place 1 clock 0; place 1 clock 0 serial 2 net 0 torn 0 pending 1 held 0; place 2 clock 0; place 3 clock 0; place 3 clock 0 serial 3 net 0 torn 0 pending 2 held 0",
+    ),
+    (
+        TWO_PINGS,
+        "crash a; step; step; step; look; bounce a; look next; step; look host a",
+        "place 1 clock 0; place 2 clock 0; place 3 clock 10; refused 7 Idle; place 3 clock 10 serial 3 net 2 torn 0 pending 0 held 0; place 4 clock 10; due 10 serial 3 host a start; place 5 clock 10; a up done no draws 1 stable 0 unsynced 0",
+    ),
+    (
+        TWO_PINGS,
+        "tick; tick; trace",
+        "place 7 clock 100 all done; place 8 clock 200 all done; {\"branch\":0,\"events\":[\"step\",\"step\",\"step\",\"step\",\"step\",\"step\",\"advance 100\",\"advance 200\"]}",
+    ),
+    (
+        TWO_PINGS,
+        "trace; crash a; bounce a; hold a w; release w a; partition a w; repair w a; cutoneway w a; repaironeway a w; trace",
+        "{\"branch\":0,\"events\":[]}; place 1 clock 0; place 2 clock 0; place 3 clock 0; place 4 clock 0; place 5 clock 0; place 6 clock 0; place 7 clock 0; place 8 clock 0; {\"branch\":0,\"events\":[\"crash a\",\"bounce a\",\"hold a w\",\"release w a\",\"partition a w\",\"repair w a\",\"cutoneway w a\",\"repaironeway a w\"]}",
+    ),
+    (
+        TWO_PINGS,
+        "watch w.next <= 1; run 100; unwatch 0; run 100",
+        "made 0; place 4 clock 20 watch 0; dropped 0; place 6 clock 40 all done",
+    ),
+    (
+        TWO_PINGS,
+        "watch w.next < 2; crash w; run 9",
+        "made 0; place 1 clock 0; place 2 clock 0 idle",
+    ),
+    (
+        TWO_PINGS,
+        "crash z; hold a a; @9 step; unwatch 0; jump 3; look probe w next; look host w",
+        "refused 2 UnknownHost; refused 3 SameHost; refused 1 UnknownBranch; refused 10 UnknownWatch; bad line; w next 0; w up done no draws 0 stable 0 unsynced 0",
+    ),
+    // A condition's hosts and probes are looked for when it is kept.
+    (
+        TWO_PINGS,
+        "watch up z; watch z.next = 0; watch a.none = 0; watch agree none unless 0; watch up a and done w and a.served != 7 and agree next unless 1; watch up a and; look probe a none",
+        "refused 2 UnknownHost; refused 2 UnknownHost; refused 11 BadCondition; refused 11 BadCondition; made 0; bad line; refused 11 BadCondition",
+    ),
+];
+
+/// What is asked after the first run, with what is written.
+const AFTER_FIRST_RUN: [(&str, &str); 10] = [
+    (
+        "back 6; look; forward 6; look",
+        "place 0 clock 0; place 0 clock 0 serial 2 net 0 torn 0 pending 2 held 0; place 6 clock 40; place 6 clock 40 serial 6 net 8 torn 0 pending 0 held 0",
+    ),
+    (
+        "goto 5; goto 1; goto 4; goto 2",
+        "place 5 clock 30; place 1 clock 0; place 4 clock 20; place 2 clock 0",
+    ),
+    (
+        "back 2; step; cut; step; step",
+        "place 4 clock 20; refused 4 NotAtEnd; place 4 clock 20; place 5 clock 30; place 6 clock 40",
+    ),
+    (
+        "back 7; forward 1; branch 7; back 0",
+        "refused 5 TooFar; refused 5 TooFar; refused 5 TooFar; place 6 clock 40",
+    ),
+    (
+        "back 6; look; step; back 1; @1 step",
+        "place 0 clock 0; place 0 clock 0 serial 2 net 0 torn 0 pending 2 held 0; refused 4 NotAtEnd; refused 5 TooFar; refused 1 UnknownBranch",
+    ),
+    (
+        "back 1; hold a a; hold z z; hold a w; goto 9",
+        "place 5 clock 30; refused 3 SameHost; refused 2 UnknownHost; refused 4 NotAtEnd; refused 5 TooFar",
+    ),
+    (
+        "watch w.next != 2; rewind 6; rewind 6; unwatch 0; rewind 5",
+        "made 0; place 5 clock 30 watch 0; refused 5 TooFar; dropped 0; place 0 clock 0",
+    ),
+    (
+        "look host w; look probe a served; look probe w next; look next",
+        "w up done yes draws 3 stable 0 unsynced 0; a served 2; w next 3; none",
+    ),
+    (
+        "run 5; goto 3; run 1; tick; rewind 0; watch done w",
+        "refused 7 Idle; place 3 clock 10; refused 4 NotAtEnd; refused 4 NotAtEnd; place 3 clock 10; made 0",
+    ),
+    (
+        "back 1; back 2; look next; look host w",
+        "place 5 clock 30; place 3 clock 10; due 20 serial 3 host w message; w up done no draws 1 stable 0 unsynced 0",
+    ),
+];
+
+#[test]
+fn plays_the_rows(rt: HostRuntime) -> Result<(), Fail> {
+    for (scene, script, want) in ROWS {
+        plays(&rt, rt.alloc(), FORMATS.as_slice(), scene, script, want)?;
+    }
+    Ok(())
+}
+
+/// A tick adds at most 1,024 events.
+#[test]
+fn ends_a_long_tick(rt: HostRuntime) -> Result<(), Fail> {
+    let scene = Scene {
+        least: 0,
+        greatest: 0,
+        ops: 511,
+        ..TWO_PINGS
+    };
+    plays(
+        &rt,
+        rt.alloc(),
+        FORMATS.as_slice(),
+        scene,
+        "run 0; tick; tick; back 1; tick",
+        "place 0 clock 0; place 1024 clock 0 long; place 1025 clock 100 all done; place 1024 clock 0; refused 4 NotAtEnd",
+    )
+}
+
+#[test]
+fn goes_on_after_the_first_run(rt: HostRuntime) -> Result<(), Fail> {
+    let alloc = rt.alloc();
+    for (more, told) in AFTER_FIRST_RUN {
+        let script = format!(in alloc; "{FIRST_RUN}; {more}")?;
+        let want = format!(in alloc; "{FIRST_ANSWERS}; {told}")?;
+        plays(
+            &rt,
+            alloc,
+            FORMATS.as_slice(),
+            TWO_PINGS,
+            script.as_str(),
+            want.as_str(),
+        )?;
+    }
+    Ok(())
+}
