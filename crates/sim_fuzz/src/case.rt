@@ -1,0 +1,135 @@
+//! A case: an input at random, and what is to be written for it.
+use crate::answering::Branches;
+use crate::asking::{Asker, Line};
+use crate::dice::Dice;
+use crate::naming::Naming;
+use crate::plain::Trouble;
+use crate::setting::Setting;
+use sim_cli::{Status, Tally, play};
+use sim_node::Node;
+use sim_protocols::{AbdRegister, Echo, PrimaryBackup, Protocol, TwoPhase, probe_name};
+use std::alloc::{AllocError, Global};
+
+/// The most probes of a protocol.
+const MOST_PROBES: u8 = 16;
+
+/// An input, and what is to be written for it.
+#[derive(Drop)]
+pub struct Case {
+    pub input: String,
+    /// What a play is to write.
+    pub expected: String,
+}
+
+/// What a play wrote, and how it ended.
+#[derive(Drop)]
+pub struct Written {
+    pub status: Status,
+    pub text: Vec<u8>,
+}
+
+/// How many probes a protocol has.
+fn probes(protocol: Protocol) -> u8 {
+    let mut count = 0;
+    for probe in 0..MOST_PROBES {
+        if probe_name(protocol, probe).is_some() {
+            count = probe + 1;
+        }
+    }
+    count
+}
+
+/// So many lines of a script, which are written to the input.
+fn script(
+    alloc: Global,
+    asker: &mut Asker,
+    naming: Naming,
+    count: u32,
+    input: &mut String,
+) -> Result<Vec<Line>, AllocError> {
+    let mut lines = Vec::new(alloc);
+    for _line in 0..count {
+        let line = asker.line(alloc)?;
+        naming.line(input, &line)?;
+        lines.push(line)?;
+    }
+    Ok(lines)
+}
+
+/// What a play of the lines is to write.
+fn expected<N: Node>(
+    alloc: Global,
+    setting: &Setting,
+    naming: Naming,
+    lines: &[Line],
+    meter: N::Meter,
+) -> Result<String, Trouble> {
+    let Some(scenario) = setting.scenario() else {
+        return Err(Trouble::Impossible);
+    };
+    let mut meter = meter;
+    let mut branches = Branches::new(alloc, scenario)?;
+    let mut play = String::new(alloc);
+    for line in lines {
+        match line {
+            Line::Nothing(_) => {}
+            Line::Bad(_) => write!(play, "bad line\n")?,
+            Line::Asked(branch, ask) => {
+                let answer = branches.answer::<N>(*branch, ask, &mut meter)?;
+                naming.answer(&mut play, *branch, branches.events(*branch), answer)?;
+            }
+        }
+    }
+    Ok(play)
+}
+
+impl Case {
+    /// The case of a number.
+    pub fn new(alloc: Global, number: u64) -> Result<Case, Trouble> {
+        let mut dice = Dice::new(number);
+        let setting = Setting::some(&mut dice);
+        let naming = Naming {
+            protocol: setting.protocol,
+            servers: setting.servers,
+            hosts: setting.hosts,
+        };
+        let mut input = String::new(alloc);
+        setting.write(alloc, &mut input)?;
+        write!(input, "---\n")?;
+        let count = 1 + dice.below(60);
+        let mut asker = Asker {
+            dice,
+            hosts: setting.hosts,
+            probes: probes(setting.protocol),
+        };
+        let lines = script(alloc, &mut asker, naming, count, &mut input)?;
+        let lines = lines.as_slice();
+        let meter = Tally::new();
+        let expected = match setting.protocol {
+            Protocol::Echo => { expected::<Echo<Tally>>(alloc, &setting, naming, lines, meter)? }
+            Protocol::PrimaryBackup => {
+                expected::<PrimaryBackup<Tally>>(alloc, &setting, naming, lines, meter)?
+            }
+            Protocol::AbdRegister => {
+                expected::<AbdRegister<Tally>>(alloc, &setting, naming, lines, meter)?
+            }
+            Protocol::TwoPhase => {
+                expected::<TwoPhase<Tally>>(alloc, &setting, naming, lines, meter)?
+            }
+        };
+        Ok(Case { input, expected })
+    }
+
+    /// What the play writes where it is not what it is to write.
+    pub fn wrong_play(&self, alloc: Global) -> Option<Written> {
+        let mut reader = self.input.as_bytes();
+        let mut text = Vec::new(alloc);
+        let status = play(alloc, &mut reader, &mut text);
+        let same = status == Status::Well && text.as_slice() == self.expected.as_bytes();
+        if same {
+            None
+        } else {
+            Some(Written { status, text })
+        }
+    }
+}
