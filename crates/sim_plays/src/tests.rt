@@ -1,9 +1,7 @@
 //! What is written for what is read. What is expected was worked out by hand from the rules.
-mod branches;
 mod examples;
 mod faults;
 mod full;
 mod lines;
-mod protocols;
 mod rows;
 mod scenes;

@@ -1,5 +1,5 @@
 //! Scenarios that are none, and plays without a script.
-use super::scenes::{FORMATS, Scene, TWO_PINGS, played, scenario};
+use super::scenes::{FORMAT_1, FORMAT_2, Scene, TWO_PINGS, played, scenario};
 use sim_cli::Status;
 use std::alloc::Global;
 use std::process::Abort;
@@ -21,45 +21,6 @@ fn is_bad(rt: &impl Abort, alloc: Global, text: &[u8], want: &str) -> Result<(),
     Ok(())
 }
 
-#[test]
-fn tells_the_fault_of_a_text(rt: HostRuntime) -> Result<(), Fail> {
-    let alloc = rt.alloc();
-    let mut long = Vec::new(alloc);
-    for _ in 0..65_537 {
-        long.push(b'#')?;
-    }
-    is_bad(&rt, alloc, long.as_slice(), "1 text")?;
-    is_bad(&rt, alloc, b"", "4 format")?;
-    is_bad(&rt, alloc, b"\xff\n", "2 text")?;
-    is_bad(&rt, alloc, b"format = 1\n[", "2 text")?;
-    is_bad(
-        &rt,
-        alloc,
-        b"format = 1\nseed = \"0000000000000000000000000000000000000000000000000000000000000000\"\nprotocol = \"echo\"\n",
-        "4 tick",
-    )
-}
-
-#[test]
-fn tells_the_fault_of_a_key(rt: HostRuntime) -> Result<(), Fail> {
-    let alloc = rt.alloc();
-    let rows = [
-        (FORMATS[0], "seed = \"00", "seed = \"0", "6 seed"),
-        (FORMATS[0], "format = 1", "format = \"1\"", "5 format"),
-        (FORMATS[0], "format = 1", "format = 3", "8 format"),
-        (FORMATS[0], "\"echo\"", "\"paxos\"", "7 protocol"),
-        (FORMATS[0], "ops = 2", "ops = 0", "9 client"),
-        (FORMATS[0], "name = \"w\"", "name = \"W\"", "10 client"),
-        (FORMATS[0], "name = \"w\"", "name = \"a\"", "12 client"),
-    ];
-    for (format, old, new, want) in rows {
-        let text = scenario(alloc, format, TWO_PINGS, 4, 2)?;
-        let text = text.as_str().replacen(alloc, old, new, 1)?;
-        is_bad(&rt, alloc, text.as_bytes(), want)?;
-    }
-    Ok(())
-}
-
 const TO_NO_HOST: &str =
     "[[link]]\nsource = \"w\"\ntarget = \"z\"\nlatency_min = 3\nlatency_max = 3\nloss = 0\n";
 
@@ -72,34 +33,66 @@ const TWICE: &str =
 const ITSELF: &str =
     "[[link]]\nsource = \"w\"\ntarget = \"w\"\nlatency_min = 3\nlatency_max = 3\nloss = 0\n";
 
-#[test]
-fn tells_the_fault_of_a_link(rt: HostRuntime) -> Result<(), Fail> {
-    let alloc = rt.alloc();
-    let rows = [
-        (FORMATS[1], TO_NO_HOST, "13 link"),
-        (FORMATS[1], ITSELF, "13 link"),
-        (FORMATS[1], TWICE, "14 link"),
-        ("format = 2\n", ONE, "4 disk_latency"),
-        (FORMATS[0], ONE, "3 link"),
-        ("format = 1\ndisk_latency = 0\n", ONE, "3 disk_latency"),
-        ("format = 3\ndisk_latency = 0\n", ONE, "3 disk_latency"),
-    ];
-    for (format, links, want) in rows {
-        let scene = Scene { links, ..TWO_PINGS };
-        let text = scenario(alloc, format, scene, 4, 2)?;
-        is_bad(&rt, alloc, text.as_bytes(), want)?;
-    }
-    Ok(())
-}
+/// Texts that are no scenario.
+const TEXTS: [(&[u8], &str); 4] = [
+    (b"", "4 format"),
+    (b"\xff\n", "2 text"),
+    (b"format = 1\n[", "2 text"),
+    (
+        b"format = 1\nseed = \"0000000000000000000000000000000000000000000000000000000000000000\"\nprotocol = \"echo\"\n",
+        "4 tick",
+    ),
+];
+
+/// A format and links, and what stands in a scenario's text in place of what.
+const EDITS: [(&str, &str, &str, &str, &str); 14] = [
+    (FORMAT_1, "", "seed = \"00", "seed = \"0", "6 seed"),
+    (FORMAT_1, "", "format = 1", "format = \"1\"", "5 format"),
+    (FORMAT_1, "", "format = 1", "format = 3", "8 format"),
+    (FORMAT_1, "", "\"echo\"", "\"paxos\"", "7 protocol"),
+    (FORMAT_1, "", "ops = 2", "ops = 0", "9 client"),
+    (FORMAT_1, "", "name = \"w\"", "name = \"W\"", "10 client"),
+    (FORMAT_1, "", "name = \"w\"", "name = \"a\"", "12 client"),
+    (FORMAT_2, TO_NO_HOST, "", "", "13 link"),
+    (FORMAT_2, ITSELF, "", "", "13 link"),
+    (FORMAT_2, TWICE, "", "", "14 link"),
+    ("format = 2\n", ONE, "", "", "4 disk_latency"),
+    (FORMAT_1, ONE, "", "", "3 link"),
+    (
+        "format = 1\ndisk_latency = 0\n",
+        ONE,
+        "",
+        "",
+        "3 disk_latency",
+    ),
+    (
+        "format = 3\ndisk_latency = 0\n",
+        ONE,
+        "",
+        "",
+        "3 disk_latency",
+    ),
+];
 
 #[test]
-fn writes_nothing_without_a_script(rt: HostRuntime) -> Result<(), Fail> {
+fn tells_each_fault(rt: HostRuntime) -> Result<(), Fail> {
     let alloc = rt.alloc();
-    for format in FORMATS {
-        let text = scenario(alloc, format, TWO_PINGS, 4, 2)?;
-        let (status, written) = played(alloc, text.as_bytes());
-        assert_eq!(rt; status, Status::Well);
-        assert!(rt; written.is_empty());
+    let mut long = Vec::new(alloc);
+    for _ in 0..65_537 {
+        long.push(b'#')?;
     }
+    is_bad(&rt, alloc, long.as_slice(), "1 text")?;
+    for (text, want) in TEXTS {
+        is_bad(&rt, alloc, text, want)?;
+    }
+    for (format, links, old, new, want) in EDITS {
+        let text = scenario(alloc, format, Scene { links, ..TWO_PINGS }, 4, 2)?;
+        let text = text.as_str().replacen(alloc, old, new, 1)?;
+        is_bad(&rt, alloc, text.as_bytes(), want)?;
+    }
+    let whole = scenario(alloc, FORMAT_1, TWO_PINGS, 4, 2)?;
+    let (status, written) = played(alloc, whole.as_bytes());
+    assert_eq!(rt; status, Status::Well);
+    assert!(rt; written.is_empty());
     Ok(())
 }

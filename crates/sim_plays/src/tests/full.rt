@@ -1,100 +1,101 @@
 //! Tables that are full: branches, watches, commands, events and held messages.
-use super::scenes::{FORMATS, Scene, TWO_PINGS, TWO_SERVERS, lines, plays_at};
+use super::scenes::{FORMAT_1, Scene, TWO_PINGS, TWO_SERVERS, lines, plays_at};
 use std::alloc::{AllocError, Global};
-use std::process::Abort;
 use std::test::Fail;
 
-/// A line so many times.
-fn repeated(alloc: Global, line: &str, times: u32) -> Result<String, AllocError> {
-    let mut text = String::new(alloc);
-    for _ in 0..times {
-        text.push_str(line)?;
-    }
-    Ok(text)
-}
-
-/// A play that is long, so with one checkpoint and one window alone.
-fn plays_once(
-    rt: &impl Abort,
-    alloc: Global,
+/// A play that fills a table: a line so many times, and a script; and a line of the answers so many times, and other answers.
+#[derive(Clone, Copy)]
+struct Full {
     scene: Scene,
-    script: &str,
-    want: &str,
-) -> Result<(), Fail> {
-    plays_at(
-        rt,
-        alloc,
-        FORMATS[0],
-        scene,
-        [1024].as_slice(),
-        [2].as_slice(),
-        script,
-        want,
-    )
+    line: &'static str,
+    times: u32,
+    script: &'static str,
+    answer: &'static str,
+    answers: u32,
+    want: &'static str,
 }
 
-#[test]
-fn takes_64_branches(rt: HostRuntime) -> Result<(), Fail> {
-    let alloc = rt.alloc();
-    let mut script = repeated(alloc, "branch 0\n", 64)?;
-    script.push_str("@63 step\n@64 step\n")?;
-    let mut want = String::new(alloc);
-    for n in 1..64u32 {
-        let line = format!(in alloc; "made {n}\n")?;
-        want.push_str(line.as_str())?;
+const DEAF: Scene = Scene {
+    loss: 1000,
+    ..TWO_SERVERS
+};
+
+const ROWS: [Full; 5] = [
+    Full {
+        scene: TWO_PINGS,
+        line: "branch 0\n",
+        times: 64,
+        script: "@63 step; @64 step",
+        answer: "",
+        answers: 0,
+        want: "made 1; made 2; made 3; made 4; made 5; made 6; made 7; made 8; made 9; made 10; made 11; made 12; made 13; made 14; made 15; made 16; made 17; made 18; made 19; made 20; made 21; made 22; made 23; made 24; made 25; made 26; made 27; made 28; made 29; made 30; made 31; made 32; made 33; made 34; made 35; made 36; made 37; made 38; made 39; made 40; made 41; made 42; made 43; made 44; made 45; made 46; made 47; made 48; made 49; made 50; made 51; made 52; made 53; made 54; made 55; made 56; made 57; made 58; made 59; made 60; made 61; made 62; made 63; refused 8 BranchesFull; place 1 clock 0; refused 1 UnknownBranch",
+    },
+    Full {
+        scene: TWO_PINGS,
+        line: "watch up a\n",
+        times: 9,
+        script: "unwatch 3; watch up w",
+        answer: "",
+        answers: 0,
+        want: "made 0; made 1; made 2; made 3; made 4; made 5; made 6; made 7; refused 9 WatchesFull; dropped 3; made 3",
+    },
+    Full {
+        scene: TWO_PINGS,
+        line: "cut\n",
+        times: 65_536,
+        script: "cut",
+        answer: "place 0 clock 0\n",
+        answers: 65_536,
+        want: "not taken HistoryFull",
+    },
+    Full {
+        scene: DEAF,
+        line: "",
+        times: 0,
+        script: "run 999999999; look; step; back 1; step; cut; step",
+        answer: "",
+        answers: 0,
+        want: "place 65536 clock 13106600 full; place 65536 clock 13106600 serial 65537 net 131068 torn 0 pending 1 held 0; refused 6 EventsFull; place 65535 clock 13106400; refused 4 NotAtEnd; place 65535 clock 13106400; place 65536 clock 13106600",
+    },
+    Full {
+        scene: TWO_SERVERS,
+        line: "",
+        times: 0,
+        script: "hold a w; run 5000; look; release a w; look; back 1; look",
+        answer: "",
+        answers: 0,
+        want: "place 1 clock 0; place 5001 clock 999400; place 5001 clock 999400 serial 5001 net 0 torn 0 pending 1 held 4096; place 5002 clock 999400; place 5002 clock 999400 serial 9097 net 0 torn 0 pending 4097 held 0; place 5001 clock 999400; place 5001 clock 999400 serial 5001 net 0 torn 0 pending 1 held 4096",
+    },
+];
+
+/// A text so many times, and then these lines.
+fn repeated(alloc: Global, text: &str, times: u32, more: &str) -> Result<String, AllocError> {
+    let mut whole = String::new(alloc);
+    for _ in 0..times {
+        whole.push_str(text)?;
     }
-    want.push_str("refused 8 BranchesFull\nplace 1 clock 0\nrefused 1 UnknownBranch\n")?;
-    plays_once(&rt, alloc, TWO_PINGS, script.as_str(), want.as_str())
+    let more = lines(alloc, more)?;
+    whole.push_str(more.as_str())?;
+    Ok(whole)
 }
 
+/// Each with one checkpoint and one window alone, since these plays are long.
 #[test]
-fn takes_8_watches(rt: HostRuntime) -> Result<(), Fail> {
+fn fills_each_table(rt: HostRuntime) -> Result<(), Fail> {
     let alloc = rt.alloc();
-    let mut script = repeated(alloc, "watch up a\n", 9)?;
-    script.push_str("unwatch 3\nwatch up w\n")?;
-    let mut want = String::new(alloc);
-    for n in 0..8u32 {
-        let line = format!(in alloc; "made {n}\n")?;
-        want.push_str(line.as_str())?;
+    for row in ROWS {
+        let script = repeated(alloc, row.line, row.times, row.script)?;
+        let want = repeated(alloc, row.answer, row.answers, row.want)?;
+        plays_at(
+            &rt,
+            alloc,
+            FORMAT_1,
+            row.scene,
+            [1024].as_slice(),
+            [2].as_slice(),
+            script.as_str(),
+            want.as_str(),
+        )?;
     }
-    want.push_str("refused 9 WatchesFull\ndropped 3\nmade 3\n")?;
-    plays_once(&rt, alloc, TWO_PINGS, script.as_str(), want.as_str())
-}
-
-#[test]
-fn takes_65536_commands(rt: HostRuntime) -> Result<(), Fail> {
-    let alloc = rt.alloc();
-    let script = repeated(alloc, "cut\n", 65_537)?;
-    let mut want = repeated(alloc, "place 0 clock 0\n", 65_536)?;
-    want.push_str("not taken HistoryFull\n")?;
-    plays_once(&rt, alloc, TWO_PINGS, script.as_str(), want.as_str())
-}
-
-#[test]
-fn keeps_65536_events(rt: HostRuntime) -> Result<(), Fail> {
-    let alloc = rt.alloc();
-    let scene = Scene {
-        loss: 1000,
-        ..TWO_SERVERS
-    };
-    let script = lines(alloc, "run 999999999; look; step; back 1; step; cut; step")?;
-    let want = lines(
-        alloc,
-        "place 65536 clock 13106600 full; place 65536 clock 13106600 serial 65537 net 131068 torn 0 pending 1 held 0; refused 6 EventsFull; place 65535 clock 13106400; refused 4 NotAtEnd; place 65535 clock 13106400; place 65536 clock 13106600",
-    )?;
-    plays_once(&rt, alloc, scene, script.as_str(), want.as_str())
-}
-
-#[test]
-fn holds_4096_messages(rt: HostRuntime) -> Result<(), Fail> {
-    let alloc = rt.alloc();
-    let script = lines(
-        alloc,
-        "hold a w; run 5000; look; release a w; look; back 1; look",
-    )?;
-    let want = lines(
-        alloc,
-        "place 1 clock 0; place 5001 clock 999400; place 5001 clock 999400 serial 5001 net 0 torn 0 pending 1 held 4096; place 5002 clock 999400; place 5002 clock 999400 serial 9097 net 0 torn 0 pending 4097 held 0; place 5001 clock 999400; place 5001 clock 999400 serial 5001 net 0 torn 0 pending 1 held 4096",
-    )?;
-    plays_once(&rt, alloc, TWO_SERVERS, script.as_str(), want.as_str())
+    Ok(())
 }

@@ -1,5 +1,5 @@
-//! Lines that ask something, and lines that are bad.
-use super::scenes::{FORMATS, TWO_PINGS, played, plays, scenario};
+//! Lines that are bad, and lines as they come.
+use super::scenes::{FORMAT_1, TWO_PINGS, lines, played, scenario};
 use sim_cli::Status;
 use std::test::Fail;
 
@@ -72,7 +72,7 @@ const BAD: [&[u8]; 61] = [
 fn refuses_lines_that_are_no_commands(rt: HostRuntime) -> Result<(), Fail> {
     let alloc = rt.alloc();
     for line in BAD {
-        let text = scenario(alloc, FORMATS[0], TWO_PINGS, 4, 2)?;
+        let text = scenario(alloc, FORMAT_1, TWO_PINGS, 4, 2)?;
         let mut input = Vec::from_slice(alloc, text.as_bytes())?;
         input.extend_from_slice(b"---\n")?;
         input.extend_from_slice(line)?;
@@ -87,15 +87,41 @@ fn refuses_lines_that_are_no_commands(rt: HostRuntime) -> Result<(), Fail> {
     Ok(())
 }
 
-/// Each form of line, with each comparison and 8 terms; a host may be named as a keyword is.
+/// A line has at most 256 bytes and is read whatever its spaces; other lines are bad and change nothing.
 #[test]
-fn takes_each_form_of_line(rt: HostRuntime) -> Result<(), Fail> {
-    plays(
-        &rt,
-        rt.alloc(),
-        FORMATS.as_slice(),
-        TWO_PINGS,
-        "  @0   step  ; @000000000 tick; run 1; back 000000001; forward 1; goto 3; rewind 1; rewind 0; cut; branch 2; @1 step; @1 look; watch w.next < 9 and w.next <= 9 and w.next = 2 and w.next != 7 and w.next >= 1 and w.next > 0 and agree served unless 0 and up a; watch up and and done up; watch up agree; watch agree.next = 0; unwatch 000000000; partition a w; repair w a; cutoneway a w; repaironeway a w; hold w a; release w a; look link w a; bounce w; look host w; look probe w next; look probe a served; look next",
-        "place 1 clock 0; place 7 clock 100 all done; refused 7 Idle; place 6 clock 40; place 7 clock 100; place 3 clock 10; place 2 clock 0; place 2 clock 0; place 2 clock 0; made 1; place 3 clock 10; place 3 clock 10 serial 4 net 4 torn 0 pending 1 held 0; made 0; refused 2 UnknownHost; refused 2 UnknownHost; refused 2 UnknownHost; dropped 0; place 3 clock 0; place 4 clock 0; place 5 clock 0; place 6 clock 0; place 7 clock 0; place 8 clock 0; w a open messages 0; place 9 clock 0; w up done no draws 1 stable 0 unsynced 0; w next 0; a served 0; due 0 serial 3 host w start",
-    )
+fn takes_lines_as_they_come(rt: HostRuntime) -> Result<(), Fail> {
+    let alloc = rt.alloc();
+    let mut input = Vec::new(alloc);
+    let text = scenario(alloc, FORMAT_1, TWO_PINGS, 4, 2)?;
+    input.extend_from_slice(text.as_bytes())?;
+    input.extend_from_slice(
+        b"---\r\nstep\r\n# a comment \xff\n\n   \n\xff\n  step  \nback 0000000001\nback 000000001\nlook host z\nlook host Z\n",
+    )?;
+    input.extend_from_slice(
+        b"@0000000000 look\nwatch w.next < 00000000000000000001\nunwatch 0\nwatch w.next < 0000000000000000001\n@0 ",
+    )?;
+    for _ in 0..245 {
+        input.push(b' ')?;
+    }
+    input.extend_from_slice(b"look next\n@0 ")?;
+    for _ in 0..244 {
+        input.push(b' ')?;
+    }
+    input.extend_from_slice(b"look next\n")?;
+    for (first, more) in [(b'x', 256), (b'#', 256), (b'x', 300_000), (b'#', 300_000)] {
+        input.push(first)?;
+        for _ in 0..more {
+            input.push(b'x')?;
+        }
+        input.push(b'\n')?;
+    }
+    input.extend_from_slice(b"back 1")?;
+    let (status, written) = played(alloc, input.as_slice());
+    assert_eq!(rt; status, Status::Well);
+    let want = lines(
+        alloc,
+        "place 1 clock 0; bad line; bad line; place 2 clock 0; bad line; place 1 clock 0; refused 2 UnknownHost; bad line; bad line; bad line; refused 10 UnknownWatch; made 0; bad line; due 0 serial 1 host w start; bad line; bad line; place 0 clock 0",
+    )?;
+    assert_eq!(rt; str::from_utf8(written.as_slice())?, want.as_str());
+    Ok(())
 }

@@ -1,6 +1,42 @@
-//! Plays of two pings.
-use super::scenes::{FORMATS, LATE, LOSSY, Scene, TWO_PINGS, plays};
+//! Plays of each protocol: of two pings, of branches, and of links.
+use super::scenes::{
+    FORMAT_1, FORMAT_2, LATE, LOSSY, SLOW_DISKS, Scene, TWO_PINGS, TWO_SERVERS, plays,
+};
 use std::test::Fail;
+
+const BOTH: &[&str] = &[FORMAT_1, FORMAT_2];
+
+const SECOND: &[&str] = &[FORMAT_2];
+
+const SLOW: &[&str] = &[SLOW_DISKS];
+
+/// Pings that come at once.
+const MANY_PINGS: Scene = Scene {
+    least: 0,
+    greatest: 0,
+    ops: 511,
+    ..TWO_PINGS
+};
+
+const REGISTER: Scene = Scene {
+    protocol: "abd",
+    ..TWO_PINGS
+};
+
+const TWO_PHASES: Scene = Scene {
+    protocol: "two_phase",
+    ..TWO_SERVERS
+};
+
+const FAST_LINK: Scene = Scene {
+    links: "[[link]]\nsource = \"w\"\ntarget = \"a\"\nlatency_min = 3\nlatency_max = 3\nloss = 0\n",
+    ..TWO_PINGS
+};
+
+const DEAF_LINK: Scene = Scene {
+    links: "[[link]]\nsource = \"w\"\ntarget = \"a\"\nlatency_min = 10\nlatency_max = 10\nloss = 1000\n",
+    ..TWO_PINGS
+};
 
 /// All that can happen to the two pings.
 const FIRST_RUN: &str = "step; step; step; step; step; step; step; look";
@@ -8,76 +44,140 @@ const FIRST_RUN: &str = "step; step; step; step; step; step; step; look";
 const FIRST_ANSWERS: &str =
     "place 1 clock 0; place 2 clock 0; place 3 clock 10; place 4 clock 20; place 5 clock 30; place 6 clock 40; refused 7 Idle; place 6 clock 40 serial 6 net 8 torn 0 pending 0 held 0";
 
-/// Scripts, with what is written for them.
-const ROWS: [(Scene, &str, &str); 14] = [
-    (TWO_PINGS, FIRST_RUN, FIRST_ANSWERS),
+/// Scripts, with the formats in which they are played and with what is written for them.
+const ROWS: [(&[&str], Scene, &str, &str); 23] = [
+    (BOTH, TWO_PINGS, FIRST_RUN, FIRST_ANSWERS),
     // 2917185654 mod 10 is 4, and 3848953152 mod 10 is 2.
     (
+        BOTH,
         LATE,
         "step; step; look next; step; look next",
         "place 1 clock 0; place 2 clock 0; due 14 serial 2 host a message; place 3 clock 14; due 26 serial 3 host w message",
     ),
     // 2419978656 mod 1000 is 656, and 683509331 mod 1000 is 331.
     (
+        BOTH,
         LOSSY,
         "step; step; step; step; look",
         "place 1 clock 0; place 2 clock 0; place 3 clock 14; refused 7 Idle; place 3 clock 14 serial 3 net 4 torn 0 pending 0 held 0",
     ),
     (
+        BOTH,
         TWO_PINGS,
         "cutoneway w a; step; step; step; look link w a; look link a w; look",
         "place 1 clock 0; place 2 clock 0; place 3 clock 0; refused 7 Idle; w a cut messages 0; a w open messages 0; place 3 clock 0 serial 2 net 0 torn 0 pending 0 held 0",
     ),
     (
+        BOTH,
         TWO_PINGS,
         "hold a w; step; step; look link w a; release a w; look next; step; look",
         "place 1 clock 0; place 2 clock 0; place 3 clock 0; w a held messages 1; place 4 clock 0; due 0 serial 2 host a message; place 5 clock 0; place 5 clock 0 serial 4 net 2 torn 0 pending 1 held 0",
     ),
     (
+        BOTH,
         TWO_PINGS,
         "hold a w; step; step; look link w a; release a w; back 1; look; forward 1; look next",
         "place 1 clock 0; place 2 clock 0; place 3 clock 0; w a held messages 1; place 4 clock 0; place 3 clock 0; place 3 clock 0 serial 2 net 0 torn 0 pending 0 held 1; place 4 clock 0; due 0 serial 2 host a message",
     ),
     (
+        BOTH,
         TWO_PINGS,
         "crash a; look; crash a; look; back 1; look; forward 1; bounce a; look",
         "place 1 clock 0; place 1 clock 0 serial 2 net 0 torn 0 pending 1 held 0; place 2 clock 0; place 2 clock 0 serial 2 net 0 torn 0 pending 1 held 0; place 1 clock 0; place 1 clock 0 serial 2 net 0 torn 0 pending 1 held 0; place 2 clock 0; place 3 clock 0; place 3 clock 0 serial 3 net 0 torn 0 pending 2 held 0",
     ),
     (
+        BOTH,
         TWO_PINGS,
         "crash a; step; step; step; look; bounce a; look next; step; look host a",
         "place 1 clock 0; place 2 clock 0; place 3 clock 10; refused 7 Idle; place 3 clock 10 serial 3 net 2 torn 0 pending 0 held 0; place 4 clock 10; due 10 serial 3 host a start; place 5 clock 10; a up done no draws 1 stable 0 unsynced 0",
     ),
     (
+        BOTH,
         TWO_PINGS,
         "tick; tick; trace",
         "place 7 clock 100 all done; place 8 clock 200 all done; {\"branch\":0,\"events\":[\"step\",\"step\",\"step\",\"step\",\"step\",\"step\",\"advance 100\",\"advance 200\"]}",
     ),
     (
+        BOTH,
         TWO_PINGS,
         "trace; crash a; bounce a; hold a w; release w a; partition a w; repair w a; cutoneway w a; repaironeway a w; trace",
         "{\"branch\":0,\"events\":[]}; place 1 clock 0; place 2 clock 0; place 3 clock 0; place 4 clock 0; place 5 clock 0; place 6 clock 0; place 7 clock 0; place 8 clock 0; {\"branch\":0,\"events\":[\"crash a\",\"bounce a\",\"hold a w\",\"release w a\",\"partition a w\",\"repair w a\",\"cutoneway w a\",\"repaironeway a w\"]}",
     ),
     (
+        BOTH,
         TWO_PINGS,
         "watch w.next <= 1; run 100; unwatch 0; run 100",
         "made 0; place 4 clock 20 watch 0; dropped 0; place 6 clock 40 all done",
     ),
     (
+        BOTH,
         TWO_PINGS,
         "watch w.next < 2; crash w; run 9",
         "made 0; place 1 clock 0; place 2 clock 0 idle",
     ),
     (
+        BOTH,
         TWO_PINGS,
         "crash z; hold a a; @9 step; unwatch 0; jump 3; look probe w next; look host w",
         "refused 2 UnknownHost; refused 3 SameHost; refused 1 UnknownBranch; refused 10 UnknownWatch; bad line; w next 0; w up done no draws 0 stable 0 unsynced 0",
     ),
     // A condition's hosts and probes are looked for when it is kept.
     (
+        BOTH,
         TWO_PINGS,
         "watch up z; watch z.next = 0; watch a.none = 0; watch agree none unless 0; watch up a and done w and a.served != 7 and agree next unless 1; watch up a and; look probe a none",
         "refused 2 UnknownHost; refused 2 UnknownHost; refused 11 BadCondition; refused 11 BadCondition; made 0; bad line; refused 11 BadCondition",
+    ),
+    (
+        BOTH,
+        TWO_PINGS,
+        "step; step; step; branch 3; @1 crash a; @1 step; @1 step; @1 step; @1 look; step; step; step",
+        "place 1 clock 0; place 2 clock 0; place 3 clock 10; made 1; place 4 clock 10; place 5 clock 20; place 6 clock 30; refused 7 Idle; place 6 clock 30 serial 5 net 6 torn 0 pending 0 held 0; place 4 clock 20; place 5 clock 30; place 6 clock 40",
+    ),
+    // A branch has the events of another up to a place, past its own place too, and no watch.
+    (
+        BOTH,
+        TWO_PINGS,
+        "watch up a; step; step; back 2; branch 2; @1 trace; @1 crash w; @1 unwatch 0; @1 watch done w; @1 run 1; @000000001 trace; trace; unwatch 0",
+        "made 0; place 1 clock 0; place 2 clock 0; place 0 clock 0; made 1; {\"branch\":1,\"events\":[\"step\",\"step\"]}; place 3 clock 0; refused 10 UnknownWatch; made 0; place 4 clock 10 watch 0; {\"branch\":1,\"events\":[\"step\",\"step\",\"crash w\",\"step\"]}; {\"branch\":0,\"events\":[\"step\",\"step\"]}; dropped 0",
+    ),
+    // Each form of line, with each comparison and 8 terms; a host may be named as a keyword is.
+    (
+        BOTH,
+        TWO_PINGS,
+        "  @0   step  ; @000000000 tick; run 1; back 000000001; forward 1; goto 3; rewind 1; rewind 0; cut; branch 2; @1 step; @1 look; watch w.next < 9 and w.next <= 9 and w.next = 2 and w.next != 7 and w.next >= 1 and w.next > 0 and agree served unless 0 and up a; watch up and and done up; watch up agree; watch agree.next = 0; unwatch 000000000; partition a w; repair w a; cutoneway a w; repaironeway a w; hold w a; release w a; look link w a; bounce w; look host w; look probe w next; look probe a served; look next",
+        "place 1 clock 0; place 7 clock 100 all done; refused 7 Idle; place 6 clock 40; place 7 clock 100; place 3 clock 10; place 2 clock 0; place 2 clock 0; place 2 clock 0; made 1; place 3 clock 10; place 3 clock 10 serial 4 net 4 torn 0 pending 1 held 0; made 0; refused 2 UnknownHost; refused 2 UnknownHost; refused 2 UnknownHost; dropped 0; place 3 clock 0; place 4 clock 0; place 5 clock 0; place 6 clock 0; place 7 clock 0; place 8 clock 0; w a open messages 0; place 9 clock 0; w up done no draws 1 stable 0 unsynced 0; w next 0; a served 0; due 0 serial 3 host w start",
+    ),
+    (
+        BOTH,
+        TWO_SERVERS,
+        "run 100; look; look host a; look probe b applied; crash a; bounce a; step; look",
+        "place 9 clock 40 all done; place 9 clock 40 serial 12 net 8 torn 0 pending 2 held 0; a up done no draws 4 stable 137 unsynced 0; b applied 1; place 10 clock 40; place 11 clock 40; place 12 clock 40; place 12 clock 40 serial 15 net 10 torn 0 pending 3 held 0",
+    ),
+    (
+        BOTH,
+        REGISTER,
+        "run 100; look; look probe w val; look probe a num",
+        "place 11 clock 80 all done; place 11 clock 80 serial 15 net 16 torn 0 pending 1 held 0; w val 1001; a num 1",
+    ),
+    (
+        BOTH,
+        TWO_PHASES,
+        "watch agree first unless 0; step; step; step; step; step; look host a; crash a; bounce a; look probe a first",
+        "made 0; place 1 clock 0; place 2 clock 0; place 3 clock 0; place 4 clock 10; place 5 clock 10; a up done no draws 3 stable 10 unsynced 0; place 6 clock 10; place 7 clock 10; a first 2",
+    ),
+    (SLOW, TWO_SERVERS, "run 100", "place 9 clock 50 all done"),
+    (
+        SECOND,
+        FAST_LINK,
+        "step; step; look next; step; look next",
+        "place 1 clock 0; place 2 clock 0; due 3 serial 2 host a message; place 3 clock 3; due 13 serial 3 host w message",
+    ),
+    (
+        SECOND,
+        DEAF_LINK,
+        "step; step; step; look",
+        "place 1 clock 0; place 2 clock 0; refused 7 Idle; place 2 clock 0 serial 2 net 2 torn 0 pending 0 held 0",
     ),
 ];
 
@@ -127,29 +227,10 @@ const AFTER_FIRST_RUN: [(&str, &str); 10] = [
 
 #[test]
 fn plays_the_rows(rt: HostRuntime) -> Result<(), Fail> {
-    for (scene, script, want) in ROWS {
-        plays(&rt, rt.alloc(), FORMATS.as_slice(), scene, script, want)?;
+    for (formats, scene, script, want) in ROWS {
+        plays(&rt, rt.alloc(), formats, scene, script, want)?;
     }
     Ok(())
-}
-
-/// A tick adds at most 1,024 events.
-#[test]
-fn ends_a_long_tick(rt: HostRuntime) -> Result<(), Fail> {
-    let scene = Scene {
-        least: 0,
-        greatest: 0,
-        ops: 511,
-        ..TWO_PINGS
-    };
-    plays(
-        &rt,
-        rt.alloc(),
-        FORMATS.as_slice(),
-        scene,
-        "run 0; tick; tick; back 1; tick",
-        "place 0 clock 0; place 1024 clock 0 long; place 1025 clock 100 all done; place 1024 clock 0; refused 4 NotAtEnd",
-    )
 }
 
 #[test]
@@ -158,14 +239,20 @@ fn goes_on_after_the_first_run(rt: HostRuntime) -> Result<(), Fail> {
     for (more, told) in AFTER_FIRST_RUN {
         let script = format!(in alloc; "{FIRST_RUN}; {more}")?;
         let want = format!(in alloc; "{FIRST_ANSWERS}; {told}")?;
-        plays(
-            &rt,
-            alloc,
-            FORMATS.as_slice(),
-            TWO_PINGS,
-            script.as_str(),
-            want.as_str(),
-        )?;
+        plays(&rt, alloc, BOTH, TWO_PINGS, script.as_str(), want.as_str())?;
     }
     Ok(())
+}
+
+/// A tick adds at most 1,024 events.
+#[test]
+fn ends_a_long_tick(rt: HostRuntime) -> Result<(), Fail> {
+    plays(
+        &rt,
+        rt.alloc(),
+        BOTH,
+        MANY_PINGS,
+        "run 0; tick; tick; back 1; tick",
+        "place 0 clock 0; place 1024 clock 0 long; place 1025 clock 100 all done; place 1024 clock 0; refused 4 NotAtEnd",
+    )
 }

@@ -7,7 +7,9 @@ use std::test::Fail;
 const SEED: &str = "0000000000000000000000000000000000000000000000000000000000000000";
 
 /// The lines for the format in two scenarios that say the same.
-pub const FORMATS: [&str; 2] = ["format = 1\n", "format = 2\ndisk_latency = 0\n"];
+pub const FORMAT_1: &str = "format = 1\n";
+
+pub const FORMAT_2: &str = "format = 2\ndisk_latency = 0\n";
 
 /// A disk that takes 5 ms for a sync.
 pub const SLOW_DISKS: &str = "format = 2\ndisk_latency = 5\n";
