@@ -153,7 +153,7 @@ impl<M> Links<M> {
         requires equal { (m : M) (r : _) → FnReturnsAt F.Fn each m r → IfOk r (λ copy. copy ≡ m) }
         ensures { IfOk result (λ links. links ≡ self.now) }
     {
-        let mut table = Vec::new(alloc);
+        let mut table = Vec::with_capacity(alloc, self.table.len())?;
         for direction in &self.table {
             let copy = direction.copy(alloc, &each)?;
             table.push(copy)?;

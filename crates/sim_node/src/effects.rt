@@ -1,5 +1,5 @@
 ghost use Rattle.std.specs.Prelude.{◌≡◌, ◌+◌, ◌<◌, ◌≤◌, List, [], ◌∷◌, ◌++◌, length, IfOk, IfNone, IfSome};
-ghost use Rattle.sim_node.specs.Effects.{Effect as Asked, Effects as EffectsValue, IsWithin, AllWithin};
+ghost use Rattle.sim_node.specs.Effects.{Effect as Asked, Effects as EffectsValue, IsWithin, AllWithin, IsLimited};
 ghost use Rattle.sim_node.specs.Seen.{seen, IsStored};
 
 use crate::{MAX_EFFECTS, MAX_WRITE_BYTES, NoMemory, Setup};
@@ -73,11 +73,13 @@ impl<M> Effects<M> {
         self.list.len()
     }
 
-    /// Takes the first effect out; the others keep their order. Where there is none, nothing changes.
+    /// Takes the first effect out; the others keep their order. Where there is none, nothing changes. What was asked for is
+    /// within the limits.
     pub fn take_first(&mut self) -> Option<Effect<M>>
         ensures none { IfNone result ((self.old.list ≡ []) × (self.new ≡ self.old)) }
         ensures some { IfSome result (λ e. self.old ≡ record self.new { list = seen e ∷ self.new.list }) }
         ensures stored { IfSome result (λ e. IsStored self.old.hosts e) }
+        ensures limited { IsLimited self.old }
     {
         self.list.pop_front()
     }

@@ -15,6 +15,7 @@ use crate::entry::Entry;
 use crate::event_list::EventList;
 use crate::frozen::Frozen;
 use crate::log::Log;
+use crate::shared_list::SharedList;
 use crate::walk::Walk;
 use circular_buffer::HeapCircularBuffer;
 use sim_node::Node;
@@ -28,14 +29,13 @@ use std::sync::Arc;
 #[derive(Drop)]
 pub struct Tape<N: Node> {
     log: Log,
-    checkpoints: Vec<Arc<World<N>>>,
+    checkpoints: SharedList<World<N>>,
     place: u32,
     walk: Walk<N>,
 }
 
 impl<N: Node> Model for Tape<N> {
-    ghost use Rattle.std.specs.Prelude.{◌≡◌, length, is_some, map};
-    ghost use Rattle.std.specs.Arc.{arc_value};
+    ghost use Rattle.std.specs.Prelude.{◌≡◌, length, is_some};
     ghost use Rattle.sim_world.specs.Events.{rules};
     ghost use Rattle.sim_tape.specs.Tape.{Tape as TapeView};
     ghost use Rattle.sim_tape.specs.Places.{events_of, AreCheckpoints};
@@ -53,7 +53,7 @@ impl<N: Node> Model for Tape<N> {
 
     ghost invariant = { λ t.
         IsRun (rules N.laws N.PROBES t.log.scenario) t.log.entries
-        × AreCheckpoints (rules N.laws N.PROBES t.log.scenario) (events_of t.log.entries) (map arc_value t.checkpoints.items)
+        × AreCheckpoints (rules N.laws N.PROBES t.log.scenario) (events_of t.log.entries) t.checkpoints.items
         × IsWalk N.told N.records (rules N.laws N.PROBES t.log.scenario) (events_of t.log.entries) t.place t.walk.world t.walk.ring.items
         × (t.walk.ring.capacity ≡ t.log.scenario.window) };
 }
@@ -69,8 +69,9 @@ impl<N: Node> Tape<N> {
     {
         let world = World::start(alloc, scenario, meter)?;
         let first = Arc::new(alloc, world.copy(alloc, meter)?)?;
-        let mut checkpoints = Vec::new(alloc);
-        checkpoints.push(first)?;
+        let mut checkpoints = SharedList::new(alloc);
+        checkpoints.reserve(alloc)?;
+        checkpoints.push(first);
         let log = Log::new(alloc, Arc::new(alloc, scenario.copy())?)?;
         let mut walk = Walk::cold(alloc, log.window())?;
         walk.world = Some(world);
@@ -175,7 +176,7 @@ impl<N: Node> Tape<N> {
             }
         }
         let whole = target / interval;
-        let checkpoint = &*self.checkpoints[whole];
+        let checkpoint = self.checkpoints.get(whole);
         self.walk.anew(
             alloc,
             &self.log,
@@ -286,7 +287,7 @@ impl<N: Node> Tape<N> {
         ensures err { OnErr result (self.new ≡ with_world self.new.warm self.new.reach self.old) }
     {
         self.log.reserve(alloc)?;
-        self.checkpoints.reserve(1)?;
+        self.checkpoints.reserve(alloc)?;
         let is_whole = (self.place as usize + 1) % self.log.interval() == 0;
         let (clock, copy) = self.walk.step(alloc, &self.log, event, is_whole, meter)?;
         self.log.push(Entry { event, clock });
@@ -325,11 +326,11 @@ impl<N: Node> Tape<N> {
     pub(crate) fn cold(
         alloc: Global,
         log: Log,
-        checkpoints: Vec<Arc<World<N>>>,
+        checkpoints: SharedList<World<N>>,
         place: u32,
     ) -> Result<Tape<N>, NoMemory>
         requires runs { IsRun (rules N.laws N.PROBES log.scenario) log.entries }
-        requires checkpoints { AreCheckpoints (rules N.laws N.PROBES log.scenario) (events_of log.entries) (map arc_value checkpoints.items) }
+        requires checkpoints { AreCheckpoints (rules N.laws N.PROBES log.scenario) (events_of log.entries) checkpoints.items }
         requires within { place ≤ length log.entries }
         ensures { IfOk result (λ t. t ≡ record { scenario = log.scenario; events = events_of log.entries; place = place; warm = false; reach = 0 }) }
     {
@@ -356,9 +357,10 @@ impl<N: Node> Tape<N> {
         ensures { IfOk result (λ t. t ≡ with_world false 0 (at to (first_events to self.now))) }
     {
         let count = to as usize;
-        let all = self.checkpoints.as_slice();
         let log = self.log.split(alloc, count)?;
-        let checkpoints = shared(alloc, all, count / self.log.interval() + 1)?;
+        let checkpoints = self
+            .checkpoints
+            .share(alloc, count / self.log.interval() + 1)?;
         Tape::cold(alloc, log, checkpoints, to)
     }
 
@@ -373,8 +375,7 @@ impl<N: Node> Tape<N> {
     pub fn freeze(&self, alloc: Global) -> Result<Frozen<N>, NoMemory>
         ensures { IfOk result (λ f. f ≡ record { scenario = self.now.scenario; events = self.now.events }) }
     {
-        let all = self.checkpoints.as_slice();
-        let checkpoints = shared(alloc, all, all.len())?;
+        let checkpoints = self.checkpoints.share(alloc, self.checkpoints.len())?;
         let log = self.log.split(alloc, self.log.len())?;
         let list = self.log.events(alloc)?;
         Ok(Frozen::of(log, list, checkpoints))
@@ -382,27 +383,12 @@ impl<N: Node> Tape<N> {
 }
 
 // Keeps a world, where there is one, as the last.
-fn keep<N: Node>(worlds: &mut Vec<Arc<World<N>>>, world: Option<Arc<World<N>>>)
-    requires { vec_len worlds.old < vec_capacity worlds.old }
-    ensures { MatchOption world (worlds.new.items ≡ worlds.old.items) (λ w. worlds.new.items ≡ worlds.old.items ++ w ∷ []) }
+fn keep<N: Node>(worlds: &mut SharedList<World<N>>, world: Option<Arc<World<N>>>)
+    requires room { IsTrue worlds.old.has_room }
+    requires few { length worlds.old.items < 65537 }
+    ensures { MatchOption world (worlds.new.items ≡ worlds.old.items) (λ w. worlds.new.items ≡ worlds.old.items ++ arc_value w ∷ []) }
 {
     if let Some(world) = world {
-        worlds.push_reserved(world);
+        worlds.push(world);
     }
-}
-
-// The first worlds, shared. The only error is want of memory.
-pub(crate) fn shared<N: Node>(
-    alloc: Global,
-    worlds: &[Arc<World<N>>],
-    n: usize,
-) -> Result<Vec<Arc<World<N>>>, NoMemory>
-    requires { n ≤ length worlds.now }
-    ensures { IfOk result (λ shared. map arc_value shared.items ≡ take n (map arc_value worlds.now)) }
-{
-    let mut shared = Vec::with_capacity(alloc, n)?;
-    for i in 0..n {
-        shared.push(Arc::try_clone(&worlds[i])?)?;
-    }
-    Ok(shared)
 }

@@ -31,11 +31,14 @@ pub(crate) struct Walk<N: Node> {
     pub ring: Ring<N>,
 }
 
-// Keeps a record as the newest. Of a full ring the oldest goes.
-fn keep<N: Node>(ring: &mut Ring<N>, undo: Undo<N>)
-    ensures { ring.new ≡ buffer (keep_last ring.old.capacity (ring.old.items ++ undo ∷ [])) ring.old.capacity }
+// Keeps a record as the newest. Of a full ring the oldest goes, whose memory the world uses again.
+fn keep<N: Node>(ring: &mut Ring<N>, undo: Undo<N>, world: &mut World<N>)
+    ensures ring { ring.new ≡ buffer (keep_last ring.old.capacity (ring.old.items ++ undo ∷ [])) ring.old.capacity }
+    ensures world { world.new ≡ world.old }
 {
-    ring.push_back(undo);
+    if let Some(oldest) = ring.push_back(undo) {
+        world.reuse(oldest);
+    }
 }
 
 // A copy of a world that can be shared, where one is asked for.
@@ -55,31 +58,6 @@ fn copied<N: Node>(
     }
     let copy = world.copy(alloc, meter)?;
     Ok(Some(Arc::new(alloc, copy)?))
-}
-
-// The world after an event that can happen, the record of the event, and where it is asked for a copy of that world.
-fn stepped<N: Node>(
-    alloc: Global,
-    world: World<N>,
-    event: Event,
-    asked: bool,
-    meter: &mut N::Meter,
-) -> Result<(World<N>, Undo<N>, Option<Arc<World<N>>>), NoMemory>
-    requires can { IsSome (next (rules N.laws N.PROBES world.scenario) world.world event) }
-    requires young { world.age < 65536 }
-    ensures answers { IfOk result (λ r. AnswersFor (rules N.laws N.PROBES world.scenario) N.records r.1.changes world.world event r.0.world) }
-    ensures clock { IfOk result (λ r. r.0.world.clock ≡ clock_after event world.world) }
-    ensures on { IfOk result (λ r. world.world.clock ≤ r.0.world.clock) }
-    ensures scenario { IfOk result (λ r. r.0.scenario ≡ world.scenario) }
-    ensures age { IfOk result (λ r. r.0.age ≡ world.age + 1) }
-    ensures leads { IfOk result (λ r. LeadsBack N.told N.records r.1 r.0) }
-    ensures acted { IfOk result (λ r. count_by is_reaction r.1.changes ≡ (if acts world.world event then 1 else 0)) }
-    ensures copy { IfOk result (λ r. MatchOption r.2 (asked ≡ false) (λ c. (asked ≡ true) × (arc_value c ≡ r.0))) }
-    ensures work { IfOk result (λ r. Plays 1 (if asked then running r.0.world else 0) (N.Meter.work meter.old) (N.Meter.work meter.new)) }
-{
-    let (after, record) = world.apply(alloc, event, meter)?;
-    let copy = copied(alloc, &after, asked, meter)?;
-    Ok((after, record, copy))
 }
 
 impl Log {
@@ -110,7 +88,7 @@ impl Log {
             let event = self.entry(i).event;
             let (after, record) = world.apply(alloc, event, meter)?;
             world = after;
-            keep(ring, record);
+            keep(ring, record, &mut world);
         }
         Ok(world)
     }
@@ -276,6 +254,30 @@ impl<N: Node> Walk<N> {
         }
     }
 
+    // A copy of a world, where one is asked for. After an error, which can only be want of memory, there is no record.
+    fn mark(
+        &mut self,
+        alloc: Global,
+        world: &World<N>,
+        asked: bool,
+        meter: &mut N::Meter,
+    ) -> Result<Option<Arc<World<N>>>, NoMemory>
+        ensures copy { IfOk result (λ copy. MatchOption copy (asked ≡ false) (λ c. (asked ≡ true) × (arc_value c ≡ world.now))) }
+        ensures work { OnOk result (N.Meter.work meter.new ≡ record (N.Meter.work meter.old) {
+          copies = (N.Meter.work meter.old).copies + (if asked then running world.now.world else 0);
+        }) }
+        ensures world { self.new.world ≡ self.old.world }
+        ensures ring { OnOk result (self.new.ring ≡ self.old.ring) }
+        ensures capacity { self.new.ring.capacity ≡ self.old.ring.capacity }
+        ensures err { OnErr result (self.new.ring.items ≡ []) }
+    {
+        let copy = copied(alloc, world, asked, meter);
+        if copy.is_err() {
+            self.ring.clear();
+        }
+        copy
+    }
+
     /// Walks on by an event that is about to be added to the log. It answers the clock after it (ms), and where it is asked for a
     /// copy of the world after it. After an error, which can only be want of memory, there is no world.
     pub fn step(
@@ -309,10 +311,11 @@ impl<N: Node> Walk<N> {
         let Some(world) = self.world.take() else {
             unreachable!()
         };
-        match stepped(alloc, world, event, asked, meter) {
-            Ok((after, record, copy)) => {
+        match world.apply(alloc, event, meter) {
+            Ok((mut after, record)) => {
+                keep(&mut self.ring, record, &mut after);
+                let copy = self.mark(alloc, &after, asked, meter)?;
                 let clock = after.clock();
-                keep(&mut self.ring, record);
                 self.world = Some(after);
                 Ok((clock, copy))
             }

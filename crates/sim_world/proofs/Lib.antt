@@ -18,6 +18,7 @@ pub mod Indexes
 pub mod Looking
 pub mod LostIndex
 pub mod Others
+pub mod Places
 pub mod Plain
 pub mod Purges
 pub mod React
@@ -38,6 +39,3 @@ pub mod Taken
 pub mod Trails
 pub mod Turns
 pub mod Undoing
-mod Rows
-mod DiskRows
-mod MessageRows

@@ -11,9 +11,9 @@ pub mod Held
 pub mod Index
 pub mod Trail
 pub mod Room
+pub mod Giving
 pub mod Undone
 pub mod Arrivals
 pub mod Purge
 pub mod Crashing
-pub mod Scribe
 pub mod Seeds

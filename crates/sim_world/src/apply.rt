@@ -4,7 +4,7 @@ ghost use Rattle.std.specs.List.{count_by};
 ghost use Rattle.sim_queue.specs.Pending.{first};
 ghost use Rattle.sim_world.specs.World.{at_time};
 ghost use Rattle.sim_world.specs.Events.{rules, after, next, refusal_of, stepped};
-ghost use Rattle.sim_world.specs.Acts.{acts, turns_of, turned_by};
+ghost use Rattle.sim_world.specs.Acts.{acts, reactions_of, turns_of, turned_by};
 ghost use Rattle.sim_world.specs.Clock.{clock_after};
 ghost use Rattle.sim_world.specs.Memory.{is_for_stopped};
 ghost use Rattle.sim_world.specs.Index.{IsIndex, first_host, stopped_host, changing_host, LeadsBack};
@@ -12,7 +12,7 @@ ghost use Rattle.sim_world.specs.Records.{AnswersFor, Fits, back};
 ghost use Rattle.sim_world.specs.Room.{IsReady};
 ghost use Rattle.sim_world.specs.Sound.{IsLawfulEvent};
 ghost use Rattle.sim_world.specs.Undone.{is_reaction, taken_back};
-ghost use Rattle.sim_world.specs.Trail.{IsTrail, taken_changes};
+ghost use Rattle.sim_world.specs.Trail.{IsTrail, taken_changes, taken_then};
 ghost use Rattle.sim_world.specs.Held.{IsHeld, in_hand};
 
 use crate::cluster::Cluster;
@@ -124,8 +124,8 @@ impl<N: Node> Parts<N> {
         requires empty { effects.old ≡ record { hosts = sc.now.setup.hosts; list = [] } }
         ensures world { OnOk result (self.new ≡ record self.old { world = after (rules N.laws N.PROBES sc.now) event self.old.world }) }
         ensures stopped { IsTrue (is_for_stopped event self.old.world) → IsOk result }
-        ensures trail { IfOk result (λ r. IsTrail N.records (taken_changes r.0 ++ r.1.items) self.old.world self.new.world) }
-        ensures acted { IfOk result (λ r. count_by is_reaction (taken_changes {State = N} {Undo = N.Undo} r.0 ++ r.1.items) ≡ (if acts self.old.world event then 1 else 0)) }
+        ensures trail { IfOk result (λ r. IsTrail N.records (taken_then r.0 r.1.items) self.old.world self.new.world) }
+        ensures acted { IfOk result (λ r. count_by is_reaction (taken_then r.0 r.1.items) ≡ reactions_of self.old.world event) }
         ensures lawful { OnOk result (IsLawfulEvent N.told (rules N.laws N.PROBES sc.now) event self.old.world) }
         ensures index { OnOk result (IsIndex index.new self.new.world) }
         ensures spent { OnOk result (effects.new ≡ effects.old) }
@@ -176,14 +176,15 @@ impl<N: Node> Cluster<N> {
         requires can { refusal_of (rules N.laws N.PROBES self.old.scenario) event self.old.parts.world ≡ None }
         requires young { self.old.age < 65536 }
         ensures held { OnOk result (IsHeld N.told self.new) }
-        ensures answers { IfOk result (λ undo. AnswersFor (rules N.laws N.PROBES self.old.scenario) N.records undo.changes self.old.parts.world event self.new.parts.world) }
+        ensures answers { IfOk result (λ undo.
+            AnswersFor (rules N.laws N.PROBES self.old.scenario) N.records undo.changes self.old.parts.world event self.new.parts.world) }
         ensures scenario { OnOk result (self.new.scenario ≡ self.old.scenario) }
         ensures age { OnOk result (self.new.age ≡ self.old.age + 1) }
         ensures clock { OnOk result (self.new.parts.world.clock ≡ clock_after event self.old.parts.world) }
         ensures on { OnOk result (self.old.parts.world.clock ≤ self.new.parts.world.clock) }
         ensures stopped { IsTrue (is_for_stopped event self.old.parts.world) → IsOk result }
         ensures leads { IfOk result (λ undo. LeadsBack N.told N.records undo (in_hand self.new)) }
-        ensures acted { IfOk result (λ undo. count_by is_reaction undo.changes ≡ (if acts self.old.parts.world event then 1 else 0)) }
+        ensures acted { IfOk result (λ undo. count_by is_reaction undo.changes ≡ reactions_of self.old.parts.world event) }
         ensures work { OnOk result (N.Meter.work meter.new ≡ turned_by (turns_of self.old.parts.world event) (N.Meter.work meter.old)) }
     {
         let host = self.parts.changing_host(event);

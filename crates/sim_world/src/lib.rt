@@ -19,8 +19,6 @@ mod scenario;
 mod start;
 mod step;
 mod take_back;
-#[cfg(test)]
-mod tests;
 mod trail;
 mod undo;
 mod world;

@@ -45,7 +45,7 @@ returns-then-fails_here-2-clause-place g c =
     let lo = c.args.piece.lo in
     let p = c.loop-place.place in
     let h = c.loop-place.invariant.0 in
-    let end : p ≡ c.args.piece.hi = omega arith in
+    let end : p ≡ c.args.piece.hi = omega (arith, c.loop-place-test.false, c.loop-place.auto.place, c.loop-place.auto.place-end, c.requires.order) in
     ap Some (sym end) ∙ found_is g.N.Node.laws g.N.Node.PROBES c.args.cond.now (rules g.N.Node.laws g.N.Node.PROBES f.scenario) f.events lo c.args.piece.hi p (omega arith) (omega arith) h.before
     (found_at g.N.Node.laws g.N.Node.PROBES c.args.cond.now f.scenario f.events lo p c.loop-place.tape true h (sym c.if-fails_here-2.true ∙ c.fails_here-2.ensures))
 

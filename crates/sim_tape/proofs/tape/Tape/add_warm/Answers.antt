@@ -38,24 +38,24 @@ invariant_of-self-2 g c =
     let room : length log.entries < 65536 = omega (arith, c.requires.room, ap (λ t. length t.events) c.self.view_is, events-length i.log.entries, end, place) in
     let low = c.interval.ensures.limits.interval.0 in
     let run0 = subst (λ (l : LogView). IsRun (rules g.N.Node.laws g.N.Node.PROBES l.scenario) l.entries) (sym same) c.self.invariant.0 in
-    let marks0 = subst (λ (l : LogView). AreCheckpoints (rules g.N.Node.laws g.N.Node.PROBES l.scenario) (events_of l.entries) (map arc_value i.checkpoints.items)) (sym same) c.self.invariant.1 in
-    let marks1 = subst (λ xs. AreCheckpoints r (events_of log.entries) (map arc_value xs)) (sym c.in_ok-reserve-2.ensures.items) marks0 in
+    let marks0 = subst (λ (l : LogView). AreCheckpoints (rules g.N.Node.laws g.N.Node.PROBES l.scenario) (events_of l.entries) i.checkpoints.items) (sym same) c.self.invariant.1 in
+    let marks1 = subst (λ xs. AreCheckpoints r (events_of log.entries) xs) (sym c.in_ok-reserve-2.ensures.items) marks0 in
     let len : i.place ≡ length (events_of log.entries) = place ∙ sym (events-length log.entries) in
     let is = c.interval.ensures.value in
     let copy = rw (← place) at v.copy in
     let marks = kept_checkpoints r (events_of log.entries) c.args.event c.reserve-2.new.self.items c.keep.new.worlds.items i.place c.interval.result c.in_ok-clock.copy
     marks1 (omega (arith, low, is)) is len copy c.keep.ensures in
     let up = sym (events-push log.entries x) in
-    let all : Inside g.N.Node.told g.N.Node.records g.N.Node.laws g.N.Node.PROBES log.scenario (log.entries ++ x ∷ []) (map arc_value c.keep.new.worlds.items) (i.place + 1) c.step.new.self.world c.step.new.self.ring.items =
+    let all : Inside g.N.Node.told g.N.Node.records g.N.Node.laws g.N.Node.PROBES log.scenario (log.entries ++ x ∷ []) c.keep.new.worlds.items (i.place + 1) c.step.new.self.world c.step.new.self.ring.items =
     record {
       run = run-push r log.entries x run0 room v.runs v.clock v.small;
-      checkpoints = subst (λ es. AreCheckpoints r es (map arc_value c.keep.new.worlds.items)) up marks;
+      checkpoints = subst (λ es. AreCheckpoints r es c.keep.new.worlds.items) up marks;
       walk = subst (λ (p : ℕ). IsWalk g.N.Node.told g.N.Node.records r (events_of (log.entries ++ x ∷ [])) (p + 1) c.step.new.self.world c.step.new.self.ring.items) (sym place)
           (subst (λ es. IsWalk g.N.Node.told g.N.Node.records r es (length log.entries + 1) c.step.new.self.world c.step.new.self.ring.items) up v.ok);
     } in
-    let done = subst (λ (s : Scenario). Inside g.N.Node.told g.N.Node.records g.N.Node.laws g.N.Node.PROBES s c.push.new.self.entries (map arc_value c.keep.new.worlds.items) (i.place + 1) c.step.new.self.world c.step.new.self.ring.items)
+    let done = subst (λ (s : Scenario). Inside g.N.Node.told g.N.Node.records g.N.Node.laws g.N.Node.PROBES s c.push.new.self.entries c.keep.new.worlds.items (i.place + 1) c.step.new.self.world c.step.new.self.ring.items)
     (sym c.push.ensures.scenario)
-    (subst (λ es. Inside g.N.Node.told g.N.Node.records g.N.Node.laws g.N.Node.PROBES log.scenario es (map arc_value c.keep.new.worlds.items) (i.place + 1) c.step.new.self.world c.step.new.self.ring.items)
+    (subst (λ es. Inside g.N.Node.told g.N.Node.records g.N.Node.laws g.N.Node.PROBES log.scenario es c.keep.new.worlds.items (i.place + 1) c.step.new.self.world c.step.new.self.ring.items)
     (sym c.push.ensures.entries) all) in (
       done.run,
       done.checkpoints,
