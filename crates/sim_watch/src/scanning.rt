@@ -37,7 +37,8 @@ pub fn scan<N: Node>(
     requires checked { fault_of frozen.now.scenario.setup.hosts N.PROBES cond.now ≡ None }
     ensures piece { IfOk result (λ f. f.piece ≡ piece) }
     ensures place { IfOk result (λ f. f.place ≡ first_failing (rules N.laws N.PROBES frozen.now.scenario) cond.now frozen.now.events piece.lo piece.hi) }
-    ensures work { OnOk result (Plays (piece.hi % frozen.now.scenario.interval) (nodes_below (rules N.laws N.PROBES frozen.now.scenario) piece.lo frozen.now.events) (N.Meter.work meter.old) (N.Meter.work meter.new)) }
+    ensures work { OnOk result (Plays (piece.hi % frozen.now.scenario.interval)
+        (nodes_below (rules N.laws N.PROBES frozen.now.scenario) piece.lo frozen.now.events) (N.Meter.work meter.old) (N.Meter.work meter.new)) }
 {
     let mut tape = frozen.tape(alloc, piece.lo, meter)?;
     for place in piece.lo..piece.hi {
