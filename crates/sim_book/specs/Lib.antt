@@ -3,6 +3,7 @@ pub mod Answer
 pub mod History
 pub mod Kept
 pub mod Tapes
+pub mod OnTape
 pub mod OnBranch
 pub mod BookOf
 pub mod Keeps

@@ -1,4 +1,5 @@
-ghost use Rattle.std.specs.Prelude.{◌≡◌, ℕ, ◌+◌, ◌<◌, ◌≤◌, true, List, length, IfOk, OnOk, OnErr, IfErr, OnSome, IfSome, None, slice_index_or, replicate, false, IsTrue, ◌↔◌, ◌∷◌, [], ◌++◌};
+ghost use Rattle.std.specs.Prelude.{◌≡◌, ℕ, ◌+◌, ◌<◌, ◌≤◌, ◌↔◌, ◌∷◌, [], ◌++◌};
+ghost use Rattle.std.specs.Prelude.{List, length, slice_index_or, replicate, true, false, IfOk, OnOk, OnErr, IfErr, OnSome, IfSome, None, IsTrue};
 ghost use Rattle.sim_world.specs.Events.{rules};
 ghost use Rattle.sim_tape.specs.Tape.{opened};
 ghost use Rattle.sim_book.specs.Kept.{all_shown, Kept as KeptValue};
@@ -54,9 +55,11 @@ fn take_turn<N: Node>(
 ) -> Result<Entry, NotTaken>
     requires book { IsBook (rules N.laws N.PROBES scenario.now) scenario.now branches.old.items history.old.items numbers.old }
     ensures book { IsBook (rules N.laws N.PROBES scenario.now) scenario.now branches.new.items history.new.items numbers.new }
-    ensures taken { IfOk result (λ e. IsTaken (rules N.laws N.PROBES scenario.now) session command branches.old.items history.old.items e branches.new.items history.new.items) }
+    ensures taken { IfOk result (λ e. IsTaken (rules N.laws N.PROBES scenario.now) session command branches.old.items history.old.items
+        e branches.new.items history.new.items) }
     ensures keeps { IfOk result (λ e. KeepsTapes N.laws N.PROBES command e.reply branches.old.items branches.new.items) }
-    ensures work { IfOk result (λ e. TakesWork N.laws N.PROBES command e.reply branches.old.items branches.new.items (N.Meter.work meter.old) (N.Meter.work meter.new)) }
+    ensures work { IfOk result (λ e. TakesWork N.laws N.PROBES command e.reply branches.old.items branches.new.items
+        (N.Meter.work meter.old) (N.Meter.work meter.new)) }
     ensures idle { IfOk result (λ e. TellsIdle N.laws N.PROBES scenario.now command e.reply branches.old.items) }
     ensures meter { OnErr result (N.Meter.work meter.new ≡ N.Meter.work meter.old) }
     ensures branches { OnErr result (branches.new.items ≡ branches.old.items) }
@@ -145,7 +148,8 @@ impl<N: Node> Book<N> {
 
     /// A session's command is carried out. An entry tells the reply and is kept at the history's end.
     pub fn turn(&mut self, alloc: Global, session: u8, command: Command) -> Result<Entry, NotTaken>
-        ensures taken { IfOk result (λ e. IsTaken (rules N.laws N.PROBES self.old.scenario) session command self.old.kept self.old.history e self.new.kept self.new.history) }
+        ensures taken { IfOk result (λ e. IsTaken (rules N.laws N.PROBES self.old.scenario) session command self.old.kept self.old.history
+            e self.new.kept self.new.history) }
         ensures keeps { IfOk result (λ e. KeepsTapes N.laws N.PROBES command e.reply self.old.kept self.new.kept) }
         ensures work { IfOk result (λ e. TakesWork N.laws N.PROBES command e.reply self.old.kept self.new.kept self.old.work self.new.work) }
         ensures idle { IfOk result (λ e. TellsIdle N.laws N.PROBES self.old.scenario command e.reply self.old.kept) }
@@ -221,7 +225,8 @@ impl<N: Node> Book<N> {
         b: u32,
     ) -> Result<(Entry, Option<Frozen<N>>), NotTaken>
         ensures frozen { IfOk result (λ r. GivesFrozen self.old.scenario r.0.reply r.1) }
-        ensures taken { IfOk result (λ r. IsTaken (rules N.laws N.PROBES self.old.scenario) session (Command.Freeze b) self.old.kept self.old.history r.0 self.new.kept self.new.history) }
+        ensures taken { IfOk result (λ r. IsTaken (rules N.laws N.PROBES self.old.scenario) session (Command.Freeze b) self.old.kept self.old.history
+            r.0 self.new.kept self.new.history) }
         ensures keeps { IfOk result (λ r. KeepsTapes N.laws N.PROBES (Command.Freeze b) r.0.reply self.old.kept self.new.kept) }
         ensures work { IfOk result (λ r. TakesWork N.laws N.PROBES (Command.Freeze b) r.0.reply self.old.kept self.new.kept self.old.work self.new.work) }
         ensures scenario { self.new.scenario ≡ self.old.scenario }

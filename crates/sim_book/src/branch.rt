@@ -1,16 +1,16 @@
 //! The commands on one branch.
 ghost use Rattle.std.specs.Prelude.{◌≡◌, ℕ, ◌+◌, ◌<◌, ◌≤◌, List, Option, None, Some, IsTrue, MatchResult, length, is_some, if◌then◌else◌};
 ghost use Rattle.sim_node.specs.Work.{Work};
-ghost use Rattle.sim_world.specs.Events.{rules, refusal_of};
+ghost use Rattle.sim_world.specs.Events.{rules};
 ghost use Rattle.sim_world.specs.Looks.{looked, CanLook};
 ghost use Rattle.sim_tape.specs.Tape.{Tape as TapeValue};
-ghost use Rattle.sim_tape.specs.Places.{world_of};
 ghost use Rattle.sim_watch.specs.Condition.{Cond as Condition, fault_of};
 ghost use Rattle.sim_book.specs.declared.Command.{Command};
 ghost use Rattle.sim_book.specs.declared.Command.TheVariants as command;
 ghost use Rattle.sim_book.specs.Book.{Book};
 ghost use Rattle.sim_book.specs.Answer.{free_watch};
 ghost use Rattle.sim_book.specs.Kept.{branch_with};
+ghost use Rattle.sim_book.specs.OnTape.{step_refusal, world_on};
 ghost use Rattle.sim_book.specs.OnBranch.{IsTurnOn, Turns, TurnsWith};
 ghost use Rattle.sim_book.specs.Keeps.{Keeps};
 ghost use Rattle.sim_book.specs.Works.{Works};
@@ -26,7 +26,7 @@ use std::alloc::Global;
 // Whether a step can happen at the tape's place.
 fn can_step<N: Node>(tape: &Tape<N>) -> Result<(), sim_world::Refusal>
     requires { IsTrue tape.now.warm }
-    ensures { MatchResult result (λ _. refusal_of (rules N.laws N.PROBES tape.now.scenario) Event.Step (world_of (rules N.laws N.PROBES tape.now.scenario) tape.now) ≡ None) (λ why. refusal_of (rules N.laws N.PROBES tape.now.scenario) Event.Step (world_of (rules N.laws N.PROBES tape.now.scenario) tape.now) ≡ Some why) }
+    ensures { MatchResult result (λ _. step_refusal N.laws N.PROBES tape.now ≡ None) (λ why. step_refusal N.laws N.PROBES tape.now ≡ Some why) }
 {
     tape.here().can(Event::Step)
 }
@@ -35,14 +35,14 @@ fn can_step<N: Node>(tape: &Tape<N>) -> Result<(), sim_world::Refusal>
 fn look_at<N: Node>(tape: &Tape<N>, query: Query) -> View
     requires warm { IsTrue tape.now.warm }
     requires there { CanLook tape.now.scenario.setup.hosts N.PROBES query }
-    ensures { result ≡ looked (rules N.laws N.PROBES tape.now.scenario) query (world_of (rules N.laws N.PROBES tape.now.scenario) tape.now) }
+    ensures { result ≡ looked (rules N.laws N.PROBES tape.now.scenario) query (world_on N.laws N.PROBES tape.now) }
 {
     tape.here().look(query)
 }
 
 // The reply that tells the place, and why it was stopped there.
 fn moved<N: Node>(tape: &Tape<N>, stop: Stop) -> Reply
-    ensures { result ≡ Reply.Moved tape.now.place (world_of (rules N.laws N.PROBES tape.now.scenario) tape.now).clock stop }
+    ensures { result ≡ Reply.Moved tape.now.place (world_on N.laws N.PROBES tape.now).clock stop }
 {
     Reply::Moved {
         place: tape.place(),
@@ -370,7 +370,8 @@ pub(crate) fn watch<N: Node>(
     cond: &Cond,
 ) -> Reply
     requires checked { AreChecked hosts N.PROBES watches.old }
-    ensures turn { (book : Book) (t : TapeValue) → hosts ≡ t.scenario.setup.hosts → IsTurnOn (rules N.laws N.PROBES t.scenario) book (branch_with watches.old t) (command.Watch b cond.now) result (branch_with watches.new t) }
+    ensures turn { (book : Book) (t : TapeValue) → hosts ≡ t.scenario.setup.hosts
+        → IsTurnOn (rules N.laws N.PROBES t.scenario) book (branch_with watches.old t) (command.Watch b cond.now) result (branch_with watches.new t) }
     ensures checked { AreChecked hosts N.PROBES watches.new }
     ensures keeps { (t : TapeValue) → Keeps N.laws N.PROBES (command.Watch b cond.now) result t t }
     ensures work { (t : TapeValue) (w : Work) → Works N.laws N.PROBES (command.Watch b cond.now) result t t w w }
@@ -397,7 +398,8 @@ pub(crate) fn unwatch<N: Node>(
     number: u32,
 ) -> Reply
     requires checked { AreChecked hosts N.PROBES watches.old }
-    ensures turn { (book : Book) (t : TapeValue) → IsTurnOn (rules N.laws N.PROBES t.scenario) book (branch_with watches.old t) (command.Unwatch b number) result (branch_with watches.new t) }
+    ensures turn { (book : Book) (t : TapeValue)
+        → IsTurnOn (rules N.laws N.PROBES t.scenario) book (branch_with watches.old t) (command.Unwatch b number) result (branch_with watches.new t) }
     ensures checked { AreChecked hosts N.PROBES watches.new }
     ensures keeps { (t : TapeValue) → Keeps N.laws N.PROBES (command.Unwatch b number) result t t }
     ensures work { (t : TapeValue) (w : Work) → Works N.laws N.PROBES (command.Unwatch b number) result t t w w }

@@ -75,7 +75,8 @@ fn split<N: Node>(alloc: Global, kept: &Kept<N>, p: u32) -> Result<Kept<N>, NoMe
 // The turn of a command that makes a branch.
 fn make_branch<N: Node>(alloc: Global, branches: &mut Vec<Kept<N>>, b: u32, p: u32) -> Reply
     requires { b < length branches.old.items }
-    ensures turn { (s : ScenarioValue) → IsTurn (rules N.laws N.PROBES s) (all_shown branches.old.items) (Command.Branch b p) result (all_shown branches.new.items) }
+    ensures turn { (s : ScenarioValue)
+        → IsTurn (rules N.laws N.PROBES s) (all_shown branches.old.items) (Command.Branch b p) result (all_shown branches.new.items) }
     ensures same { (s : ScenarioValue) → AllKept N.PROBES s branches.old.items → AllKept N.PROBES s branches.new.items }
     ensures keeps { KeepsTapes N.laws N.PROBES (Command.Branch b p) result branches.old.items branches.new.items }
     ensures work { (w : Work) → TakesWork N.laws N.PROBES (Command.Branch b p) result branches.old.items branches.new.items w w }

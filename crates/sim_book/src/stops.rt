@@ -1,9 +1,9 @@
 //! Why a run or a rewind stops at a world.
 ghost use Rattle.std.specs.Prelude.{◌≡◌, ℕ, ◌≤◌, ◌<◌, nat_le, None, IsTrue, IfSome, length};
 ghost use Rattle.sim_world.specs.Events.{Rules, rules};
-ghost use Rattle.sim_tape.specs.Places.{world_of};
 ghost use Rattle.sim_book.specs.Book.{failing_watch, all_done};
 ghost use Rattle.sim_book.specs.Answer.{run_stop, free_watch};
+ghost use Rattle.sim_book.specs.OnTape.{world_on};
 ghost use Rattle.sim_book.specs.Watches.{AreChecked, NoneFrom};
 
 use crate::{MOST_EVENTS, MOST_WATCHES, Stop};
@@ -90,7 +90,8 @@ pub(crate) fn stop<N: Node>(
     requires few { end ≤ 8 }
     requires none { NoneFrom end watches.now }
     requires checked { AreChecked tape.now.scenario.setup.hosts N.PROBES watches.now }
-    ensures { result ≡ run_stop (rules N.laws N.PROBES tape.now.scenario) asked watches.now (length tape.now.events) (world_of (rules N.laws N.PROBES tape.now.scenario) tape.now) }
+    ensures { result ≡ run_stop (rules N.laws N.PROBES tape.now.scenario) asked watches.now (length tape.now.events)
+        (world_on N.laws N.PROBES tape.now) }
 {
     stop_at(watches, end, asked, tape.len(), tape.here())
 }
@@ -105,7 +106,7 @@ pub(crate) fn failing_here<N: Node>(
     requires few { end ≤ 8 }
     requires none { NoneFrom end watches.now }
     requires checked { AreChecked tape.now.scenario.setup.hosts N.PROBES watches.now }
-    ensures { result ≡ failing_watch (rules N.laws N.PROBES tape.now.scenario) watches.now (world_of (rules N.laws N.PROBES tape.now.scenario) tape.now) }
+    ensures { result ≡ failing_watch (rules N.laws N.PROBES tape.now.scenario) watches.now (world_on N.laws N.PROBES tape.now) }
 {
     failing(watches, end, tape.here())
 }

@@ -2,13 +2,13 @@
 ghost use Rattle.std.specs.Prelude.{◌≡◌, ℕ, ◌+◌, ◌-◌, ◌*◌, ◌==◌, ◌<◌, ◌≤◌, true, List, [], min, length, IsTrue, OnOk, OnErr, IfOk, if◌then◌else◌};
 ghost use Rattle.sim_world.specs.declared.Event.{Event};
 ghost use Rattle.sim_world.specs.Events.{rules};
-ghost use Rattle.sim_tape.specs.Tape.{with_world};
-ghost use Rattle.sim_tape.specs.Places.{world_of};
+ghost use Rattle.sim_tape.specs.Tape.{with_world, raised};
 ghost use Rattle.sim_book.specs.Tapes.{lengthened};
 ghost use Rattle.sim_book.specs.Kept.{branch_with};
 ghost use Rattle.sim_book.specs.Book.{all_done};
 ghost use Rattle.sim_book.specs.Works.{Adds};
-ghost use Rattle.sim_book.specs.Answer.{is_due_by, tick_end, tick_room, tick_addition};
+ghost use Rattle.sim_book.specs.Answer.{is_due_by, tick_end, tick_room};
+ghost use Rattle.sim_book.specs.OnTape.{IsLengthened, world_on, tick_on};
 
 use crate::{MOST_EVENTS, MOST_TICK_EVENTS, Stop};
 use sim_node::{NoMemory, Node};
@@ -32,7 +32,7 @@ fn room_of(kept: u32) -> u32
 // The clock at the place of a warm tape (ms).
 fn clock<N: Node>(tape: &Tape<N>) -> u64
     requires { IsTrue tape.now.warm }
-    ensures value { result ≡ (world_of (rules N.laws N.PROBES tape.now.scenario) tape.now).clock }
+    ensures value { result ≡ (world_on N.laws N.PROBES tape.now).clock }
     ensures small { result ≤ 60000 * 65536 }
 {
     tape.here().clock()
@@ -41,7 +41,7 @@ fn clock<N: Node>(tape: &Tape<N>) -> u64
 // Whether something is due at a time (ms) or before it, at the place of a warm tape.
 fn is_due_by<N: Node>(tape: &Tape<N>, time: u64) -> bool
     requires { IsTrue tape.now.warm }
-    ensures { result ≡ is_due_by time (world_of (rules N.laws N.PROBES tape.now.scenario) tape.now) }
+    ensures { result ≡ is_due_by time (world_on N.laws N.PROBES tape.now) }
 {
     tape.here().is_due_by(time)
 }
@@ -49,7 +49,7 @@ fn is_due_by<N: Node>(tape: &Tape<N>, time: u64) -> bool
 // Why a tick stops that came to its time, at the place of a warm tape.
 fn stop_at_end<N: Node>(tape: &Tape<N>) -> Stop
     requires { IsTrue tape.now.warm }
-    ensures { result ≡ (if all_done (rules N.laws N.PROBES tape.now.scenario) (world_of (rules N.laws N.PROBES tape.now.scenario) tape.now) then Stop.AllDone else Stop.Asked) }
+    ensures { result ≡ (if all_done (rules N.laws N.PROBES tape.now.scenario) (world_on N.laws N.PROBES tape.now) then Stop.AllDone else Stop.Asked) }
 {
     if tape.here().are_clients_done() {
         Stop::AllDone
@@ -84,10 +84,10 @@ fn add_tick<N: Node>(
     requires reach { tape.old.reach ≤ tape.old.scenario.window }
     requires warm { IsTrue tape.old.warm }
     requires place { tape.old.place ≡ length tape.old.events }
-    ensures stop { IfOk result (λ why. why ≡ (tick_addition (rules N.laws N.PROBES tape.old.scenario) (branch_with [] tape.old)).stop) }
-    ensures ok { OnOk result (tape.new ≡ with_world true tape.new.reach (lengthened (tick_addition (rules N.laws N.PROBES tape.old.scenario) (branch_with [] tape.old)).events tape.old)) }
-    ensures reach { OnOk result (tape.new.reach ≡ min tape.old.scenario.window (tape.old.reach + length (tick_addition (rules N.laws N.PROBES tape.old.scenario) (branch_with [] tape.old)).events)) }
-    ensures work { OnOk result (Adds (length (tick_addition (rules N.laws N.PROBES tape.old.scenario) (branch_with [] tape.old)).events) (N.Meter.work meter.old) (N.Meter.work meter.new)) }
+    ensures stop { IfOk result (λ why. why ≡ (tick_on N.laws N.PROBES tape.old).stop) }
+    ensures ok { OnOk result (IsLengthened (tick_on N.laws N.PROBES tape.old).events tape.old tape.new) }
+    ensures reach { OnOk result (tape.new.reach ≡ raised (length (tick_on N.laws N.PROBES tape.old).events) tape.old) }
+    ensures work { OnOk result (Adds (length (tick_on N.laws N.PROBES tape.old).events) (N.Meter.work meter.old) (N.Meter.work meter.new)) }
     ensures err { OnErr result ((more : List Event) × (tape.new ≡ with_world tape.new.warm tape.new.reach (lengthened more tape.old))) }
 {
     for added in 0..room {
@@ -112,10 +112,10 @@ pub(crate) fn tick<N: Node>(
     requires near { takes ≤ 60000 }
     requires warm { IsTrue tape.old.warm }
     requires place { tape.old.place ≡ length tape.old.events }
-    ensures stop { IfOk result (λ why. why ≡ (tick_addition (rules N.laws N.PROBES tape.old.scenario) (branch_with [] tape.old)).stop) }
-    ensures ok { OnOk result (tape.new ≡ with_world true tape.new.reach (lengthened (tick_addition (rules N.laws N.PROBES tape.old.scenario) (branch_with [] tape.old)).events tape.old)) }
-    ensures reach { OnOk result (tape.new.reach ≡ min tape.old.scenario.window (tape.old.reach + length (tick_addition (rules N.laws N.PROBES tape.old.scenario) (branch_with [] tape.old)).events)) }
-    ensures work { OnOk result (Adds (length (tick_addition (rules N.laws N.PROBES tape.old.scenario) (branch_with [] tape.old)).events) (N.Meter.work meter.old) (N.Meter.work meter.new)) }
+    ensures stop { IfOk result (λ why. why ≡ (tick_on N.laws N.PROBES tape.old).stop) }
+    ensures ok { OnOk result (IsLengthened (tick_on N.laws N.PROBES tape.old).events tape.old tape.new) }
+    ensures reach { OnOk result (tape.new.reach ≡ raised (length (tick_on N.laws N.PROBES tape.old).events) tape.old) }
+    ensures work { OnOk result (Adds (length (tick_on N.laws N.PROBES tape.old).events) (N.Meter.work meter.old) (N.Meter.work meter.new)) }
     ensures err { OnErr result (tape.new ≡ with_world tape.new.warm tape.new.reach tape.old) }
 {
     let start = tape.len();

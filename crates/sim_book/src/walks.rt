@@ -1,13 +1,10 @@
 //! Steps that are added one after the other.
 ghost use Rattle.std.specs.Prelude.{◌≡◌, ℕ, ◌+◌, ◌-◌, ◌<◌, ◌≤◌, true, List, min, None, length, IsTrue, OnOk, OnErr, IfOk};
 ghost use Rattle.sim_world.specs.declared.Event.{Event};
-ghost use Rattle.sim_world.specs.declared.Event.TheVariants as events;
-ghost use Rattle.sim_world.specs.Events.{rules, refusal_of};
-ghost use Rattle.sim_tape.specs.Tape.{with_world, at};
-ghost use Rattle.sim_tape.specs.Places.{world_of};
+ghost use Rattle.sim_world.specs.Events.{rules};
+ghost use Rattle.sim_tape.specs.Tape.{with_world, at, raised};
 ghost use Rattle.sim_book.specs.Tapes.{lengthened};
-ghost use Rattle.sim_book.specs.Kept.{branch_with};
-ghost use Rattle.sim_book.specs.Answer.{run_addition, rewind_move};
+ghost use Rattle.sim_book.specs.OnTape.{IsLengthened, IsMoved, step_refusal, run_on, rewind_on};
 ghost use Rattle.sim_book.specs.Watches.{AreChecked, NoneFrom};
 ghost use Rattle.sim_book.specs.Works.{Adds, TakesBack};
 
@@ -32,14 +29,14 @@ fn add_steps<N: Node>(
     requires warm { IsTrue tape.old.warm }
     requires place { tape.old.place ≡ length tape.old.events }
     requires room { length tape.old.events < 65536 }
-    requires can { refusal_of (rules N.laws N.PROBES tape.old.scenario) events.Step (world_of (rules N.laws N.PROBES tape.old.scenario) tape.old) ≡ None }
+    requires can { step_refusal N.laws N.PROBES tape.old ≡ None }
     requires few { end ≤ 8 }
     requires none { NoneFrom end watches.now }
     requires checked { AreChecked tape.old.scenario.setup.hosts N.PROBES watches.now }
-    ensures stop { IfOk result (λ why. why ≡ (run_addition (rules N.laws N.PROBES tape.old.scenario) count (branch_with watches.now tape.old)).stop) }
-    ensures ok { OnOk result (tape.new ≡ with_world true tape.new.reach (lengthened (run_addition (rules N.laws N.PROBES tape.old.scenario) count (branch_with watches.now tape.old)).events tape.old)) }
-    ensures reach { OnOk result (tape.new.reach ≡ min tape.old.scenario.window (tape.old.reach + length (run_addition (rules N.laws N.PROBES tape.old.scenario) count (branch_with watches.now tape.old)).events)) }
-    ensures work { OnOk result (Adds (length (run_addition (rules N.laws N.PROBES tape.old.scenario) count (branch_with watches.now tape.old)).events) (N.Meter.work meter.old) (N.Meter.work meter.new)) }
+    ensures stop { IfOk result (λ why. why ≡ (run_on N.laws N.PROBES count watches.now tape.old).stop) }
+    ensures ok { OnOk result (IsLengthened (run_on N.laws N.PROBES count watches.now tape.old).events tape.old tape.new) }
+    ensures reach { OnOk result (tape.new.reach ≡ raised (length (run_on N.laws N.PROBES count watches.now tape.old).events) tape.old) }
+    ensures work { OnOk result (Adds (length (run_on N.laws N.PROBES count watches.now tape.old).events) (N.Meter.work meter.old) (N.Meter.work meter.new)) }
     ensures err { OnErr result ((more : List Event) × (tape.new ≡ with_world tape.new.warm tape.new.reach (lengthened more tape.old))) }
 {
     for added in 0..count {
@@ -64,12 +61,12 @@ pub(crate) fn run<N: Node>(
     requires warm { IsTrue tape.old.warm }
     requires place { tape.old.place ≡ length tape.old.events }
     requires room { length tape.old.events < 65536 }
-    requires can { refusal_of (rules N.laws N.PROBES tape.old.scenario) events.Step (world_of (rules N.laws N.PROBES tape.old.scenario) tape.old) ≡ None }
+    requires can { step_refusal N.laws N.PROBES tape.old ≡ None }
     requires checked { AreChecked tape.old.scenario.setup.hosts N.PROBES watches.now }
-    ensures stop { IfOk result (λ why. why ≡ (run_addition (rules N.laws N.PROBES tape.old.scenario) count (branch_with watches.now tape.old)).stop) }
-    ensures ok { OnOk result (tape.new ≡ with_world true tape.new.reach (lengthened (run_addition (rules N.laws N.PROBES tape.old.scenario) count (branch_with watches.now tape.old)).events tape.old)) }
-    ensures reach { OnOk result (tape.new.reach ≡ min tape.old.scenario.window (tape.old.reach + length (run_addition (rules N.laws N.PROBES tape.old.scenario) count (branch_with watches.now tape.old)).events)) }
-    ensures work { OnOk result (Adds (length (run_addition (rules N.laws N.PROBES tape.old.scenario) count (branch_with watches.now tape.old)).events) (N.Meter.work meter.old) (N.Meter.work meter.new)) }
+    ensures stop { IfOk result (λ why. why ≡ (run_on N.laws N.PROBES count watches.now tape.old).stop) }
+    ensures ok { OnOk result (IsLengthened (run_on N.laws N.PROBES count watches.now tape.old).events tape.old tape.new) }
+    ensures reach { OnOk result (tape.new.reach ≡ raised (length (run_on N.laws N.PROBES count watches.now tape.old).events) tape.old) }
+    ensures work { OnOk result (Adds (length (run_on N.laws N.PROBES count watches.now tape.old).events) (N.Meter.work meter.old) (N.Meter.work meter.new)) }
     ensures err { OnErr result (tape.new ≡ with_world tape.new.warm tape.new.reach tape.old) }
 {
     let start = tape.len();
@@ -99,10 +96,12 @@ fn go_back<N: Node>(
     requires few { end ≤ 8 }
     requires none { NoneFrom end watches.now }
     requires checked { AreChecked tape.old.scenario.setup.hosts N.PROBES watches.now }
-    ensures stop { IfOk result (λ why. why ≡ (rewind_move (rules N.laws N.PROBES tape.old.scenario) count (branch_with watches.now tape.old)).stop) }
-    ensures ok { OnOk result (tape.new ≡ with_world true tape.new.reach (at (rewind_move (rules N.laws N.PROBES tape.old.scenario) count (branch_with watches.now tape.old)).place tape.old)) }
+    ensures stop { IfOk result (λ why. why ≡ (rewind_on N.laws N.PROBES count watches.now tape.old).stop) }
+    ensures ok { OnOk result (IsMoved (rewind_on N.laws N.PROBES count watches.now tape.old).place tape.old tape.new) }
     ensures reach { OnOk result (tape.old.place - tape.new.place ≤ tape.old.reach → tape.new.reach ≡ tape.old.reach - (tape.old.place - tape.new.place)) }
-    ensures work { OnOk result (tape.old.place - tape.new.place ≤ tape.old.reach → TakesBack (rules N.laws N.PROBES tape.old.scenario) tape.new.place (tape.old.place - tape.new.place) tape.old (N.Meter.work meter.old) (N.Meter.work meter.new)) }
+    ensures work { OnOk result (tape.old.place - tape.new.place ≤ tape.old.reach
+        → TakesBack (rules N.laws N.PROBES tape.old.scenario) tape.new.place (tape.old.place - tape.new.place) tape.old
+        (N.Meter.work meter.old) (N.Meter.work meter.new)) }
     ensures err { OnErr result ((p : ℕ) × (tape.new ≡ with_world tape.new.warm tape.new.reach (at p tape.old))) }
 {
     for gone in 0..count {
@@ -127,10 +126,12 @@ pub(crate) fn rewind<N: Node>(
     requires within { count ≤ tape.old.place }
     requires warm { IsTrue tape.old.warm }
     requires checked { AreChecked tape.old.scenario.setup.hosts N.PROBES watches.now }
-    ensures stop { IfOk result (λ why. why ≡ (rewind_move (rules N.laws N.PROBES tape.old.scenario) count (branch_with watches.now tape.old)).stop) }
-    ensures ok { OnOk result (tape.new ≡ with_world true tape.new.reach (at (rewind_move (rules N.laws N.PROBES tape.old.scenario) count (branch_with watches.now tape.old)).place tape.old)) }
+    ensures stop { IfOk result (λ why. why ≡ (rewind_on N.laws N.PROBES count watches.now tape.old).stop) }
+    ensures ok { OnOk result (IsMoved (rewind_on N.laws N.PROBES count watches.now tape.old).place tape.old tape.new) }
     ensures reach { OnOk result (tape.old.place - tape.new.place ≤ tape.old.reach → tape.new.reach ≡ tape.old.reach - (tape.old.place - tape.new.place)) }
-    ensures work { OnOk result (tape.old.place - tape.new.place ≤ tape.old.reach → TakesBack (rules N.laws N.PROBES tape.old.scenario) tape.new.place (tape.old.place - tape.new.place) tape.old (N.Meter.work meter.old) (N.Meter.work meter.new)) }
+    ensures work { OnOk result (tape.old.place - tape.new.place ≤ tape.old.reach
+        → TakesBack (rules N.laws N.PROBES tape.old.scenario) tape.new.place (tape.old.place - tape.new.place) tape.old
+        (N.Meter.work meter.old) (N.Meter.work meter.new)) }
     ensures err { OnErr result (tape.new ≡ with_world tape.new.warm tape.new.reach tape.old) }
 {
     let place = tape.place();
