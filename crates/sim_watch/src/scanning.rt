@@ -81,8 +81,9 @@ pub fn scan_seed<N: Node>(
             Err(_) => return Ok(None),
             Ok(()) => {}
         }
-        let (after, _undo) = world.apply(alloc, Event::Step, meter)?;
+        let (after, record) = world.apply(alloc, Event::Step, meter)?;
         world = after;
+        world.reuse(record);
     }
     if holds(cond, &world) {
         Ok(None)
