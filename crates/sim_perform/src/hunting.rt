@@ -7,9 +7,10 @@ ghost use Rattle.sim_scenario.specs.Seen.{seen};
 
 use crate::Status;
 use crate::answer::{Answer, of_search, of_sweep};
+use crate::following::follow;
 use crate::progress::Progress;
 use sim_book::Book;
-use sim_cli::{answer_lines, set_up};
+use sim_cli::set_up;
 use sim_lines::Ahead;
 use sim_node::{NoMemory, Node};
 use sim_scenario::ScenarioText;
@@ -20,7 +21,6 @@ use sim_tape::Frozen;
 use sim_watch::{Cond, pieces};
 use sim_world::Scenario;
 use std::alloc::Global;
-use std::io;
 use std::io::Read;
 use std::rt::Clock;
 use std::sync::Wait;
@@ -55,7 +55,7 @@ fn meters(alloc: Global, workers: u64) -> Result<Vec<Tally>, NoMemory>
     Ok(meters)
 }
 
-// All kept events of the first branch, once a script is played; its answers are not written.
+// All kept events of the first branch, once a script was followed.
 fn played<N: Node<Meter = Tally>, R: Read>(
     alloc: Global,
     scenario: &Scenario,
@@ -66,10 +66,7 @@ fn played<N: Node<Meter = Tally>, R: Read>(
     let Ok(mut book) = Book::<N>::new(alloc, scenario, Tally::new()) else {
         return Err(Status::MemoryWanted);
     };
-    match answer_lines(alloc, &mut book, names, reader, ahead, &mut io::sink()) {
-        Status::Well => {}
-        fault => return Err(fault),
-    }
+    follow(alloc, &mut book, names, reader, ahead)?;
     first_run(alloc, &book)
 }
 

@@ -2,6 +2,7 @@
 #![tactic(auto)]
 
 mod answer;
+mod following;
 mod hunting;
 mod performing;
 mod progress;

@@ -1,0 +1,2 @@
+-- Lemmas on scripts that are followed.
+pub mod Follows
