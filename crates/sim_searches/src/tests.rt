@@ -1,0 +1,5 @@
+mod fold;
+mod long;
+mod meeting;
+mod overlap;
+mod scenes;
