@@ -1,0 +1,108 @@
+//! Four sessions at one book, each in a thread of its own. A run of two-phase commit is crashed after more and more events, on a
+//! branch for each crash, and each session looks at what became of its own.
+//!
+//! Nobody says which session comes first. Since each has a branch of its own, its receipts are the same each time.
+#![tactic(auto)]
+
+mod told;
+
+ghost use Rattle.std.specs.Prelude.{◌≡◌, All};
+ghost use Rattle.sim_shared.specs.Sharing.{IsAt};
+
+use crate::told::Told;
+use anyhow::{Context, Result, ensure};
+use sim_book::{Book, Command};
+use sim_links::{Way, Ways};
+use sim_node::Setup;
+use sim_shared::{Seat, Shared};
+use sim_tally::Tally;
+use sim_two_phase::TwoPhase;
+use sim_world::{Fault, Query, Scenario};
+use std::sync::Wait;
+use std::thread;
+use std::thread::Threads;
+
+type Node = TwoPhase<Tally>;
+
+const SESSIONS: u8 = 4;
+
+/// Three branches are made, and each session gives seven commands.
+const ENTRIES: usize = 31;
+
+const COORDINATOR: u16 = 0;
+
+const PARTICIPANT: u16 = 1;
+
+/// The probe that tells the outcome of the first transaction: 1 where it is committed, 2 where it is aborted, else 0.
+const FIRST: u8 = 1;
+
+// A coordinator, a participant and a client with one transaction. A message takes 10 ms, a sync of a disk 5 ms.
+fn scenario() -> Result<Scenario> {
+    let ways = Ways::all(Way {
+        latency_min: 10,
+        latency_max: 10,
+        loss: 0,
+    });
+    let setup = Setup {
+        servers: 2,
+        hosts: 3,
+        ops: [1; 32],
+    };
+    let scenario = Scenario::new([0; 32], 100, ways, 5, setup, 4, 2)
+        .ok()
+        .context("the scenario is not within the limits")?;
+    Ok(scenario.numbered(5))
+}
+
+// Session 0 makes a branch without events for each session but itself. It has the first branch.
+fn make_branches<R: Wait>(rt: &R, shared: &Shared<Node>, seat: &mut Seat<Node>) -> Result<()>
+    requires { IsAt shared.now seat.old }
+    ensures { IsAt shared.now seat.new }
+{
+    for _ in 1..SESSIONS {
+        shared
+            .call(rt, seat, Command::Branch(0, 0))
+            .ok()
+            .context("a branch was not made")?;
+    }
+    Ok(())
+}
+
+// A session crashes the coordinator of its branch, and asks both servers what became of the transaction. It ends early where a
+// command is not taken.
+fn crash<R: Wait>(rt: &R, shared: &Shared<Node>, seat: &mut Seat<Node>)
+    requires { IsAt shared.now seat.old }
+    ensures { IsAt shared.now seat.new }
+{
+    let branch = u32::from(seat.session());
+    let commands = [
+        Command::Run(branch, 6 + branch),
+        Command::Fault(branch, Fault::Crash(COORDINATOR)),
+        Command::Fault(branch, Fault::Bounce(COORDINATOR)),
+        Command::Run(branch, 100),
+        Command::Tick(branch),
+        Command::Look(branch, Query::Probe(COORDINATOR, FIRST)),
+        Command::Look(branch, Query::Probe(PARTICIPANT, FIRST)),
+    ];
+    for command in commands {
+        if shared.call(rt, seat, command).is_err() {
+            break;
+        }
+    }
+}
+
+fn main(rt: HostRuntime) -> Result<()> {
+    let alloc = rt.alloc();
+    let book = Book::new(alloc, &scenario()?, Tally::new())?;
+    let (shared, mut seats) = Shared::new(alloc, book, SESSIONS)?;
+    make_branches(&rt, &shared, &mut seats[0])?;
+    thread::for_each_mut(&rt, &mut seats, 4, &|_, seat| crash(&rt, &shared, seat));
+    let history = shared.close(seats);
+    ensure!(history.entries.len() == ENTRIES, "a command was not taken");
+    for session in 0..SESSIONS {
+        for entry in history.entries.iter().filter(|e| e.session == session) {
+            println!(rt; "{}", Told(entry))?;
+        }
+    }
+    Ok(())
+}
