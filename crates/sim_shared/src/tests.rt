@@ -4,6 +4,8 @@ ghost use Rattle.sim_lock.specs.Entries.{HasEntry};
 ghost use Rattle.sim_lock.specs.Seats.{IsReceipt};
 ghost use Rattle.sim_shared.specs.Sharing.{IsAt};
 
+mod crowds;
+
 use crate::{History, Receipt, Seat, Shared};
 use sim_book::{Book, Command, Reply};
 use sim_echo::Echo;
