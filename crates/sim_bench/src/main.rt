@@ -6,14 +6,18 @@
 mod book;
 mod queue;
 mod ring;
+mod sessions;
 mod streams;
 mod tape;
 mod world;
 
 use crate::book::BookTurn;
+use crate::sessions::Sessions;
 use crate::tape::TapeTurn;
 use crate::world::Cluster;
 use std::alloc::{AllocError, Global};
+use std::sync::Wait;
+use std::thread::Threads;
 use std::time::Instant;
 use std::{env, io};
 
@@ -32,6 +36,7 @@ const QUIET_TURNS: u32 = 1_000;
 ///     `RingUndos`    an event where so many steps are taken and then taken back, again and again
 ///     `TapeTurns`    a turn on a tape
 ///     `BookTurns`    an event of a turn of a book
+///     `Looks`        a look of a session at a shared book
 #[derive(Clone, Copy)]
 enum Measure {
     Draws,
@@ -45,9 +50,10 @@ enum Measure {
     RingUndos(u32),
     TapeTurns(TapeTurn),
     BookTurns(BookTurn),
+    Looks(Sessions),
 }
 
-const MEASURES: [(&'static str, u32, Measure); 28] = [
+const MEASURES: [(&'static str, u32, Measure); 30] = [
     ("draws", 10_000_000, Measure::Draws),
     ("draws and undraws", 5_000_000, Measure::Undraws),
     (
@@ -168,11 +174,26 @@ const MEASURES: [(&'static str, u32, Measure); 28] = [
         1_000_000,
         Measure::BookTurns(BookTurn::WatchedRewind),
     ),
+    (
+        "looks by 1 session",
+        1_000_000,
+        Measure::Looks(Sessions::One),
+    ),
+    (
+        "looks by 8 sessions",
+        1_000_000,
+        Measure::Looks(Sessions::Eight),
+    ),
 ];
 
 impl Measure {
     // Takes so many turns, and answers a number that depends on what each of them gave.
-    fn run(self, alloc: Global, turns: u32) -> Result<u64, AllocError> {
+    fn run<R: Threads + Wait + Sync>(
+        self,
+        rt: &R,
+        alloc: Global,
+        turns: u32,
+    ) -> Result<u64, AllocError> {
         match self {
             Measure::Draws => Ok(streams::draws(turns)),
             Measure::Undraws => Ok(streams::undraws(turns)),
@@ -185,6 +206,7 @@ impl Measure {
             Measure::RingUndos(depth) => ring::undos(alloc, depth, turns),
             Measure::TapeTurns(turn) => turn.run(alloc, turns),
             Measure::BookTurns(turn) => turn.run(alloc, turns),
+            Measure::Looks(sessions) => sessions.run(rt, alloc, turns),
         }
     }
 }
@@ -199,11 +221,11 @@ fn main(rt: HostRuntime) -> io::Result<()> {
     let quiet = env::args(&rt)?.any(|word| word.as_str() == "quiet");
     for (name, turns, measure) in MEASURES {
         if quiet {
-            let sum = measure.run(rt.alloc(), QUIET_TURNS)?;
+            let sum = measure.run(&rt, rt.alloc(), QUIET_TURNS)?;
             println!(rt; "{name}: {QUIET_TURNS} turns, checksum {sum}")?;
         } else {
             let start = Instant::now(&rt)?;
-            let sum = measure.run(rt.alloc(), turns)?;
+            let sum = measure.run(&rt, rt.alloc(), turns)?;
             let seconds = start.elapsed(&rt)?.as_secs_f64();
             let rate = f64::from(turns) / seconds;
             println!(rt; "{name}: {rate:.0} a second, {turns} turns, checksum {sum}")?;
