@@ -90,7 +90,6 @@ impl<N: Node> Tape<N> {
         ensures value { result ≡ self.now.place }
         ensures within { self.now.place ≤ length self.now.events }
     {
-        let _run = &self.log;
         self.place
     }
 
