@@ -1,4 +1,6 @@
 //! Two that wait for each other, each for so many looks at most: workers at a gate, and meters at their first turn.
+ghost use Rattle.std.specs.Prelude.{◌≡◌, IfOk, vec_len};
+
 use sim_node::Meter;
 use sim_search::Gate;
 use sim_tally::Tally;
