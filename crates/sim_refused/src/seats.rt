@@ -1,28 +1,45 @@
-//! The script, by the calls of a session of a shared book.
-ghost use Rattle.std.specs.Prelude.{◌≡◌, IfOk};
+//! The script, by the calls of a session of a shared book, beside another session.
+ghost use Rattle.std.specs.Prelude.{◌≡◌};
 ghost use Rattle.sim_shared.specs.Sharing.{IsAt};
 
 use crate::opening::{Nodes, SCRIPT, command, opening, tell, wants_memory};
 use crate::{TRIES, Trouble};
-use sim_book::Book;
+use sim_book::{Book, Command};
 use sim_cli::Tally;
 use sim_script::Names;
 use sim_shared::{Seat, Shared};
+use sim_world::Query;
 use std::alloc::Global;
 use std::sync::Wait;
 
-// Calls for a line, again where the call wanted memory, and adds the line of the answer. It tells how many calls were taken.
+// The call of another session that comes next. It looks at the first branch, and changes nothing.
+fn look<R: Wait>(rt: &R, shared: &Shared<Nodes>, seat: &mut Seat<Nodes>) -> Result<(), Trouble>
+    requires { IsAt shared.now seat.old }
+    ensures { IsAt shared.now seat.new }
+{
+    let turn = shared.call(rt, seat, Command::Look(0, Query::Summary));
+    if wants_memory(&turn) {
+        return Err(Trouble::StillWanting);
+    }
+    Ok(())
+}
+
+// Calls for a line, and adds the line of the answer. Where the call wanted memory, the other session's call goes on, and then this
+// one does. It tells how many calls were taken.
 fn call<R: Wait>(
     rt: &R,
     alloc: Global,
     shared: &Shared<Nodes>,
     seat: &mut Seat<Nodes>,
+    other: &mut Seat<Nodes>,
     names: &Names,
     line: &str,
     text: &mut String,
-) -> Result<u32, Trouble>
-    requires { IsAt shared.now seat.old }
-    ensures { IsAt shared.now seat.new }
+) -> Result<usize, Trouble>
+    requires here { IsAt shared.now seat.old }
+    requires there { IsAt shared.now other.old }
+    ensures here { IsAt shared.now seat.new }
+    ensures there { IsAt shared.now other.new }
 {
     let mut taken = 0;
     for _attempt in 0..TRIES {
@@ -34,6 +51,8 @@ fn call<R: Wait>(
             tell(alloc, text, names, &turn)?;
             return Ok(taken);
         }
+        look(rt, shared, other)?;
+        taken += 1;
     }
     Err(Trouble::StillWanting)
 }
@@ -42,16 +61,22 @@ fn call<R: Wait>(
 pub fn lines<R: Wait>(rt: &R, alloc: Global) -> Result<String, Trouble> {
     let (scenario, names) = opening(alloc)?;
     let book = Book::<Nodes>::new(alloc, &scenario, Tally::new())?;
-    let (shared, mut seats) = Shared::new(alloc, book, 1)?;
-    let Some(mut seat) = seats.pop() else {
+    let (shared, mut seats) = Shared::new(alloc, book, 2)?;
+    let Some(mut one) = seats.pop() else {
+        unreachable!()
+    };
+    let Some(mut zero) = seats.pop() else {
         unreachable!()
     };
     let mut text = String::new(alloc);
     let mut taken = 0usize;
     for line in SCRIPT {
-        taken += call(rt, alloc, &shared, &mut seat, &names, line, &mut text)? as usize;
+        let calls = call(
+            rt, alloc, &shared, &mut zero, &mut one, &names, line, &mut text,
+        )?;
+        taken = taken.saturating_add(calls);
     }
-    if seats.push(seat).is_err() {
+    if seats.push(zero).is_err() || seats.push(one).is_err() {
         return Err(Trouble::NoMemory);
     }
     let history = shared.close(seats);
