@@ -33,7 +33,8 @@ fn answer<R: Threads + Wait + Sync + Clock + Eprint>(
         let mut text = Vec::new(alloc);
         match perform(rt, alloc, job, &mut reader, &mut text) {
             Status::Well => return Ok(text),
-            Status::MemoryWanted if text.is_empty() => {}
+            // A list that can't grow is a writer that fails.
+            Status::MemoryWanted | Status::WriterFailed if text.is_empty() => {}
             _ => return Err(Trouble::Wrong),
         }
     }
