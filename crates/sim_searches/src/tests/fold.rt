@@ -26,7 +26,7 @@ pub fn nexts(
     let mut seen = Vec::new(alloc);
     seen.push(next(&world, client))?;
     for _step in 0..steps {
-        if world.can(Event::Step).is_err() {
+        if 65_536 <= world.age() || world.can(Event::Step).is_err() {
             return Ok(seen);
         }
         let (after, _record) = world.apply(alloc, Event::Step, &mut tally)?;

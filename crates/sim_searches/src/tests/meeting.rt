@@ -1,14 +1,8 @@
-//! Two that wait for each other, each for so many looks at most: workers at a gate, and meters at their first turn.
-ghost use Rattle.std.specs.Prelude.{◌≡◌, IfOk, vec_len};
-
-use sim_node::Meter;
+//! Two workers that wait for each other at a gate, each for so many looks at most.
 use sim_search::Gate;
-use sim_tally::Tally;
-use std::alloc::Global;
+use std::sync::Wait;
 use std::sync::atomic::Ordering::SeqCst;
 use std::sync::atomic::{AtomicBool, AtomicU64};
-use std::sync::{Arc, Wait};
-use std::test::Fail;
 use std::thread::yield_now;
 
 const LOOKS: u32 = 10_000_000;
@@ -59,61 +53,4 @@ impl Gate for Meeting {
     }
 
     fn leave<R: Wait>(&self, _rt: &R, _piece: u64) {}
-}
-
-/// A tally that waits at its first turn for another's.
-#[derive(Drop)]
-pub struct Waiting {
-    tally: Tally,
-    number: u64,
-    turned: bool,
-    meeting: Arc<Meeting>,
-}
-
-impl Waiting {
-    /// Two that wait for each other.
-    pub fn pair(alloc: Global, meeting: &Arc<Meeting>) -> Result<Vec<Waiting>, Fail>
-        ensures { IfOk result (λ v. vec_len v ≡ 2) }
-    {
-        let mut meters = Vec::new(alloc);
-        for number in 0..2 {
-            meters.push(Waiting {
-                tally: Tally::new(),
-                number,
-                turned: false,
-                meeting: meeting.clone()?,
-            })?;
-        }
-        Ok(meters)
-    }
-
-    /// One that waits for none.
-    pub fn none(meeting: &Arc<Meeting>) -> Result<Waiting, Fail> {
-        Ok(Waiting {
-            tally: Tally::new(),
-            number: 2,
-            turned: false,
-            meeting: meeting.clone()?,
-        })
-    }
-}
-
-impl Meter for Waiting {
-    ghost work = { λ w. w.tally.work };
-
-    fn turn(&mut self) {
-        self.tally.turn();
-        if !self.turned {
-            self.turned = true;
-            self.meeting.come(self.number);
-        }
-    }
-
-    fn copied(&mut self) {
-        self.tally.copied();
-    }
-
-    fn undone(&mut self) {
-        self.tally.undone();
-    }
 }
