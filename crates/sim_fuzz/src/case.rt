@@ -1,8 +1,7 @@
-//! A case: an input at random, and what a play of it and a hunt in its runs are to write.
+//! A case: an input at random, and what is to be written for it.
 use crate::answering::Branches;
 use crate::asking::{Asker, Line};
 use crate::dice::Dice;
-use crate::hunting::Hunt;
 use crate::naming::Naming;
 use crate::plain::Trouble;
 use crate::setting::Setting;
@@ -14,16 +13,15 @@ use std::alloc::{AllocError, Global};
 /// The most probes of a protocol.
 const MOST_PROBES: u8 = 16;
 
-/// An input, what is to be written for it, and a hunt in its runs.
+/// An input, and what is to be written for it.
 #[derive(Drop)]
 pub struct Case {
     pub input: String,
     /// What a play is to write.
     pub expected: String,
-    pub hunt: Hunt,
 }
 
-/// What was written, and how it ended.
+/// What a play wrote, and how it ended.
 #[derive(Drop)]
 pub struct Written {
     pub status: Status,
@@ -58,15 +56,14 @@ fn script(
     Ok(lines)
 }
 
-/// What a play of the lines is to write, and a hunt in the run that they leave.
+/// What a play of the lines is to write.
 fn expected<N: Node>(
     alloc: Global,
     setting: &Setting,
     naming: Naming,
     lines: &[Line],
-    asker: &mut Asker,
     meter: N::Meter,
-) -> Result<(String, Hunt), Trouble> {
+) -> Result<String, Trouble> {
     let Some(scenario) = setting.scenario() else {
         return Err(Trouble::Impossible);
     };
@@ -83,9 +80,7 @@ fn expected<N: Node>(
             }
         }
     }
-    let events = branches.events(0);
-    let hunt = Hunt::some::<N>(alloc, asker, setting, naming, events, &mut meter)?;
-    Ok((play, hunt))
+    Ok(play)
 }
 
 impl Case {
@@ -109,27 +104,20 @@ impl Case {
         };
         let lines = script(alloc, &mut asker, naming, count, &mut input)?;
         let lines = lines.as_slice();
-        let asker = &mut asker;
         let meter = Tally::new();
-        let (expected, hunt) = match setting.protocol {
-            Protocol::Echo => {
-                expected::<Echo<Tally>>(alloc, &setting, naming, lines, asker, meter)?
-            }
+        let expected = match setting.protocol {
+            Protocol::Echo => { expected::<Echo<Tally>>(alloc, &setting, naming, lines, meter)? }
             Protocol::PrimaryBackup => {
-                expected::<PrimaryBackup<Tally>>(alloc, &setting, naming, lines, asker, meter)?
+                expected::<PrimaryBackup<Tally>>(alloc, &setting, naming, lines, meter)?
             }
             Protocol::AbdRegister => {
-                expected::<AbdRegister<Tally>>(alloc, &setting, naming, lines, asker, meter)?
+                expected::<AbdRegister<Tally>>(alloc, &setting, naming, lines, meter)?
             }
             Protocol::TwoPhase => {
-                expected::<TwoPhase<Tally>>(alloc, &setting, naming, lines, asker, meter)?
+                expected::<TwoPhase<Tally>>(alloc, &setting, naming, lines, meter)?
             }
         };
-        Ok(Case {
-            input,
-            expected,
-            hunt,
-        })
+        Ok(Case { input, expected })
     }
 
     /// What the play writes where it is not what it is to write.
