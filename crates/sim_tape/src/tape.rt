@@ -36,7 +36,7 @@ pub struct Tape<N: Node> {
 }
 
 impl<N: Node> Model for Tape<N> {
-    ghost use Rattle.std.specs.Prelude.{◌≡◌, length, is_some};
+    ghost use Rattle.std.specs.Prelude.{◌≡◌, ◌≤◌, length, is_some};
     ghost use Rattle.sim_world.specs.Events.{rules};
     ghost use Rattle.sim_tape.specs.Tape.{Tape as TapeView};
     ghost use Rattle.sim_tape.specs.Places.{events_of, AreCheckpoints};
@@ -56,7 +56,8 @@ impl<N: Node> Model for Tape<N> {
         IsRun (rules N.laws N.PROBES t.log.scenario) t.log.entries
         × AreCheckpoints (rules N.laws N.PROBES t.log.scenario) (events_of t.log.entries) t.checkpoints.items
         × IsWalk N.told N.records (rules N.laws N.PROBES t.log.scenario) (events_of t.log.entries) t.place t.walk.world t.walk.ring.items
-        × (t.walk.ring.capacity ≡ t.log.scenario.window) };
+        × (t.walk.ring.capacity ≡ t.log.scenario.window)
+        × (length t.walk.ring.items ≤ t.log.scenario.window) };
 }
 
 impl<N: Node> Tape<N> {
@@ -76,7 +77,6 @@ impl<N: Node> Tape<N> {
         let log = Log::new(alloc, Arc::new(alloc, scenario.copy())?)?;
         let mut walk = Walk::cold(alloc, log.window())?;
         walk.world = Some(world);
-        let _limits = log.interval();
         Ok(Tape {
             log,
             checkpoints,
@@ -97,6 +97,7 @@ impl<N: Node> Tape<N> {
     pub fn len(&self) -> u32
         ensures value { result ≡ length self.now.events }
         ensures few { length self.now.events ≤ 65536 }
+        ensures reach { self.now.reach ≤ self.now.scenario.window }
     {
         self.log.len() as u32
     }
@@ -107,7 +108,6 @@ impl<N: Node> Tape<N> {
         ensures cold { self.now.warm ≡ false → self.now.reach ≡ 0 }
         ensures reach { self.now.reach ≤ self.now.scenario.window }
     {
-        let _room = self.walk.ring.capacity();
         self.walk.world.is_some()
     }
 

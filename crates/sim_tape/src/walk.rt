@@ -156,6 +156,7 @@ impl<N: Node> Walk<N> {
         requires runs { IsRun (rules_in N.laws N.PROBES log.now) log.now.entries }
         requires walk { IsWalkIn N.told N.records N.laws N.PROBES log.now place self.old.world self.old.ring.items }
         requires warm { IsSome self.old.world }
+        requires ring { length self.old.ring.items ≤ self.old.ring.capacity }
         requires order { place ≤ to }
         requires within { to ≤ length log.now.entries }
         ensures ok { OnOk result (IsWalkIn N.told N.records N.laws N.PROBES log.now to self.new.world self.new.ring.items) }
@@ -163,9 +164,9 @@ impl<N: Node> Walk<N> {
         ensures reach { OnOk result (length self.new.ring.items ≡ min self.old.ring.capacity (length self.old.ring.items + (to - place))) }
         ensures work { OnOk result (OnlyTurns (to - place) (N.Meter.work meter.old) (N.Meter.work meter.new)) }
         ensures capacity { self.new.ring.capacity ≡ self.old.ring.capacity }
+        ensures ring { length self.new.ring.items ≤ self.new.ring.capacity }
         ensures err { OnErr result (IsWalkIn N.told N.records N.laws N.PROBES log.now place self.new.world self.new.ring.items) }
     {
-        let _room = self.ring.capacity();
         let Some(world) = self.world.take() else {
             unreachable!()
         };
@@ -193,6 +194,7 @@ impl<N: Node> Walk<N> {
     ) -> Result<(), NoMemory>
         requires walk { IsWalkIn N.told N.records N.laws N.PROBES log.now place self.old.world self.old.ring.items }
         requires warm { IsSome self.old.world }
+        requires ring { length self.old.ring.items ≤ self.old.ring.capacity }
         requires reach { count ≤ length self.old.ring.items }
         ensures ok { OnOk result (IsWalkIn N.told N.records N.laws N.PROBES log.now (place - count) self.new.world self.new.ring.items) }
         ensures warm { OnOk result (IsSome self.new.world) }
@@ -200,6 +202,7 @@ impl<N: Node> Walk<N> {
         ensures work { OnOk result (N.Meter.work meter.new ≡
             undone_by (acting (rules_in N.laws N.PROBES log.now) (place - count) count (events_of log.now.entries)) (N.Meter.work meter.old)) }
         ensures capacity { self.new.ring.capacity ≡ self.old.ring.capacity }
+        ensures ring { length self.new.ring.items ≤ self.new.ring.capacity }
         ensures err { OnErr result (IsWalkIn N.told N.records N.laws N.PROBES log.now place self.new.world self.new.ring.items) }
     {
         let Some(world) = self.world.take() else {
@@ -230,12 +233,14 @@ impl<N: Node> Walk<N> {
     ) -> Result<(), NoMemory>
         requires runs { IsRun (rules_in N.laws N.PROBES log.now) log.now.entries }
         requires checkpoint { IsAtIn N.laws N.PROBES log.now from checkpoint.now }
+        requires ring { length self.old.ring.items ≤ self.old.ring.capacity }
         requires order { from ≤ to }
         requires within { to ≤ length log.now.entries }
         ensures ok { OnOk result (IsWalkIn N.told N.records N.laws N.PROBES log.now to self.new.world self.new.ring.items) }
         ensures warm { OnOk result (IsSome self.new.world) }
         ensures work { OnOk result (Plays (to - from) (running checkpoint.now.world) (N.Meter.work meter.old) (N.Meter.work meter.new)) }
         ensures capacity { self.new.ring.capacity ≡ self.old.ring.capacity }
+        ensures ring { length self.new.ring.items ≤ self.new.ring.capacity }
         ensures err { OnErr result ((place : ℕ) → IsWalkIn N.told N.records N.laws N.PROBES log.now place self.old.world self.old.ring.items →
             IsWalkIn N.told N.records N.laws N.PROBES log.now place self.new.world self.new.ring.items) }
     {
@@ -292,6 +297,7 @@ impl<N: Node> Walk<N> {
         requires runs { IsRun (rules_in N.laws N.PROBES log.now) log.now.entries }
         requires walk { IsWalkIn N.told N.records N.laws N.PROBES log.now (length log.now.entries) self.old.world self.old.ring.items }
         requires warm { IsSome self.old.world }
+        requires ring { length self.old.ring.items ≤ self.old.ring.capacity }
         requires room { length log.now.entries < 65536 }
         requires can { refusal_of (rules_in N.laws N.PROBES log.now) event (world_at_end N.laws N.PROBES log.now) ≡ None }
         ensures ok { OnOk result (IsWalkAfter N.told N.records N.laws N.PROBES event log.now self.new.world self.new.ring.items) }
@@ -306,9 +312,9 @@ impl<N: Node> Walk<N> {
         ensures work { OnOk result (Plays 1 (if asked then running (world_after N.laws N.PROBES event log.now) else 0)
             (N.Meter.work meter.old) (N.Meter.work meter.new)) }
         ensures capacity { self.new.ring.capacity ≡ self.old.ring.capacity }
+        ensures ring { length self.new.ring.items ≤ self.new.ring.capacity }
         ensures err { OnErr result (IsWalkIn N.told N.records N.laws N.PROBES log.now (length log.now.entries) self.new.world self.new.ring.items) }
     {
-        let _room = self.ring.capacity();
         let Some(world) = self.world.take() else {
             unreachable!()
         };

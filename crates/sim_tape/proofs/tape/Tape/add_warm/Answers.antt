@@ -56,11 +56,14 @@ invariant_of-self-2 g c =
     let done = subst (λ (s : Scenario). Inside g.N.Node.told g.N.Node.records g.N.Node.laws g.N.Node.PROBES s c.push.new.self.entries c.keep.new.worlds.items (i.place + 1) c.step.new.self.world c.step.new.self.ring.items)
     (sym c.push.ensures.scenario)
     (subst (λ es. Inside g.N.Node.told g.N.Node.records g.N.Node.laws g.N.Node.PROBES log.scenario es c.keep.new.worlds.items (i.place + 1) c.step.new.self.world c.step.new.self.ring.items)
-    (sym c.push.ensures.entries) all) in (
+    (sym c.push.ensures.entries) all) in
+    let ring = c.step.ensures.ring in
+    let window = c.step.ensures.capacity ∙ c.self.invariant.3 ∙ ap (λ l. l.scenario.window) (sym same) ∙ ap (λ s. s.window) (sym c.push.ensures.scenario) in (
       done.run,
       done.checkpoints,
       done.walk,
-      c.step.ensures.capacity ∙ c.self.invariant.3 ∙ ap (λ l. l.scenario.window) (sym same) ∙ ap (λ s. s.window) (sym c.push.ensures.scenario),
+      window,
+      omega (arith, ring, window),
     )
 
 pub returns-clause-ok : goal.returns-clause-ok

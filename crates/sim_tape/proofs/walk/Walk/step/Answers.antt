@@ -1,4 +1,4 @@
-use Rattle.std.proofs.Common.{◌≡◌, ◌≤◌, subst, ◌+◌, ◌++◌, ◌∷◌, [], length, sym, ap, ◌∙◌, arith}
+use Rattle.std.proofs.Common.{◌≡◌, ◌≤◌, subst, ◌+◌, ◌++◌, ◌∷◌, [], length, sym, ap, ◌∙◌}
 use Rattle.sim_world.specs.Clock.{clock_after}
 use Rattle.sim_world.specs.Events.{rules}
 use Rattle.sim_tape.specs.Places.{events_of, world_at}
@@ -96,4 +96,4 @@ returns-in_ok-copy-in-Ok-clause-on g c =
 pub returns-in_ok-copy-in-Ok-clause-reach : goal.returns-in_ok-copy-in-Ok-clause-reach
 returns-in_ok-copy-in-Ok-clause-reach g c =
     let old = c.args.self.now in
-    rw (c.in_ok-copy-in-Ok.ensures.ring, c.keep.ensures.ring) (kept_length old.ring.capacity old.ring.items c.in-Ok.record (let h = c.capacity-room.ensures.within.0 in omega (arith, h, c.capacity-room.ensures.capacity)))
+    rw (c.in_ok-copy-in-Ok.ensures.ring, c.keep.ensures.ring) (kept_length old.ring.capacity old.ring.items c.in-Ok.record c.requires.ring)
