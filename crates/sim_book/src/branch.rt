@@ -129,7 +129,6 @@ pub(crate) fn run<N: Node>(
     ensures keeps { Keeps N.laws N.PROBES (command.Run b count) result tape.old tape.new }
     ensures work { Works N.laws N.PROBES (command.Run b count) result tape.old tape.new (N.Meter.work meter.old) (N.Meter.work meter.new) }
 {
-    let _warm = tape.warm();
     if tape.place() < tape.len() {
         return Reply::Refused(Refusal::NotAtEnd);
     }

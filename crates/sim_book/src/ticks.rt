@@ -90,8 +90,7 @@ fn add_tick<N: Node>(
     ensures work { OnOk result (Adds (length (tick_on N.laws N.PROBES tape.old).events) (N.Meter.work meter.old) (N.Meter.work meter.new)) }
     ensures err { OnErr result ((more : List Event) × (tape.new ≡ with_world tape.new.warm tape.new.reach (lengthened more tape.old))) }
 {
-    for added in 0..room {
-        let _ = added;
+    for _ in 0..room {
         if !is_due_by(tape, end) {
             tape.add(alloc, Event::Advance(end), meter)?;
             return Ok(stop_at_end(tape));
@@ -119,7 +118,6 @@ pub(crate) fn tick<N: Node>(
     ensures err { OnErr result (tape.new ≡ with_world tape.new.warm tape.new.reach tape.old) }
 {
     let start = tape.len();
-    let _warm = tape.warm();
     let end = clock(tape) + takes as u64;
     match add_tick(alloc, tape, meter, end, room_of(start)) {
         Ok(why) => Ok(why),

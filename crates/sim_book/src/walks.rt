@@ -70,7 +70,6 @@ pub(crate) fn run<N: Node>(
     ensures err { OnErr result (tape.new ≡ with_world tape.new.warm tape.new.reach tape.old) }
 {
     let start = tape.len();
-    let _warm = tape.warm();
     let end = stops::end_of(watches);
     match add_steps(alloc, tape, watches, end, meter, count) {
         Ok(why) => Ok(why),
@@ -104,8 +103,7 @@ fn go_back<N: Node>(
         (N.Meter.work meter.old) (N.Meter.work meter.new)) }
     ensures err { OnErr result ((p : ℕ) × (tape.new ≡ with_world tape.new.warm tape.new.reach (at p tape.old))) }
 {
-    for gone in 0..count {
-        let _ = gone;
+    for _ in 0..count {
         tape.back(alloc, 1, meter)?;
         if let Some(watch) = stops::failing_here(tape, watches, end) {
             return Ok(Stop::Watch(watch));

@@ -22,7 +22,7 @@ returns-in-Ok-run-clause-turn g c = λ book.
 pub returns-then-count-eq0-clause-keeps : goal.returns-then-count-eq0-clause-keeps
 returns-then-count-eq0-clause-keeps g c =
     subst (λ (x : Reply). Keeps g.N.Node.laws g.N.Node.PROBES (command.Run c.args.b c.args.count) x c.args.tape.now c.make_warm.new.self) (sym c.moved.ensures)
-    (run_none_keeps c.args.tape.now c.make_warm.new.self c.in-Ok.ensures.ok (warm_reach c.args.tape.now c.make_warm.new.self (λ warm. (c.make_warm.ensures.warm warm).1)) c.warm-warm.ensures.reach)
+    (run_none_keeps c.args.tape.now c.make_warm.new.self c.in-Ok.ensures.ok (warm_reach c.args.tape.now c.make_warm.new.self (λ warm. (c.make_warm.ensures.warm warm).1)) c.len.ensures.reach)
 
 pub returns-in-Ok-run-clause-keeps : goal.returns-in-Ok-run-clause-keeps
 returns-in-Ok-run-clause-keeps g c =
