@@ -31,7 +31,7 @@ least_due xd xs yd ys h = grind (arith, nat_tests)
 least_serial : (xd xs yd ys : ℕ) → is_lt (ordering_then (nat_cmp yd xd) (nat_cmp ys xs)) ≡ false → xd ≡ yd → xs ≤ ys
 least_serial xd xs yd ys h e = grind (arith, nat_tests)
 
-not_after : (xd xs yd ys : ℕ) → is_lt (ordering_then (nat_cmp yd xd) (nat_cmp ys xs)) ≡ false → NotAfter xd xs yd ys
+pub not_after : (xd xs yd ys : ℕ) → is_lt (ordering_then (nat_cmp yd xd) (nat_cmp ys xs)) ≡ false → NotAfter xd xs yd ys
 not_after xd xs yd ys h = ⊎_elim
     (λ (e : xd ≡ yd). inr (e, least_serial xd xs yd ys h e))
     (λ (ne : xd ≢ yd). inl (let l = least_due xd xs yd ys h in omega arith)) (cases_eq xd yd)

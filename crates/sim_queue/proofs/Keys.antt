@@ -41,7 +41,7 @@ module _ {B : Type 0} where
       let same : base + i - base ≡ i = omega arith in
       rw (within, same, is) (eq-eqb e.0 e.0 refl)
 
-  live_same : (d s : ℕ) (slots : List (Option (ℕ × B))) (base i : ℕ) (e : ℕ × B) → at slots i ≡ Some e → d ≡ e.0 → s ≡ base + i → is_live d s slots base ≡ true
+  pub live_same : (d s : ℕ) (slots : List (Option (ℕ × B))) (base i : ℕ) (e : ℕ × B) → at slots i ≡ Some e → d ≡ e.0 → s ≡ base + i → is_live d s slots base ≡ true
   live_same d s slots base i e is p q =
       subst (λ (n : ℕ). is_live n s slots base ≡ true) (sym p) (subst (λ (m : ℕ). is_live e.0 m slots base ≡ true) (sym q) (live_at slots base i e is))
 
@@ -92,7 +92,7 @@ module _ {B : Type 0} where
             (at_pushed i slots x e is);
       }
 
-  at_cleared : (j i : ℕ) (slots : List (Option (ℕ × B))) (e : ℕ × B) → at (set slots i None) j ≡ Some e → at slots j ≡ Some e
+  pub at_cleared : (j i : ℕ) (slots : List (Option (ℕ × B))) (e : ℕ × B) → at (set slots i None) j ≡ Some e → at slots j ≡ Some e
   at_cleared j i [] e h = h
   at_cleared zero zero (y ∷ slots) e h = cc
   at_cleared (suc j) zero (y ∷ slots) e h = h
@@ -135,7 +135,7 @@ module _ {B : Type 0} where
   front_is None slots rest some look h = absurd (false≢true some)
   front_is (Some x) slots rest some look h = let e : x ≡ None = sym (look ∙ ap (λ s. get_or s 0 None) h) in h ∙ ap (λ y. y ∷ rest) e
 
-  at_front : (i : ℕ) (slots : List (Option (ℕ × B))) (x : Option (ℕ × B)) (e : ℕ × B) → at slots i ≡ Some e → at (slots ++ x ∷ []) i ≡ Some e
+  pub at_front : (i : ℕ) (slots : List (Option (ℕ × B))) (x : Option (ℕ × B)) (e : ℕ × B) → at slots i ≡ Some e → at (slots ++ x ∷ []) i ≡ Some e
   at_front i [] x e h = cc
   at_front zero (y ∷ slots) x e h = h
   at_front (suc i) (y ∷ slots) x e h = at_front i slots x e h

@@ -4,3 +4,4 @@ pub mod Keys
 pub mod Views
 pub mod Whole
 pub mod FirstKey
+pub mod Tops

@@ -231,12 +231,12 @@ impl<B> Store<B> {
         ensures same { self.new ≡ record self.old { slots = self.new.slots; order = self.new.order } }
     {
         let serial = self.base + self.slots.len() as u64;
-        self.slots.push_back(Some((due, body)))?;
+        self.slots.reserve(1)?;
+        self.slots.push_back_reserved(Some((due, body)));
         if let Err(_refused) = self.order.push(Reverse((due, serial))) {
             self.slots.pop_back();
             return Err(NoMemory);
         }
-        self.clean();
         Ok(serial)
     }
 
@@ -270,11 +270,11 @@ impl<B> Store<B> {
         ensures keyed { IsKeyed self.new }
         ensures same { self.new ≡ record self.old { slots = self.new.slots; order = self.new.order } }
     {
-        let serial = match self.order.peek() {
-            None => return None,
-            Some(&Reverse((_due, serial))) => serial,
-        };
-        self.empty_slot(serial)
+        let Reverse((due, serial)) = self.order.pop()?;
+        let place = (serial - self.base) as usize;
+        let (_due, body) = self.slots[place].take().unwrap();
+        self.clean();
+        Some(Item { due, serial, body })
     }
 
     // Takes the last item out.
@@ -362,8 +362,20 @@ impl<B> Store<B> {
         if keys <= 64 || keys / 2 <= places || self.order.capacity() < places {
             return;
         }
+        self.make_keys();
+    }
+
+    // Makes the keys anew. There is room for one for each slot.
+    #[cold]
+    #[inline(never)]
+    fn make_keys(&mut self)
+        requires small { (pending_in self.old).next_serial ≤ 2 ^ 40 }
+        requires room { length self.old.slots.items ≤ heap_capacity self.old.order }
+        ensures keyed { IsKeyed self.new }
+        ensures same { self.new ≡ record self.old { order = self.new.order } }
+    {
         self.order.clear();
-        for place in 0..places {
+        for place in 0..self.slots.len() {
             add_key(&self.slots, self.base, &mut self.order, place);
         }
         self.clean();

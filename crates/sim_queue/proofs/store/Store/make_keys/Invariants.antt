@@ -1,7 +1,7 @@
 use Rattle.std.proofs.Common.{◌≡◌, ◌≤◌, length}
 use Rattle.std.specs.BinaryHeap.{IsHeap, heap_items, heap_len, heap_capacity}
 use Rattle.sim_queue.specs.Slots.{key_cmp, CoversBelow}
-use Rattle.sim_queue.proofs.store.Store.rebuild.Given as goal
+use Rattle.sim_queue.proofs.store.Store.make_keys.Given as goal
 
 abbrev pub invariant-loop-place : goal.invariant-loop-place
 invariant-loop-place g l = record {
