@@ -69,16 +69,10 @@ impl<B> Store<B> {
         requires { IsKeyed self.now }
         ensures { option_map (λ r. item_of r.1 (r.0, r.2.now)) result ≡ first (pending_in self.now).items }
     {
-        let (due, serial) = match self.order.peek() {
-            None => return None,
-            Some(&Reverse((due, serial))) => (due, serial),
-        };
-        if serial < self.base {
-            return None;
-        }
-        match self.slots.get((serial - self.base) as usize) {
-            Some(Some((_due, body))) => Some((due, serial, body)),
-            _ => None,
+        let &Reverse((due, serial)) = self.order.peek()?;
+        match &self.slots[(serial - self.base) as usize] {
+            Some((_due, body)) => Some((due, serial, body)),
+            None => None,
         }
     }
 
