@@ -1,11 +1,10 @@
 -- The top key of the heap is that of the first item.
 use Rattle.std.proofs.Common.{◌≡◌, ℕ, zero, suc, ◌+◌, ◌-◌, ◌<◌, ◌≤◌, Bool, true, false, cond, List, [], ◌∷◌, Option, Some, None, refl, sym, ap, ◌∙◌, subst, arith, ◌==◌, ◌&&◌, ◌||◌, nat_lt, ◌⊎◌, inl, inr, ⊎_elim, ◌≢◌, length}
-use Rattle.std.proofs.lemmas.Bool.{eqb-true, cases_eq, leb-true, le-ltb}
+use Rattle.std.proofs.lemmas.Bool.{eqb-true, cases_eq, leb-true}
 use Rattle.std.proofs.lemmas.Bool.Decides.{nat_tests}
 use Rattle.std.specs.Ordering.{nat_cmp, ordering_then, is_lt}
 use Rattle.std.proofs.Math.ListN.{get_or}
 use Rattle.std.specs.Prelude.{nat_le}
-use Rattle.std.specs.Option.{option_map}
 use Rattle.std.specs.BinaryHeap.{IsUpperBound}
 use Rattle.std.specs.declared.cmp.Reverse.{Reverse}
 use Rattle.sim_queue.specs.declared.Item.{Item}
@@ -123,26 +122,6 @@ module _ {B : Type 0} where
   unfolding first
   first_none [] slots base l covers = ap (λ xs. first xs) (none_from base slots (λ i e h. cc (covers i e h)))
   first_none (k ∷ keys) slots base l covers = absurd (omega arith)
-
-  -- what `pull` gives at the serial of the top key
-  pub first_pulled : (k : Reverse (ℕ × ℕ)) (keys : List (Reverse (ℕ × ℕ))) (slots : List (Option (ℕ × B))) (base : ℕ)
-      → k ≡ get_or keys 0 k → 0 < length keys → IsTopLive keys slots base → IsUpperBound key_cmp k keys → Covers keys slots base
-      → option_map (item_of k.0.1) (cond (nat_lt k.0.1 base) None (at slots (k.0.1 - base))) ≡ first (items_from base slots)
-  first_pulled k [] slots base top some live bound covers = absurd (omega arith)
-  first_pulled k (y ∷ keys) slots base top some live bound covers =
-      let here : is_live k.0.0 k.0.1 slots base ≡ true = subst (λ (x : Reverse (ℕ × ℕ)). is_live x.0.0 x.0.1 slots base ≡ true) (sym top) live in
-      go (nat_le base k.0.1) refl (at slots (k.0.1 - base)) refl here
-    where
-      go : (b : Bool) → nat_le base k.0.1 ≡ b → (o : Option (ℕ × B)) → at slots (k.0.1 - base) ≡ o → (b && is_due k.0.0 o) ≡ true
-          → option_map (item_of k.0.1) (cond (nat_lt k.0.1 base) None (at slots (k.0.1 - base))) ≡ first (items_from base slots)
-      go false p o q h = cc
-      go true p None q h = cc
-      go true p (Some e) q h =
-          let from : base ≤ k.0.1 = leb-true base k.0.1 p in
-          let not_below : nat_lt k.0.1 base ≡ false = le-ltb k.0.1 base from in
-          ap (λ c. option_map (item_of k.0.1) (cond c None (at slots (k.0.1 - base)))) not_below
-          ∙ ap (λ o. option_map (item_of k.0.1) o) q
-          ∙ sym (first_by_top k (y ∷ keys) slots base e from q (eqb-true k.0.0 e.0 h) bound covers)
 
   -- what stands in the slot of the top key is the first item
   pub first_seen : (k : Reverse (ℕ × ℕ)) (keys : List (Reverse (ℕ × ℕ))) (slots : List (Option (ℕ × B))) (base : ℕ) (e : ℕ × B)

@@ -1,5 +1,5 @@
 -- The key at the top of the heap, where keys join and leave.
-use Rattle.std.proofs.Common.{◌≡◌, ◌≢◌, ℕ, zero, suc, ◌+◌, ◌*◌, ◌-◌, ◌<◌, ◌≤◌, Bool, true, false, List, [], ◌∷◌, ◌++◌, Option, Some, None, refl, sym, ◌∙◌, subst, arith, ◌==◌, ◌&&◌, ◌||◌, inl, inr, length, IsSome}
+use Rattle.std.proofs.Common.{◌≡◌, ◌≢◌, ℕ, zero, suc, ◌+◌, ◌*◌, ◌-◌, ◌<◌, ◌≤◌, Bool, true, false, List, [], ◌∷◌, ◌++◌, Option, Some, None, refl, sym, ◌∙◌, subst, arith, ◌==◌, ◌&&◌, ◌||◌, inl, inr, length}
 use Rattle.std.proofs.lemmas.Bool.{eqb-true, eq-eqb, ne_eqb, leb-true, false≢true}
 use Rattle.std.proofs.lemmas.List.Sorted.{list_any-IsPermutation}
 use Rattle.std.proofs.Math.ListN.{get_or, set}
@@ -10,6 +10,7 @@ use Rattle.std.specs.declared.cmp.Reverse.{Reverse}
 use Rattle.sim_queue.specs.Slots.{at, is_due, is_live, has, key_cmp, Covers, IsTopLive}
 use Rattle.sim_queue.proofs.Keys.{covers_kept, live_same, at_front, at_cleared}
 use Rattle.sim_queue.proofs.FirstKey.{NotAfter, not_after}
+use Rattle.sim_queue.proofs.Views.{at_last}
 
 -- a place of a heap that is not the first has a parent
 record Parent (m : ℕ) : Type 0 where
@@ -74,10 +75,6 @@ has_first : (t : Reverse (ℕ × ℕ)) (keys : List (Reverse (ℕ × ℕ))) → 
 has_first t keys = rw (eq-eqb t.0.0 t.0.0 refl, eq-eqb t.0.1 t.0.1 refl) refl
 
 module _ {B : Type 0} where
-  at_last : (slots : List (Option (ℕ × B))) (x : Option (ℕ × B)) → at (slots ++ x ∷ []) (length slots) ≡ x
-  at_last [] x = refl
-  at_last (y ∷ slots) x = at_last slots x
-
   -- a pending item stays pending where one more comes
   live_more : (d s : ℕ) (slots : List (Option (ℕ × B))) (base : ℕ) (x : Option (ℕ × B)) → is_live d s slots base ≡ true → is_live d s (slots ++ x ∷ []) base ≡ true
   live_more d s slots base x h = go (nat_le base s) (at slots (s - base)) refl h
@@ -118,7 +115,6 @@ module _ {B : Type 0} where
   pub record IsThere (k : Reverse (ℕ × ℕ)) (slots : List (Option (ℕ × B))) (base : ℕ) : Type 0 where
     pub from : base ≤ k.0.1
     pub within : k.0.1 - base < length slots
-    pub some : IsSome (at slots (k.0.1 - base))
 
   within_some : (i : ℕ) (slots : List (Option (ℕ × B))) (e : ℕ × B) → at slots i ≡ Some e → i < length slots
   within_some i [] e h = cc
@@ -135,7 +131,7 @@ module _ {B : Type 0} where
       go : (b : Bool) → nat_le base k.0.1 ≡ b → (o : Option (ℕ × B)) → at slots (k.0.1 - base) ≡ o → (b && is_due k.0.0 o) ≡ true → IsThere k slots base
       go false p o q h = cc
       go true p None q h = cc
-      go true p (Some e) q h = record { from = leb-true base k.0.1 p; within = within_some (k.0.1 - base) slots e q; some = rw q refl }
+      go true p (Some e) q h = record { from = leb-true base k.0.1 p; within = within_some (k.0.1 - base) slots e q }
 
   at_emptied : (i : ℕ) (slots : List (Option (ℕ × B))) (e : ℕ × B) → at (set slots i None) i ≡ Some e → ⊥
   at_emptied i [] e h = cc
