@@ -9,11 +9,11 @@ use Rattle.sim_links.specs.Link.{Link, Links, open_link, changed, let_go, let_go
 
 module _ {X : Type 0} where
   -- a place that is written, and written again as it was
-  set_back : (f : X → X) (xs : List X) (i : ℕ) (old new d : X) → i < length xs → old ≡ get_or xs i old → f new ≡ old
+  set_back : (f : X → X) (xs : List X) (i : ℕ) (old new d : X) → i < length xs → old ≡ get_or xs i d → f new ≡ old
       → set (set xs i new) i (f (get_or (set xs i new) i d)) ≡ xs
   set_back f xs i old new d inside is leads =
       ap (λ y. set (set xs i new) i (f y)) (get_or-set_same xs i new d inside) ∙ set-set xs i new (f new) ∙ ap (set xs i) (leads ∙ is)
-      ∙ set-get_or xs i old
+      ∙ set-get_or xs i d
 
 module _ {M : Type 0} where
   parts : (s : LinkState) (held : List M) → let_go_in s held ++ kept_in s held ≡ held
@@ -32,14 +32,18 @@ module _ {M : Type 0} where
       ap (λ n. record { state = link.state; held = take n (link.held ++ m ∷ []) }) count
       ∙ ap (λ (held : List M). record { state = link.state; held = held }) (take-append_seam link.held (m ∷ []))
 
+  -- one that was kept is held
+  pub some_held : (m : M) (old new : Link M) → new ≡ with_held m old → 0 < length new.held
+  some_held m old new is = omega (arith, ap (λ (link : Link M). length link.held) is, length-append old.held (m ∷ []))
+
   pub undone : (links : Links M) (a b i : ℕ) (c : Change) (old new : Link M) (was : LinkState) (left : List M)
-      → i < length links → old ≡ get_or links i old → was ≡ old.state → new ≡ changed c old → left ≡ let_go c old
+      → i < length links → old ≡ get_or links i open_link → was ≡ old.state → new ≡ changed c old → left ≡ let_go c old
       → set (set links i new) i (back (record { a = a; b = b; change = c; was = was }) left (get_or (set links i new) i open_link)) ≡ links
   undone links a b i c old new was left inside is was_is new_is left_is =
       set_back (back (record { a = a; b = b; change = c; was = was }) left) links i old new open_link inside is
       (rw (was_is, new_is, left_is) (back_changed a b c old))
 
-  pub unkept : (links : Links M) (i : ℕ) (m : M) (old new : Link M) → i < length links → old ≡ get_or links i old → new ≡ with_held m old
+  pub unkept : (links : Links M) (i : ℕ) (m : M) (old new : Link M) → i < length links → old ≡ get_or links i open_link → new ≡ with_held m old
       → set (set links i new) i (without_newest (get_or (set links i new) i open_link)) ≡ links
   unkept links i m old new inside is new_is =
       set_back without_newest links i old new open_link inside is (rw new_is (newest_gone m old))

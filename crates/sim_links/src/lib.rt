@@ -3,6 +3,7 @@
 
 mod direction;
 mod links;
+mod table;
 mod ways;
 
 pub use links::Links;

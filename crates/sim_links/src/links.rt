@@ -1,7 +1,7 @@
 ghost use Rattle.std.specs.Prelude.{◌≡◌, ◌<◌, ◌≤◌, ◌+◌, ◌-◌, ◌*◌, ◌^◌, [], ◌∷◌, ◌++◌, length, min, IfOk, OnOk, OnErr};
 ghost use Rattle.std.specs.Fn.{FnReturnsAt};
 
-use crate::direction::Direction;
+use crate::table::Table;
 use crate::{Change, LinkState, LinkUndo, NoMemory};
 use std::alloc::Global;
 use std::marker::Model;
@@ -9,18 +9,18 @@ use std::marker::Model;
 /// The state and the held messages of every direction between 32 hosts.
 #[derive(Drop)]
 pub struct Links<M> {
-    table: Vec<Direction<M>>,
+    table: Table<M>,
 }
 
 impl<M> Model for Links<M> {
-    ghost use Rattle.std.specs.Prelude.{◌≡◌, length};
     ghost use Rattle.sim_links.specs.Link.{Links};
+    ghost use Rattle.sim_links.specs.Table.{links_in, IsSound};
 
     ghost Value = { Links M };
 
-    ghost view = { λ l. l.table.items };
+    ghost view = { λ l. links_in l.table };
 
-    ghost invariant = { λ l. length l.table.items ≡ 1024 };
+    ghost invariant = { λ l. IsSound l.table };
 }
 
 // Where the direction from a to b stands.
@@ -43,10 +43,7 @@ impl<M> Links<M> {
         M: Drop,
         ensures { IfOk result (λ links. links ≡ all_open) }
     {
-        let mut table = Vec::new(alloc);
-        for _i in 0..1024usize {
-            table.push(Direction::open(alloc))?;
-        }
+        let table = Table::new(alloc)?;
         Ok(Links { table })
     }
 
@@ -57,7 +54,7 @@ impl<M> Links<M> {
         ensures value { result ≡ (link a b self.now).state }
         ensures whole { length self.now ≡ 1024 }
     {
-        let direction = &self.table[place(a, b)];
+        let direction = self.table.direction(place(a, b));
         direction.state()
     }
 
@@ -68,7 +65,7 @@ impl<M> Links<M> {
         requires to { b < 32 }
         ensures { result ≡ min (length (link a b self.now).held) (2 ^ 32 - 1) }
     {
-        let direction = &self.table[place(a, b)];
+        let direction = self.table.direction(place(a, b));
         direction.count().min(u32::MAX as usize) as u32
     }
 
@@ -88,7 +85,8 @@ impl<M> Links<M> {
         ensures none_left { kept_in (state_after result.0.change result.0.was) result.1.items ≡ [] }
         ensures back { with_link a b (back result.0 result.1.items (link a b self.new)) self.new ≡ self.old }
     {
-        let direction = &mut self.table[place(a, b)];
+        let slot = self.table.touch(place(a, b));
+        let direction = &mut self.table.touched[slot];
         let was = direction.state();
         let messages = direction.change(alloc, change);
         let undo = LinkUndo { a, b, change, was };
@@ -106,7 +104,8 @@ impl<M> Links<M> {
         requires none_left { kept_in (state_after undo.change undo.was) messages.items ≡ [] }
         ensures { self.new ≡ with_link undo.a undo.b (back undo messages.items (link undo.a undo.b self.old)) self.old }
     {
-        let direction = &mut self.table[place(undo.a, undo.b)];
+        let slot = self.table.touch(place(undo.a, undo.b));
+        let direction = &mut self.table.touched[slot];
         direction.undo(undo, messages);
     }
 
@@ -124,7 +123,8 @@ impl<M> Links<M> {
         ensures back { OnOk result (with_link a b (without_newest (link a b self.new)) self.new ≡ self.old) }
         ensures err { OnErr result (self.new ≡ self.old) }
     {
-        let direction = &mut self.table[place(a, b)];
+        let slot = self.table.touch(place(a, b));
+        let direction = &mut self.table.touched[slot];
         direction.keep(message)
     }
 
@@ -137,7 +137,8 @@ impl<M> Links<M> {
         ensures rest { self.new ≡ with_link a b (without_newest (link a b self.old)) self.old }
         ensures message { (link a b self.old).held ≡ (link a b self.new).held ++ result ∷ [] }
     {
-        let direction = &mut self.table[place(a, b)];
+        let slot = self.table.touch(place(a, b));
+        let direction = &mut self.table.touched[slot];
         direction.unkeep()
     }
 
@@ -153,11 +154,7 @@ impl<M> Links<M> {
         requires equal { (m : M) (r : _) → FnReturnsAt F.Fn each m r → IfOk r (λ copy. copy ≡ m) }
         ensures { IfOk result (λ links. links ≡ self.now) }
     {
-        let mut table = Vec::with_capacity(alloc, self.table.len())?;
-        for direction in &self.table {
-            let copy = direction.copy(alloc, &each)?;
-            table.push(copy)?;
-        }
+        let table = self.table.copy(alloc, &each)?;
         Ok(Links { table })
     }
 }

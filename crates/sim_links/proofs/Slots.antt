@@ -1,0 +1,114 @@
+-- The slots of directions, and what they stand for.
+use Rattle.std.proofs.Common.{◌≡◌, ◌==◌, ◌⊎◌, ℕ, zero, suc, ◌<◌, List, [], ◌∷◌, ◌++◌, cond, inl, inr, refl, sym, ap, ◌∙◌, subst, get_or, set, length, map, replicate, arith}
+use Rattle.std.proofs.Math.ListN.{length-set}
+use Rattle.std.proofs.Math.Seq.{map-set_same}
+use Rattle.std.proofs.lemmas.Bool.{cases_eq}
+use Rattle.std.proofs.lemmas.List.{same_lists, get_or-map, length-map, length-replicate, get_or-replicate, get_or_default, get_or-set_same, get_or-set_other, get_or_past}
+use Rattle.std.proofs.lemmas.List.Elements.{All-get_or, All-replicate}
+use Rattle.std.proofs.lemmas.List.Folds.{sum_by-replicate}
+use Rattle.std.specs.Vec.{with_item}
+use Rattle.sim_links.specs.Link.{Link, Links, open_link}
+use Rattle.sim_links.specs.Table.{links_in, slot_at, AreSlots, IsSound}
+use Rattle.sim_links.specs.declared.table.Table.{Table}
+
+abbrev in_none : ℕ → ℕ
+in_none slot = cond (slot == 0) 1 0
+
+-- the slot of a place is one of them
+pub below_at : (slots : List ℕ) (n p : ℕ) → AreSlots slots n → p < length slots → get_or slots p 0 < n
+below_at slots n p are inside = All-get_or (λ slot. slot < n) slots p 0 inside are.below
+
+-- at first all directions are in slot 0
+pub slots_new : (n : ℕ) → AreSlots (replicate n 0) 1
+slots_new n = record {
+  below = All-replicate (λ slot. slot < 1) n 0 (omega arith);
+  apart = λ p q p_in q_in own same. absurd (none p (omega (arith, p_in, length-replicate {A = ℕ} n 0)) own);
+  free = omega (arith, length-replicate {A = ℕ} n 0, sum_by-replicate in_none n 0);
+}
+  where
+    none : (p : ℕ) → p < n → 0 < get_or (replicate n 0) p 0 → ⊥
+    none p inside own = omega (arith, own, get_or-replicate {A = ℕ} n p 0 0 inside)
+
+module _ {X : Type 0} where
+  -- one place stands for x, and each other for what it did
+  map_at_one : (f g : ℕ → X) (slots : List ℕ) (p : ℕ) (x : X) → p < length slots → g (get_or slots p 0) ≡ x
+      → ((q : ℕ) → q < length slots → (q ≡ p → ⊥) → g (get_or slots q 0) ≡ f (get_or slots q 0)) → map g slots ≡ set (map f slots) p x
+  map_at_one f g slots p x inside here others =
+      same_lists (map g slots) (set (map f slots) p x) (length-map slots g ∙ sym (length-set (map f slots) p x ∙ length-map slots f))
+      (λ q d q_in. let within : q < length slots = rw length-map at q_in in get_or-map g slots q 0 d within ∙ go q d within (cases_eq q p))
+    where
+      go : (q : ℕ) (d : X) → q < length slots → (q ≡ p) ⊎ (q ≡ p → ⊥) → g (get_or slots q 0) ≡ get_or (set (map f slots) p x) q d
+      go q d within (inl same) =
+          let wide : p < length (map f slots) = rw length-map inside in
+          ap (λ k. g (get_or slots k 0)) same ∙ here ∙ sym (ap (λ k. get_or (set (map f slots) p x) k d) same ∙ get_or-set_same (map f slots) p x d wide)
+      go q d within (inr off) = others q within off ∙ sym (get_or-set_other (map f slots) p q x d off ∙ get_or-map f slots q 0 d within)
+
+  -- a write to a direction of its own slot changes that one alone
+  pub written : (slots : List ℕ) (touched : List X) (p slot : ℕ) (x d : X) → AreSlots slots (length touched) → p < length slots
+      → slot ≡ get_or slots p 0 → 0 < slot
+      → map (λ s. get_or (set touched slot x) s d) slots ≡ set (map (λ s. get_or touched s d) slots) p x
+  written slots touched p slot x d are inside is own =
+      let less = below_at slots (length touched) p are inside in
+      let within : slot < length touched = omega arith in
+      map_at_one (λ s. get_or touched s d) (λ s. get_or (set touched slot x) s d) slots p x inside
+      (ap (λ s. get_or (set touched slot x) s d) (sym is) ∙ get_or-set_same touched slot x d within)
+      (λ q q_in off. get_or-set_other touched slot (get_or slots q 0) x d
+      (λ same. off (sym (are.apart p q inside q_in (subst (λ k. 0 < k) is own) (sym is ∙ sym same)))))
+
+  -- one more at the end, which is what stands past the end
+  get_or-one_more : (xs : List X) (i : ℕ) (d : X) → get_or (xs ++ d ∷ []) i d ≡ get_or xs i d
+  get_or-one_more [] zero d = refl
+  get_or-one_more [] (suc i) d = refl
+  get_or-one_more (x ∷ xs) zero d = refl
+  get_or-one_more (x ∷ xs) (suc i) d = get_or-one_more xs i d
+
+  -- a direction that gets a slot stays as it was
+  pub taken : (slots : List ℕ) (touched : List X) (p n : ℕ) (d : X) → n ≡ length touched → get_or touched 0 d ≡ d → get_or slots p 0 ≡ 0
+      → map (λ s. get_or (touched ++ d ∷ []) s d) (set slots p n) ≡ map (λ s. get_or touched s d) slots
+  taken slots touched p n d is first none =
+      map-set_same (λ s. get_or (touched ++ d ∷ []) s d) slots p n 0
+      (get_or-one_more touched n d ∙ get_or_past touched n d (omega arith)
+      ∙ sym (get_or-one_more touched (get_or slots p 0) d ∙ ap (λ s. get_or touched s d) none ∙ first))
+      ∙ same slots
+    where
+      same : (ss : List ℕ) → map (λ s. get_or (touched ++ d ∷ []) s d) ss ≡ map (λ s. get_or touched s d) ss
+      same [] = refl
+      same (s ∷ ss) = ap (λ x. x ∷ map (λ s. get_or (touched ++ d ∷ []) s d) ss) (get_or-one_more touched s d) ∙ ap (λ xs. get_or touched s d ∷ xs) (same ss)
+
+-- A table after a touch of place i: it is sound and stands for the links, and the direction of that place has this slot of its own.
+pub record IsTouched {M : Type 0} (t : Table M) (links : Links M) (i slot : ℕ) : Type 0 where
+  pub sound : IsSound t
+  pub same : links_in t ≡ links
+  pub within : i < 1024
+  pub at : slot ≡ slot_at i t
+  pub own : 0 < slot
+
+module _ {M : Type 0} where
+  pub is_touched : (t : Table M) (old links : Links M) (place i slot : ℕ) → IsSound t → links_in t ≡ old → old ≡ links → place < 1024 → place ≡ i
+      → slot ≡ slot_at place t → 0 < slot → IsTouched t links i slot
+  is_touched t old links place i slot sound same is inside at here own = record {
+    sound = sound;
+    same = same ∙ is;
+    within = subst (λ k. k < 1024) at inside;
+    at = here ∙ ap (λ k. slot_at k t) at;
+    own = own;
+  }
+
+  pub inside : {t : Table M} {links : Links M} {i slot : ℕ} → IsTouched t links i slot → i < length links
+  inside {t = t} touched = omega (arith, touched.within, touched.sound.whole, length-map t.slots.items (λ s. get_or t.touched.items s open_link), ap (λ (ls : Links M). length ls) touched.same)
+
+  -- the direction in the slot is the link of that place
+  pub read : {t : Table M} {links : Links M} {i slot : ℕ} (x : Link M) → IsTouched t links i slot → x ≡ get_or t.touched.items slot x → x ≡ get_or links i open_link
+  read {t = t} {links = links} {i = i} {slot = slot} x touched at =
+      let within : i < length t.slots.items = omega (arith, touched.within, touched.sound.whole) in
+      let less = below_at t.slots.items (length t.touched.items) i touched.sound.slots within in
+      at ∙ get_or_default t.touched.items slot x open_link (omega (arith, touched.at))
+      ∙ ap (λ s. get_or t.touched.items s open_link) touched.at ∙ sym (get_or-map (λ s. get_or t.touched.items s open_link) t.slots.items i 0 open_link within)
+      ∙ ap (λ (ls : Links M). get_or ls i open_link) touched.same
+
+  -- and with another direction in that slot, all other links are as they were
+  pub wrote : {t : Table M} {links : Links M} {i slot : ℕ} (x : Link M) → IsTouched t links i slot
+      → links_in (record { slots = t.slots; touched = with_item t.touched slot x }) ≡ set links i x
+  wrote {t = t} {i = i} {slot = slot} x touched =
+      written t.slots.items t.touched.items i slot x open_link touched.sound.slots (omega (arith, touched.within, touched.sound.whole)) touched.at touched.own
+      ∙ ap (λ (ls : Links M). set ls i x) touched.same

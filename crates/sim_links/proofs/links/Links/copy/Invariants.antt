@@ -1,5 +1,0 @@
-use Rattle.std.proofs.Common.{◌≡◌, take}
-use Rattle.sim_links.proofs.links.Links.copy.Given as goal
-
-abbrev pub invariant-loop-direction : goal.invariant-loop-direction
-invariant-loop-direction g l = l.table.items ≡ take l.direction-index l.direction-items

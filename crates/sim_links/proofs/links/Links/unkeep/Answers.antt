@@ -1,0 +1,9 @@
+use Rattle.std.proofs.Common.{◌∙◌, refl}
+use Rattle.sim_links.proofs.Slots.{is_touched, read, wrote}
+use Rattle.sim_links.proofs.links.Links.unkeep.Goals as goal
+
+pub returns-clause-rest : goal.returns-clause-rest
+returns-clause-rest g c =
+    let e = c.touch-slot.ensures in
+    let touched = is_touched _ _ _ _ _ _ e.sound e.links c.self.view_is c.place.ensures.within c.place.ensures.value e.slot e.own in
+    wrote c.unkeep.new.self touched ∙ rw (c.unkeep.ensures.rest, read c.index_mut-direction.result.now touched c.index_mut-direction.ensures.value) refl

@@ -1,0 +1,88 @@
+//! What a table of directions is made of. It keeps the directions that were ever touched, so that a copy and a drop of it cost
+//! what those cost.
+ghost use Rattle.std.specs.Prelude.{◌≡◌, ◌<◌, slice_index_or, IfOk};
+ghost use Rattle.std.specs.Fn.{FnReturnsAt};
+ghost use Rattle.sim_links.specs.Link.{all_open, open_link};
+ghost use Rattle.sim_links.specs.Table.{links_in, slot_at, IsSound};
+
+use crate::NoMemory;
+use crate::direction::Direction;
+use std::alloc::Global;
+
+// Room for every direction, and for the one that stands for all untouched ones.
+const ROOM: usize = 1025;
+
+/// The directions by their slots. It has no invariant: each call says what it asks for and what it leaves.
+#[derive(Drop)]
+pub(crate) struct Table<M> {
+    // The slot of each direction: 0 where it was never touched.
+    slots: Vec<u16>,
+    // The touched directions, in the order in which they were first touched, behind an open one that stands for all others. No
+    // two have one slot. There is room for every direction, so that a touch takes no memory.
+    pub(crate) touched: Vec<Direction<M>>,
+}
+
+impl<M> Table<M> {
+    /// All directions open, and nothing held.
+    pub(crate) fn new(alloc: Global) -> Result<Table<M>, NoMemory>
+        ensures links { IfOk result (λ table. links_in table ≡ all_open) }
+        ensures sound { IfOk result IsSound }
+    {
+        let slots = Vec::from_slice(alloc, &[0; 1024])?;
+        let mut touched = Vec::with_capacity(alloc, ROOM)?;
+        touched.push_reserved(Direction::open(alloc));
+        Ok(Table { slots, touched })
+    }
+
+    /// The direction of a place.
+    pub(crate) fn direction(&self, place: usize) -> &Direction<M>
+        requires sound { IsSound self.now }
+        requires within { place < 1024 }
+        ensures { result.now ≡ slice_index_or (links_in self.now) place open_link }
+    {
+        &self.touched[self.slots[place] as usize]
+    }
+
+    /// The slot of the direction of a place, which gets one of its own if it has none. Takes no memory.
+    pub(crate) fn touch(&mut self, place: usize) -> usize
+        requires sound { IsSound self.old }
+        requires within { place < 1024 }
+        ensures slot { result ≡ slot_at place self.new }
+        ensures own { 0 < result }
+        ensures links { links_in self.new ≡ links_in self.old }
+        ensures sound { IsSound self.new }
+    {
+        let slot = self.slots[place] as usize;
+        if slot > 0 {
+            return slot;
+        }
+        let alloc = *self.touched.allocator();
+        let free = self.touched.len();
+        self.touched.push_reserved(Direction::open(alloc));
+        self.slots[place] = free as u16;
+        free
+    }
+
+    /// An equal table.
+    pub(crate) fn copy<F: Fn(&M) -> Result<M, NoMemory>>(
+        &self,
+        alloc: Global,
+        each: &F,
+    ) -> Result<Table<M>, NoMemory>
+    where
+        M: Drop,
+        requires sound { IsSound self.now }
+        requires callable { F.IsAlwaysCallable each.now }
+        requires equal { (m : M) (r : _) → FnReturnsAt F.Fn each.now m r → IfOk r (λ copy. copy ≡ m) }
+        ensures links { IfOk result (λ table. links_in table ≡ links_in self.now) }
+        ensures sound { IfOk result IsSound }
+    {
+        let slots = Vec::from_slice(alloc, self.slots.as_slice())?;
+        let mut touched = Vec::with_capacity(alloc, ROOM)?;
+        for direction in &self.touched {
+            let copy = direction.copy(alloc, each)?;
+            touched.push(copy)?;
+        }
+        Ok(Table { slots, touched })
+    }
+}
