@@ -27,6 +27,3 @@ pub const MOST_EVENTS: u64 = 65_536;
 
 /// The most seeds of a sweep.
 pub const MOST_SEEDS: u64 = 0x1_0000_0000;
-
-#[cfg(test)]
-mod tests;

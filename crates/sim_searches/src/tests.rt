@@ -2,4 +2,5 @@ mod fold;
 mod long;
 mod meeting;
 mod overlap;
+mod rows;
 mod scenes;

@@ -1,6 +1,6 @@
 //! Calls of a tape whose conditions are looked at first.
-use crate::{Frozen, Tape};
 use sim_node::Node;
+use sim_tape::{Frozen, Tape};
 use sim_world::{Event, Query, Refusal, View};
 use std::alloc::Global;
 use std::test::Fail;

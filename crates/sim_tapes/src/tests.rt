@@ -4,11 +4,11 @@ mod meter;
 mod plain;
 mod walks;
 
-use super::*;
 use meter::Counts;
 use sim_echo::Echo;
 use sim_links::{Way, Ways};
 use sim_node::Setup;
+use sim_tape::{Frozen, Tape};
 use sim_world::{Coming, Event, Fault, Kind, Refusal, Scenario, View};
 use std::alloc::Global;
 use std::process::Abort;

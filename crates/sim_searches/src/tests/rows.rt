@@ -1,72 +1,19 @@
-//! Searches and sweeps over echo.
-ghost use Rattle.std.specs.Prelude.{◌≡◌, IfOk, vec_len};
-
-use crate::{Gate, OpenGate, SearchFault, search, sweep};
+//! Worked searches and sweeps of a run of six steps, also those that are refused.
+use crate::tests::scenes::{echoes, frozen_run, next_at_most, tallies};
 use sim_echo::Echo;
-use sim_links::{Way, Ways};
-use sim_node::{NoMemory, Setup};
+use sim_search::{Gate, OpenGate, SearchFault, search, sweep};
 use sim_tally::Tally;
-use sim_tape::{Frozen, Tape};
-use sim_watch::{Cond, Op, Term};
-use sim_world::{Event, Scenario};
+use sim_tape::Frozen;
+use sim_watch::{Cond, Term};
 use std::alloc::Global;
 use std::sync::Wait;
 use std::sync::atomic::AtomicU64;
 use std::sync::atomic::Ordering::SeqCst;
 use std::test::Fail;
 
-// One server and one client of echo, which has two operations.
-fn echoes() -> Result<Scenario, Fail> {
-    let ways = Ways::all(Way {
-        latency_min: 10,
-        latency_max: 10,
-        loss: 0,
-    });
-    let setup = Setup {
-        servers: 1,
-        hosts: 2,
-        ops: [2; 32],
-    };
-    Ok(Scenario::new([0; 32], 100, ways, 0, setup, 4, 2)?)
-}
-
-// The client's next operation is at most this.
-fn next_at_most(n: u64) -> Result<Cond, Fail> {
-    Ok(Cond::new().and(Term::Cmp(1, 0, Op::LessOrEqual, n))?)
-}
-
-// A meter for each worker.
-fn tallies(alloc: Global, workers: u32) -> Result<Vec<Tally>, NoMemory>
-    ensures { IfOk result (λ v. vec_len v ≡ workers) }
-{
-    let mut meters = Vec::new(alloc);
-    for _ in 0..workers {
-        meters.push(Tally::new())?;
-    }
-    Ok(meters)
-}
-
-// Adds a step at the end, where one can happen.
-fn add(alloc: Global, tape: &mut Tape<Echo<Tally>>, tally: &mut Tally) -> Result<bool, NoMemory> {
-    if tape.place() != tape.len() || 65_536 <= tape.len() {
-        return Ok(false);
-    }
-    tape.make_warm(alloc, tally)?;
-    if tape.here().can(Event::Step).is_err() {
-        return Ok(false);
-    }
-    tape.add(alloc, Event::Step, tally)?;
-    Ok(true)
-}
-
 // The run of the six steps that can happen.
 fn six_steps(alloc: Global) -> Result<Frozen<Echo<Tally>>, Fail> {
-    let mut tally = Tally::new();
-    let mut tape = Tape::new(alloc, &echoes()?, &mut tally)?;
-    for _step in 0..7 {
-        add(alloc, &mut tape, &mut tally)?;
-    }
-    Ok(tape.freeze(alloc)?)
+    frozen_run(alloc, &echoes()?, 7, &mut Tally::new())
 }
 
 // How often each of two pieces was entered, and a thousand for each time that it was left.
@@ -114,7 +61,7 @@ fn places_of_a_run(rt: HostRuntime) -> Result<(), Fail> {
     for workers in [1, 2, 16] {
         let meters = tallies(alloc, workers)?;
         let gate = no_counts();
-        let cond = next_at_most(1)?;
+        let cond = next_at_most(1, 1)?;
         let found = search(&rt, alloc, &run, 0, 6, &cond, meters, &gate);
         assert!(rt; found == Ok(Some(4)));
         assert!(rt; gate.are_even(), "one enter and one leave a piece");
@@ -129,7 +76,7 @@ fn no_place_of_a_run(rt: HostRuntime) -> Result<(), Fail> {
     for workers in [1, 2, 16] {
         let meters = tallies(alloc, workers)?;
         let gate = no_counts();
-        let cond = next_at_most(3)?;
+        let cond = next_at_most(1, 3)?;
         let found = search(&rt, alloc, &run, 0, 6, &cond, meters, &gate);
         assert!(rt; found == Ok(None));
         assert!(rt; gate.are_even(), "one enter and one leave a piece");
@@ -159,7 +106,7 @@ fn seeds_of_echo(rt: HostRuntime) -> Result<(), Fail> {
     let scenario = echoes()?;
     for workers in [1, 2, 16] {
         let meters = tallies(alloc, workers)?;
-        let cond = next_at_most(1)?;
+        let cond = next_at_most(1, 1)?;
         let found = sweep::<Echo<Tally>, _, _>(
             &rt, alloc, &scenario, 0, 3, 6, &cond, meters, &OpenGate,
         );
@@ -172,7 +119,7 @@ fn seeds_of_echo(rt: HostRuntime) -> Result<(), Fail> {
 fn sweeps_that_find_nothing(rt: HostRuntime) -> Result<(), Fail> {
     let alloc = rt.alloc();
     let scenario = echoes()?;
-    let cond = next_at_most(3)?;
+    let cond = next_at_most(1, 3)?;
     let found = sweep::<Echo<Tally>, _, _>(
         &rt,
         alloc,
@@ -185,7 +132,7 @@ fn sweeps_that_find_nothing(rt: HostRuntime) -> Result<(), Fail> {
         &OpenGate,
     );
     assert!(rt; found == Ok(None));
-    let cond = next_at_most(1)?;
+    let cond = next_at_most(1, 1)?;
     let found = sweep::<Echo<Tally>, _, _>(
         &rt,
         alloc,
