@@ -56,7 +56,7 @@ known script taken (Some rest) h = (rest, refl, h)
 pub at_end_of : (new : Option Text) (rest : Text) → new ≡ Some rest → IsAtEnd new → rest ≡ []
 at_end_of new rest e h = rw e at h
 
-same_course : (old : Course) (new : Course) → old.branches ≡ new.branches → old.taken ≡ new.taken → old ≡ new
+pub same_course : (old : Course) (new : Course) → old.branches ≡ new.branches → old.taken ≡ new.taken → old ≡ new
 same_course old new b t =
     let one : old ≡ record { branches = new.branches; taken = old.taken } = ap (λ x. record old { branches = x }) b in
     one ∙ ap (λ (n : ℕ). record new { taken = n }) t

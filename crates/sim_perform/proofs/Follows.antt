@@ -14,14 +14,9 @@ use Rattle.sim_lines.specs.Taken.{TakesLine, TakesLast}
 use Rattle.sim_script.specs.Script.{Text, Names, script_line}
 use Rattle.sim_cli.specs.Turns.{Course, Takes, course_after}
 use Rattle.sim_cli.specs.Play.{end_from, plain_next}
-use Rattle.sim_cli.proofs.Runs.{known, at_end_of}
+use Rattle.sim_cli.proofs.Runs.{known, at_end_of, same_course}
 use Rattle.sim_cli.proofs.Shown.{shown_asks}
 use Rattle.sim_perform.specs.Following.{reply_wants, turn_wants, Followed}
-
-same_course : (old : Course) (new : Course) → old.branches ≡ new.branches → old.taken ≡ new.taken → old ≡ new
-same_course old new b t =
-    let one : old ≡ record { branches = new.branches; taken = old.taken } = ap (λ x. record old { branches = x }) b in
-    one ∙ ap (λ (n : ℕ). record new { taken = n }) t
 
 module _ {State Msg : Type 0} (r : Rules State Msg) where
   -- a turn that wants no memory goes where the command does
