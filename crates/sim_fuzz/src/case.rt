@@ -1,7 +1,8 @@
-//! A case: an input at random, and what is to be written for it.
+//! A case: an input at random, and what a play of it and a hunt in its runs are to write.
 use crate::answering::Branches;
 use crate::asking::{Asker, Line};
 use crate::dice::Dice;
+use crate::hunting::Hunt;
 use crate::naming::Naming;
 use crate::plain::Trouble;
 use crate::setting::Setting;
@@ -13,15 +14,16 @@ use std::alloc::{AllocError, Global};
 /// The most probes of a protocol.
 const MOST_PROBES: u8 = 16;
 
-/// An input, and what is to be written for it.
+/// An input, what is to be written for it, and a hunt in its runs.
 #[derive(Drop)]
 pub struct Case {
     pub input: String,
     /// What a play is to write.
     pub expected: String,
+    pub hunt: Hunt,
 }
 
-/// What a play wrote, and how it ended.
+/// What was written, and how it ended.
 #[derive(Drop)]
 pub struct Written {
     pub status: Status,
@@ -56,14 +58,15 @@ fn script(
     Ok(lines)
 }
 
-/// What a play of the lines is to write.
+/// What a play of the lines is to write, and a hunt in the run that they leave.
 fn expected<N: Node>(
     alloc: Global,
     setting: &Setting,
     naming: Naming,
     lines: &[Line],
+    asker: &mut Asker,
     meter: N::Meter,
-) -> Result<String, Trouble> {
+) -> Result<(String, Hunt), Trouble> {
     let Some(scenario) = setting.scenario() else {
         return Err(Trouble::Impossible);
     };
@@ -80,7 +83,9 @@ fn expected<N: Node>(
             }
         }
     }
-    Ok(play)
+    let events = branches.events(0);
+    let hunt = Hunt::some::<N>(alloc, asker, setting, naming, events, &mut meter)?;
+    Ok((play, hunt))
 }
 
 impl Case {
@@ -104,20 +109,27 @@ impl Case {
         };
         let lines = script(alloc, &mut asker, naming, count, &mut input)?;
         let lines = lines.as_slice();
+        let asker = &mut asker;
         let meter = Tally::new();
-        let expected = match setting.protocol {
-            Protocol::Echo => { expected::<Echo<Tally>>(alloc, &setting, naming, lines, meter)? }
+        let (expected, hunt) = match setting.protocol {
+            Protocol::Echo => {
+                expected::<Echo<Tally>>(alloc, &setting, naming, lines, asker, meter)?
+            }
             Protocol::PrimaryBackup => {
-                expected::<PrimaryBackup<Tally>>(alloc, &setting, naming, lines, meter)?
+                expected::<PrimaryBackup<Tally>>(alloc, &setting, naming, lines, asker, meter)?
             }
             Protocol::AbdRegister => {
-                expected::<AbdRegister<Tally>>(alloc, &setting, naming, lines, meter)?
+                expected::<AbdRegister<Tally>>(alloc, &setting, naming, lines, asker, meter)?
             }
             Protocol::TwoPhase => {
-                expected::<TwoPhase<Tally>>(alloc, &setting, naming, lines, meter)?
+                expected::<TwoPhase<Tally>>(alloc, &setting, naming, lines, asker, meter)?
             }
         };
-        Ok(Case { input, expected })
+        Ok(Case {
+            input,
+            expected,
+            hunt,
+        })
     }
 
     /// What the play writes where it is not what it is to write.

@@ -1,4 +1,5 @@
-//! Compares plays of inputs at random with plain folds of events from the start: no tape, no book and no undo.
+//! Compares plays, searches and sweeps of inputs at random with plain folds of events from the start: no tape, no book, no undo, and
+//! no workers.
 //!
 //! `sim_fuzz COUNT FIRST` tries so many cases from a number on, 300 from 0 without these words, and tells the first that differs.
 #![tactic(auto)]
@@ -7,6 +8,7 @@ mod answering;
 mod asking;
 mod case;
 mod dice;
+mod hunting;
 mod naming;
 mod plain;
 mod refusals;
@@ -15,7 +17,11 @@ mod telling;
 mod writing;
 
 use crate::case::{Case, Written};
+use std::alloc::Global;
 use std::process::ExitCode;
+use std::rt::Clock;
+use std::sync::Wait;
+use std::thread::Threads;
 use std::{env, io};
 
 /// How many cases are tried where no number is given.
@@ -29,24 +35,49 @@ fn number_or(word: Option<String>, otherwise: u64) -> u64 {
     }
 }
 
-/// Tells how a case differs.
+/// Tells how a case differs from what is wanted, asked by these words.
 fn tell<R: Print>(
     rt: &R,
     number: u64,
-    case: &Case,
+    words: &str,
+    input: &str,
     written: &Written,
     wanted: &str,
 ) -> io::Result<()> {
     let Written { status, text } = written;
     let text = str::from_utf8(text.as_slice()).unwrap_or("no text");
-    let input = case.input.as_str();
     println!(rt;
-        "case {number} differs: {status:?}\n== input\n{input}== expected\n{wanted}== written\n{text}"
+        "case {number} differs: {words}: {status:?}\n== input\n{input}== expected\n{wanted}== written\n{text}"
     )
 }
 
+/// Tries a case, and tells whether it is as expected; if not, how it differs.
+fn is_right<R: Threads + Wait + Sync + Clock + Print + Eprint>(
+    rt: &R,
+    alloc: Global,
+    number: u64,
+    case: &Case,
+) -> io::Result<bool> {
+    let input = case.input.as_str();
+    if let Some(written) = case.wrong_play(alloc) {
+        tell(rt, number, "play", input, &written, case.expected.as_str())?;
+        return Ok(false);
+    }
+    if let Some(written) = case.hunt.wrong(rt, alloc, input) {
+        let words = case.hunt.words(alloc)?;
+        let wanted = case.hunt.expected();
+        tell(rt, number, words.as_str(), input, &written, wanted)?;
+        return Ok(false);
+    }
+    Ok(true)
+}
+
 /// Tries so many cases from a number on, up to the first that differs, and tells of it.
-fn run(rt: &HostRuntime, first: u64, count: u64) -> io::Result<ExitCode> {
+fn run<R: Threads + Wait + Sync + Clock + Print + Eprint + AllocGlobal>(
+    rt: &R,
+    first: u64,
+    count: u64,
+) -> io::Result<ExitCode> {
     let alloc = rt.alloc();
     for i in 0..count {
         let number = first.wrapping_add(i);
@@ -54,8 +85,7 @@ fn run(rt: &HostRuntime, first: u64, count: u64) -> io::Result<ExitCode> {
             println!(rt; "case {number} could not be made")?;
             return Ok(ExitCode::from(2));
         };
-        if let Some(written) = case.wrong_play(alloc) {
-            tell(rt, number, &case, &written, case.expected.as_str())?;
+        if !is_right(rt, alloc, number, &case)? {
             return Ok(ExitCode::from(1));
         }
     }
