@@ -53,7 +53,7 @@ enum Measure {
     Looks(Sessions),
 }
 
-const MEASURES: [(&'static str, u32, Measure); 30] = [
+const MEASURES: [(&'static str, u32, Measure); 33] = [
     ("draws", 10_000_000, Measure::Draws),
     ("draws and undraws", 5_000_000, Measure::Undraws),
     (
@@ -135,27 +135,42 @@ const MEASURES: [(&'static str, u32, Measure); 30] = [
     ),
     (
         "tape jumps, interval 64",
-        10_000,
+        50_000,
         Measure::TapeTurns(TapeTurn::Jump(64)),
     ),
     (
+        "tape jumps to checkpoints, interval 64",
+        50_000,
+        Measure::TapeTurns(TapeTurn::CheckpointJump(64)),
+    ),
+    (
         "tape jumps, interval 256",
-        10_000,
+        20_000,
         Measure::TapeTurns(TapeTurn::Jump(256)),
     ),
     (
+        "tape jumps to checkpoints, interval 256",
+        20_000,
+        Measure::TapeTurns(TapeTurn::CheckpointJump(256)),
+    ),
+    (
         "tape jumps, interval 1024",
-        10_000,
+        5_000,
         Measure::TapeTurns(TapeTurn::Jump(1_024)),
     ),
     (
+        "tape jumps to checkpoints, interval 1024",
+        5_000,
+        Measure::TapeTurns(TapeTurn::CheckpointJump(1_024)),
+    ),
+    (
         "tape branches, 2000 events",
-        10_000,
+        300_000,
         Measure::TapeTurns(TapeTurn::Branch(2_000)),
     ),
     (
         "tape branches, 60000 events",
-        10_000,
+        300_000,
         Measure::TapeTurns(TapeTurn::Branch(60_000)),
     ),
     ("book runs", 1_000_000, Measure::BookTurns(BookTurn::Run)),

@@ -21,6 +21,8 @@ pub enum TapeTurn {
     ThereAndBack,
     /// a jump to a place at random among 60,000 events, with records of the last 64, where checkpoints stand so far apart
     Jump(u32),
+    /// the same, to a checkpoint at random: a copy of one of all its worlds, and no event
+    CheckpointJump(u32),
     /// a branch at the end of so many events
     Branch(u32),
 }
@@ -131,16 +133,18 @@ fn there_and_back(alloc: Global, turns: u32) -> Result<u64, NoMemory> {
     Ok(shown(&tape))
 }
 
-// Jumps about.
-fn jumps(alloc: Global, interval: u32, turns: u32) -> Result<u64, NoMemory> {
+// Jumps about, to places that are multiples of `every`.
+fn jumps(alloc: Global, interval: u32, every: u32, turns: u32) -> Result<u64, NoMemory> {
     let mut tally = Tally::new();
     let interval = interval.clamp(1, 1_024);
+    let every = every.clamp(1, 1_024);
     let events = EVENTS.min(turns.saturating_mul(10));
     let mut tape = filled(alloc, &scenario(interval, 64), events, &mut tally)?;
     let len = tape.len();
     let mut sum = 0;
     for turn in 0..turns {
-        let to = turn.wrapping_mul(2_654_435_761) % (len + 1);
+        let whole = turn.wrapping_mul(2_654_435_761) % (len / every + 1);
+        let to = whole.saturating_mul(every).min(len);
         tape.goto(alloc, to, &mut tally)?;
         sum = mixed(sum, tape.clock());
     }
@@ -167,7 +171,8 @@ impl TapeTurn {
             TapeTurn::Add => adds(alloc, turns),
             TapeTurn::Forward => forward(alloc, turns),
             TapeTurn::ThereAndBack => there_and_back(alloc, turns),
-            TapeTurn::Jump(interval) => jumps(alloc, interval, turns),
+            TapeTurn::Jump(interval) => jumps(alloc, interval, 1, turns),
+            TapeTurn::CheckpointJump(interval) => jumps(alloc, interval, interval, turns),
             TapeTurn::Branch(events) => branches(alloc, events, turns),
         }
     }

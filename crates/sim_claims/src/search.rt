@@ -186,11 +186,14 @@ fn share<M: Drop + Send, S: Pieces<M> + Sync, G: Gate + Sync, R: Threads + Wait 
     let ((mine, a), (mut worker, b)) = join(
         rt,
         move || -> (Worker, Result<Found, NoMemory>)
-            requires { (mine.table_id ≡ claims.now.table.shared.table_id) × (mine.me ≡ (hand 1 [], [])) × (claims.now.table.shared.key.pieces ≡ S.count pieces.now) }
+            requires { (mine.table_id ≡ claims.now.table.shared.table_id) × (mine.me ≡ (hand 1 [], []))
+                × (claims.now.table.shared.key.pieces ≡ S.count pieces.now) }
             ensures { IsDone claims.entry.now.table.shared.table_id (S.finding pieces.entry.now) (S.count pieces.entry.now) 1 result.0 result.1 }
         { alone(rt, claims, pieces, gate, meter, mine) },
         move || -> (Worker, Result<Found, NoMemory>)
-            requires { IsSync R.row × IsSync S.row × IsSync G.row × IsSend M.row × (0 < vec_len meters) × (worker.table_id ≡ claims.now.table.shared.table_id) × (worker.me ≡ (hand (vec_len meters) [], [])) × (claims.now.table.shared.key.pieces ≡ S.count pieces.now) }
+            requires { IsSync R.row × IsSync S.row × IsSync G.row × IsSend M.row × (0 < vec_len meters)
+                × (worker.table_id ≡ claims.now.table.shared.table_id) × (worker.me ≡ (hand (vec_len meters) [], []))
+                × (claims.now.table.shared.key.pieces ≡ S.count pieces.now) }
             ensures { IsDone claims.entry.now.table.shared.table_id (S.finding pieces.entry.now) (S.count pieces.entry.now) (vec_len meters) result.0 result.1 }
         { share(rt, claims, pieces, gate, meters, worker) },
     );

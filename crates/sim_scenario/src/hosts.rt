@@ -75,7 +75,8 @@ pub fn tables(alloc: Global, value: &Value) -> Result<Option<Vec<&Table>>, NoMem
 }
 
 fn item_tables(alloc: Global, items: &[Value]) -> Result<Option<Vec<&Table>>, NoMemory>
-    ensures { IfOk result (λ found. option_map (λ tables. map (λ t. table_view t.now) tables.items) found ≡ scenario.all_some (λ v. as_table (view v)) items.now) }
+    ensures { IfOk result (λ found.
+        option_map (λ tables. map (λ t. table_view t.now) tables.items) found ≡ scenario.all_some (λ v. as_table (view v)) items.now) }
 {
     let mut tables = Vec::new(alloc);
     for item in items {

@@ -35,7 +35,8 @@ struct Places<'a, N: Node> {
 impl<'a, N: Node> Pieces<N::Meter> for Places<'a, N> {
     ghost count = { λ s. pieces s.lo s.hi s.interval };
 
-    ghost finding = { λ s i. let p = piece s.lo s.hi s.interval i in first_failing (rules N.laws N.PROBES s.frozen.now.scenario) s.cond.now s.frozen.now.events p.lo p.hi };
+    ghost finding = { λ s i. let p = piece s.lo s.hi s.interval i in
+        first_failing (rules N.laws N.PROBES s.frozen.now.scenario) s.cond.now s.frozen.now.events p.lo p.hi };
 
     fn count(&self) -> u64 {
         pieces(self.lo, self.hi, self.interval)
