@@ -407,7 +407,7 @@ fn copy_slots<B: Drop, F: Fn(&B) -> Result<B, NoMemory>>(
     let mut copied = VecDeque::with_capacity(alloc, slots.len())?;
     for place in 0..slots.len() {
         let slot = copy_slot(&slots[place], each)?;
-        copied.push_back(slot)?;
+        copied.push_back_reserved(slot);
     }
     Ok(copied)
 }
