@@ -258,34 +258,6 @@ impl<N: Node> World<N> {
         Ok((World { cluster }, undo))
     }
 
-    /// As `apply`. The record takes the place, and the memory, of one that is no longer wanted; after an error nothing is said
-    /// of it.
-    pub fn apply_over(
-        self,
-        alloc: Global,
-        event: Event,
-        undo: &mut Undo<N>,
-        meter: &mut N::Meter,
-    ) -> Result<World<N>, NoMemory>
-        requires can { IsSome (next (rules N.laws N.PROBES self.scenario) self.world event) }
-        requires young { self.age < 65536 }
-        ensures answers { IfOk result (λ w. AnswersFor (rules N.laws N.PROBES self.scenario) N.records undo.new.changes self.world event w.world) }
-        ensures clock { IfOk result (λ w. w.world.clock ≡ clock_after event self.world) }
-        ensures on { IfOk result (λ w. self.world.clock ≤ w.world.clock) }
-        ensures stopped { IsTrue (is_for_stopped event self.world) → IsOk result }
-        ensures scenario { IfOk result (λ w. w.scenario ≡ self.scenario) }
-        ensures age { IfOk result (λ w. w.age ≡ self.age + 1) }
-        ensures leads { IfOk result (λ w. LeadsBack N.told N.records undo.new w) }
-        ensures acted { OnOk result (count_by is_reaction undo.new.changes ≡ (if acts self.world event then 1 else 0)) }
-        ensures work { OnOk result (N.Meter.work meter.new ≡ turned_by (turns_of self.world event) (N.Meter.work meter.old)) }
-    {
-        let mut world = self;
-        world.reuse(mem::replace(undo, Undo::empty(alloc)));
-        let (after, record) = world.apply(alloc, event, meter)?;
-        *undo = record;
-        Ok(after)
-    }
-
     /// The world before an event, by the record that the event gave. One undo is counted where a node reacted in the event,
     /// else none; no turn and no copy is. The age is lowered by one. The only error is want of memory; nothing is left then.
     pub fn undo(
@@ -301,21 +273,6 @@ impl<N: Node> World<N> {
         let World { mut cluster } = self;
         cluster.undo(alloc, undo, meter)?;
         Ok(World { cluster })
-    }
-
-    /// As `undo`. The record is spent then, and its memory can be kept for that of another event.
-    pub fn undo_by(
-        self,
-        alloc: Global,
-        undo: &mut Undo<N>,
-        meter: &mut N::Meter,
-    ) -> Result<World<N>, NoMemory>
-        requires { LeadsBack N.told N.records undo.old self }
-        ensures world { IfOk result (λ w. w ≡ record { world = back N.records undo.old.changes self.world; scenario = self.scenario; age = self.age - 1 }) }
-        ensures work { OnOk result (N.Meter.work meter.new ≡ taken_back undo.old.changes (N.Meter.work meter.old)) }
-    {
-        let record = mem::replace(undo, Undo::empty(alloc));
-        self.undo(alloc, record, meter)
     }
 
     /// A record that is no longer wanted gives its memory to the next event. The world stays as it is.
