@@ -7,12 +7,12 @@ ghost use Rattle.sim_world.specs.Events.{rules, after, next, refusal_of, stepped
 ghost use Rattle.sim_world.specs.Acts.{acts, reactions_of, turns_of, turned_by};
 ghost use Rattle.sim_world.specs.Clock.{clock_after};
 ghost use Rattle.sim_world.specs.Memory.{is_for_stopped};
-ghost use Rattle.sim_world.specs.Index.{IsIndex, first_host, stopped_host, changing_host, LeadsBack};
+ghost use Rattle.sim_world.specs.Index.{IsIndex, beside_of, stopped_host, changing_host, LeadsBack};
 ghost use Rattle.sim_world.specs.Records.{AnswersFor, Fits, back};
 ghost use Rattle.sim_world.specs.Room.{IsReady};
 ghost use Rattle.sim_world.specs.Sound.{IsLawfulEvent};
 ghost use Rattle.sim_world.specs.Undone.{is_reaction, taken_back};
-ghost use Rattle.sim_world.specs.Trail.{IsTrail, taken_changes, taken_then};
+ghost use Rattle.sim_world.specs.Trail.{IsTrail, Extends, taken_changes};
 ghost use Rattle.sim_world.specs.Held.{IsHeld, in_hand};
 
 use crate::cluster::Cluster;
@@ -26,7 +26,6 @@ use crate::world::World;
 use crate::{Event, Fault, NoMemory};
 use sim_node::{Effects, Node};
 use std::alloc::Global;
-use std::mem;
 
 // The host whose timer a fault can change, else any.
 fn stopped_by(fault: Fault) -> u16
@@ -44,38 +43,15 @@ fn stopped_by(fault: Fault) -> u16
 }
 
 impl<N: Node> Parts<N> {
-    // The host of the first occurrence, else any.
-    fn next_host(&self) -> u16
-        ensures { result ≡ first_host (first self.now.world.queue.items) }
-    {
-        match self.queue.first() {
-            None => 0,
-            Some((_due, _serial, occurrence)) => occurrence.host,
-        }
-    }
-
-    // The one host whose timer an event can change, else any.
-    fn changing_host(&self, event: Event) -> u16
-        ensures { result ≡ changing_host event self.now.world }
-    {
-        match event {
-            Event::Step => self.next_host(),
-            Event::Advance(_to) => 0,
-            Event::Fault(fault) => stopped_by(fault),
-        }
-    }
-
     // The clock goes on to a time (ms).
     #[inline(never)]
-    fn advance(&mut self, spare: Trail<N>, to: u64) -> Result<Trail<N>, NoMemory>
+    fn advance(&mut self, trail: &mut Trail<N>, to: u64) -> Result<(), NoMemory>
         ensures world { OnOk result (self.new ≡ record self.old { world = at_time to self.old.world }) }
-        ensures trail { IfOk result (λ t. IsTrail N.records t.items self.old.world self.new.world) }
-        ensures acted { IfOk result (λ t. count_by is_reaction t.items ≡ 0) }
+        ensures trail { OnOk result (Extends N.records trail.old.items self.old.world trail.new.items self.new.world) }
     {
-        let mut trail = Trail::over(spare);
         trail.push(Small::Timed(self.clock))?;
         self.clock = to;
-        Ok(trail)
+        Ok(())
     }
 
     // A fault.
@@ -85,47 +61,48 @@ impl<N: Node> Parts<N> {
         alloc: Global,
         sc: &Scenario,
         index: &mut Index,
-        spare: Trail<N>,
+        trail: &mut Trail<N>,
         fault: Fault,
         meter: &mut N::Meter,
-    ) -> Result<Trail<N>, NoMemory>
+    ) -> Result<(), NoMemory>
         requires can { refusal_of (rules N.laws N.PROBES sc.now) (Event.Fault fault) self.old.world ≡ None }
         requires seed { self.old.seed ≡ sc.now.seed }
         requires ready { IsReady N.told sc.now.setup self.old.world }
         requires index { IsIndex index.old self.old.world }
         ensures world { OnOk result (self.new ≡ record self.old { world = after (rules N.laws N.PROBES sc.now) (Event.Fault fault) self.old.world }) }
         ensures stopped { IsTrue (is_for_stopped (Event.Fault fault) self.old.world) → IsOk result }
-        ensures trail { IfOk result (λ t. IsTrail N.records t.items self.old.world self.new.world) }
-        ensures acted { IfOk result (λ t. count_by is_reaction t.items ≡ 0) }
+        ensures trail { OnOk result (Extends N.records trail.old.items self.old.world trail.new.items self.new.world) }
         ensures lawful { OnOk result (IsLawfulEvent N.told (rules N.laws N.PROBES sc.now) (Event.Fault fault) self.old.world) }
         ensures index { OnOk result (IsIndex index.new self.new.world) }
         ensures work { OnOk result (N.Meter.work meter.new ≡ turned_by (turns_of self.old.world (Event.Fault fault)) (N.Meter.work meter.old)) }
     {
-        let mut trail = Trail::over(spare);
-        self.fault(alloc, sc, index, &mut trail, fault, meter)?;
-        Ok(trail)
+        self.fault(alloc, sc, index, trail, fault, meter)?;
+        Ok(())
     }
 
-    // An event, of which the small changes are answered.
+    // An event. An empty record gets the small changes, and what the event can change of the index as it stood before.
     fn event(
         &mut self,
         alloc: Global,
         sc: &Scenario,
         index: &mut Index,
         effects: &mut Effects<N::Msg>,
-        spare: Trail<N>,
+        undo: &mut Undo<N>,
         event: Event,
         meter: &mut N::Meter,
-    ) -> Result<(Option<Taken<N::Msg>>, Trail<N>), NoMemory>
+    ) -> Result<(), NoMemory>
         requires can { refusal_of (rules N.laws N.PROBES sc.now) event self.old.world ≡ None }
         requires seed { self.old.seed ≡ sc.now.seed }
         requires ready { IsReady N.told sc.now.setup self.old.world }
         requires index { IsIndex index.old self.old.world }
-        requires empty { effects.old ≡ record { hosts = sc.now.setup.hosts; list = [] } }
+        requires there { changing_host event self.old.world < length self.old.world.hosts }
+        requires spent { effects.old ≡ record { hosts = sc.now.setup.hosts; list = [] } }
+        requires empty { undo.old.changes ≡ [] }
         ensures world { OnOk result (self.new ≡ record self.old { world = after (rules N.laws N.PROBES sc.now) event self.old.world }) }
         ensures stopped { IsTrue (is_for_stopped event self.old.world) → IsOk result }
-        ensures trail { IfOk result (λ r. IsTrail N.records (taken_then r.0 r.1.items) self.old.world self.new.world) }
-        ensures acted { IfOk result (λ r. count_by is_reaction (taken_then r.0 r.1.items) ≡ reactions_of self.old.world event) }
+        ensures trail { OnOk result (IsTrail N.records undo.new.changes self.old.world self.new.world) }
+        ensures acted { OnOk result (count_by is_reaction undo.new.changes ≡ reactions_of self.old.world event) }
+        ensures beside { OnOk result (undo.new.beside ≡ beside_of index.old (changing_host event self.old.world)) }
         ensures lawful { OnOk result (IsLawfulEvent N.told (rules N.laws N.PROBES sc.now) event self.old.world) }
         ensures index { OnOk result (IsIndex index.new self.new.world) }
         ensures spent { OnOk result (effects.new ≡ effects.old) }
@@ -133,16 +110,18 @@ impl<N: Node> Parts<N> {
     {
         match event {
             Event::Step => {
-                let (taken, trail) = self.step(alloc, sc, index, effects, spare, meter)?;
-                Ok((Some(taken), trail))
+                self.step(alloc, sc, index, effects, undo, meter)?;
+                Ok(())
             }
             Event::Advance(to) => {
-                let trail = self.advance(spare, to)?;
-                Ok((None, trail))
+                undo.beside = index.beside(0);
+                self.advance(&mut undo.trail, to)?;
+                Ok(())
             }
             Event::Fault(fault) => {
-                let trail = self.fail(alloc, sc, index, spare, fault, meter)?;
-                Ok((None, trail))
+                undo.beside = index.beside(stopped_by(fault));
+                self.fail(alloc, sc, index, &mut undo.trail, fault, meter)?;
+                Ok(())
             }
         }
     }
@@ -165,46 +144,41 @@ impl<N: Node> Parts<N> {
 }
 
 impl<N: Node> Cluster<N> {
-    // An event that can happen, and a record by which it is taken back.
+    // An event that can happen. An empty record becomes the one by which it is taken back.
     fn apply(
         &mut self,
         alloc: Global,
         event: Event,
+        undo: &mut Undo<N>,
         meter: &mut N::Meter,
-    ) -> Result<Undo<N>, NoMemory>
+    ) -> Result<(), NoMemory>
         requires held { IsHeld N.told self.old }
         requires can { refusal_of (rules N.laws N.PROBES self.old.scenario) event self.old.parts.world ≡ None }
         requires young { self.old.age < 65536 }
+        requires empty { undo.old.changes ≡ [] }
         ensures held { OnOk result (IsHeld N.told self.new) }
-        ensures answers { IfOk result (λ undo.
-            AnswersFor (rules N.laws N.PROBES self.old.scenario) N.records undo.changes self.old.parts.world event self.new.parts.world) }
+        ensures answers { OnOk result (
+            AnswersFor (rules N.laws N.PROBES self.old.scenario) N.records undo.new.changes self.old.parts.world event self.new.parts.world) }
         ensures scenario { OnOk result (self.new.scenario ≡ self.old.scenario) }
         ensures age { OnOk result (self.new.age ≡ self.old.age + 1) }
         ensures clock { OnOk result (self.new.parts.world.clock ≡ clock_after event self.old.parts.world) }
         ensures on { OnOk result (self.old.parts.world.clock ≤ self.new.parts.world.clock) }
         ensures stopped { IsTrue (is_for_stopped event self.old.parts.world) → IsOk result }
-        ensures leads { IfOk result (λ undo. LeadsBack N.told N.records undo (in_hand self.new)) }
-        ensures acted { IfOk result (λ undo. count_by is_reaction undo.changes ≡ reactions_of self.old.parts.world event) }
+        ensures leads { OnOk result (LeadsBack N.told N.records undo.new (in_hand self.new)) }
+        ensures acted { OnOk result (count_by is_reaction undo.new.changes ≡ reactions_of self.old.parts.world event) }
         ensures work { OnOk result (N.Meter.work meter.new ≡ turned_by (turns_of self.old.parts.world event) (N.Meter.work meter.old)) }
     {
-        let host = self.parts.changing_host(event);
-        let kept = self.index.beside(host);
-        let spare = mem::replace(&mut self.spare, Trail::new(alloc));
-        let (taken, trail) = self.parts.event(
+        self.parts.event(
             alloc,
             &self.scenario,
             &mut self.index,
             &mut self.effects,
-            spare,
+            undo,
             event,
             meter,
         )?;
         self.age += 1;
-        Ok(Undo {
-            taken,
-            trail,
-            beside: kept,
-        })
+        Ok(())
     }
 
     // The event before is taken back, by the record that it gave.
@@ -222,11 +196,11 @@ impl<N: Node> Cluster<N> {
             trail,
             beside,
         } = undo;
-        let spare = self.parts.take_back_all(alloc, trail, meter)?;
+        let mut done = self.parts.take_back_all(alloc, trail, meter)?;
         self.parts.take_back_taken(taken)?;
         self.index.restore(beside);
         self.age -= 1;
-        self.spare.keep_roomier(spare);
+        done.leave_memory(&mut self.spare);
         Ok(())
     }
 }
@@ -254,7 +228,9 @@ impl<N: Node> World<N> {
         ensures work { OnOk result (N.Meter.work meter.new ≡ turned_by (turns_of self.world event) (N.Meter.work meter.old)) }
     {
         let World { mut cluster } = self;
-        let undo = cluster.apply(alloc, event, meter)?;
+        let mut undo = Undo::new(alloc);
+        undo.trail.take_memory(&mut cluster.spare);
+        cluster.apply(alloc, event, &mut undo, meter)?;
         Ok((World { cluster }, undo))
     }
 
@@ -279,7 +255,7 @@ impl<N: Node> World<N> {
     pub fn reuse(&mut self, undo: Undo<N>)
         ensures { self.new ≡ self.old }
     {
-        let Undo { trail, .. } = undo;
-        self.cluster.spare.keep_roomier(trail);
+        let mut done = undo;
+        done.trail.leave_memory(&mut self.cluster.spare);
     }
 }

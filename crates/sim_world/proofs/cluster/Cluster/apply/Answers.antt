@@ -1,26 +1,23 @@
-use Rattle.std.proofs.Common.{◌+◌, ◌≡◌, ◌<◌, ◌≤◌, ◌++◌, None, length, sym, ap, subst, ◌∙◌, arith}
+use Rattle.std.proofs.Common.{◌+◌, ◌≡◌, ◌<◌, ◌≤◌, None, length, refl, sym, ap, subst, ◌∙◌, arith}
 use Rattle.sim_world.specs.Clock.{clock_after}
 use Rattle.sim_world.specs.Events.{rules, after, refusal_of}
 use Rattle.sim_world.specs.Held.{IsHeld}
-use Rattle.sim_world.specs.Index.{LeadsBack}
+use Rattle.sim_world.specs.Index.{LeadsBack, changing_host}
 use Rattle.sim_world.specs.Room.{IsReady}
 use Rattle.sim_world.specs.Sound.{IsLawfulEvent}
-use Rattle.sim_world.specs.Trail.{taken_changes}
 use Rattle.sim_world.proofs.Readies.{ready_of}
 use Rattle.sim_world.proofs.Applied.{changing_there, applied_sound, applied_clock, applied_on, applied_leads}
 use Rattle.sim_world.proofs.cluster.Cluster.apply.Goals as goal
 
-pub beside-kept-requires : goal.beside-kept-requires
-beside-kept-requires g c =
+pub event-requires-clause-there : goal.event-requires-clause-there
+event-requires-clause-there g c =
     let i = c.self.inside in
     let laws = g.N.Node.laws in
     let probes = g.N.Node.PROBES in
     let held = subst (λ k. IsHeld g.N.Node.told k) (sym c.self.view_is) c.requires.held in
     let can = subst (λ k. refusal_of (rules laws probes k.scenario) c.args.event k.parts.world ≡ None) (sym c.self.view_is) c.requires.can in
     let lt = changing_there g.N.Node.told laws probes i.scenario.value i.age i.parts.world held.sound c.args.event can in
-    let h = c.changing_host-host.ensures in
     let n = held.sound.hosts in
-    let e = held.index.hosts in
     omega arith
 
 pub event-requires-clause-ready : goal.event-requires-clause-ready
@@ -40,12 +37,12 @@ returns-clause-held g c =
     let held = subst (λ k. IsHeld told k) (sym c.self.view_is) c.requires.held in
     let can = subst (λ k. refusal_of (rules laws probes k.scenario) c.args.event k.parts.world ≡ None) (sym c.self.view_is) c.requires.can in
     let young = subst (λ k. k.age < 65536) (sym c.self.view_is) c.requires.young in
-    let v = c.in_ok-taken.ensures in
+    let v = c.in_ok-event.ensures in
     let is = ap (λ z. z.world) v.world ∙ ap (λ s. after (rules laws probes s) c.args.event i.parts.world) c.deref.ensures in
     let law = subst (λ s. IsLawfulEvent told (rules laws probes s) c.args.event i.parts.world) c.deref.ensures v.lawful in
     record {
       sound = applied_sound told laws probes i.scenario.value i.age i.parts.world held.sound g.N.Node.records c.event.new.self.world c.args.event
-          (taken_changes c.in_ok-taken.taken ++ c.in_ok-taken.trail.items) young can is law v.trail;
+          c.event.new.undo.changes young can is law v.trail;
       index = v.index;
       seed = ap (λ z. z.seed) v.world ∙ held.seed;
       effects = v.spent ∙ held.effects;
@@ -60,12 +57,12 @@ returns-clause-clock g c =
     let held = subst (λ k. IsHeld told k) (sym c.self.view_is) c.requires.held in
     let can = subst (λ k. refusal_of (rules laws probes k.scenario) c.args.event k.parts.world ≡ None) (sym c.self.view_is) c.requires.can in
     let young = subst (λ k. k.age < 65536) (sym c.self.view_is) c.requires.young in
-    let v = c.in_ok-taken.ensures in
+    let v = c.in_ok-event.ensures in
     let is = ap (λ z. z.world) v.world ∙ ap (λ s. after (rules laws probes s) c.args.event i.parts.world) c.deref.ensures in
     let law = subst (λ s. IsLawfulEvent told (rules laws probes s) c.args.event i.parts.world) c.deref.ensures v.lawful in
     subst (λ k. c.event.new.self.world.clock ≡ clock_after c.args.event k.parts.world) c.self.view_is
     (applied_clock told laws probes i.scenario.value i.age i.parts.world held.sound g.N.Node.records c.event.new.self.world c.args.event
-    (taken_changes c.in_ok-taken.taken ++ c.in_ok-taken.trail.items)
+    c.event.new.undo.changes
     young can is law v.trail)
 
 pub returns-clause-on : goal.returns-clause-on
@@ -77,12 +74,12 @@ returns-clause-on g c =
     let held = subst (λ k. IsHeld told k) (sym c.self.view_is) c.requires.held in
     let can = subst (λ k. refusal_of (rules laws probes k.scenario) c.args.event k.parts.world ≡ None) (sym c.self.view_is) c.requires.can in
     let young = subst (λ k. k.age < 65536) (sym c.self.view_is) c.requires.young in
-    let v = c.in_ok-taken.ensures in
+    let v = c.in_ok-event.ensures in
     let is = ap (λ z. z.world) v.world ∙ ap (λ s. after (rules laws probes s) c.args.event i.parts.world) c.deref.ensures in
     let law = subst (λ s. IsLawfulEvent told (rules laws probes s) c.args.event i.parts.world) c.deref.ensures v.lawful in
     subst (λ k. k.parts.world.clock ≤ c.event.new.self.world.clock) c.self.view_is
     (applied_on told laws probes i.scenario.value i.age i.parts.world held.sound g.N.Node.records c.event.new.self.world c.args.event
-    (taken_changes c.in_ok-taken.taken ++ c.in_ok-taken.trail.items)
+    c.event.new.undo.changes
     young can is law v.trail)
 
 pub returns-clause-leads : goal.returns-clause-leads
@@ -94,17 +91,15 @@ returns-clause-leads g c =
     let held = subst (λ k. IsHeld told k) (sym c.self.view_is) c.requires.held in
     let can = subst (λ k. refusal_of (rules laws probes k.scenario) c.args.event k.parts.world ≡ None) (sym c.self.view_is) c.requires.can in
     let young = subst (λ k. k.age < 65536) (sym c.self.view_is) c.requires.young in
-    let v = c.in_ok-taken.ensures in
+    let v = c.in_ok-event.ensures in
     let is = ap (λ z. z.world) v.world ∙ ap (λ s. after (rules laws probes s) c.args.event i.parts.world) c.deref.ensures in
     let law = subst (λ s. IsLawfulEvent told (rules laws probes s) c.args.event i.parts.world) c.deref.ensures v.lawful in
     let there = changing_there told laws probes i.scenario.value i.age i.parts.world held.sound c.args.event can in
-    let h = c.changing_host-host.ensures in
     let n = held.sound.hosts in
-    let m = held.index.hosts in
-    let lt : c.changing_host-host.result < length i.parts.world.hosts = omega arith in
-    subst (λ b. LeadsBack told g.N.Node.records (record { changes = taken_changes c.in_ok-taken.taken ++ c.in_ok-taken.trail.items; beside = b })
-    (record { world = c.event.new.self.world; scenario = i.scenario.value; age = i.age + 1 })) (sym c.beside-kept.ensures)
+    let lt : changing_host c.args.event i.parts.world < length i.parts.world.hosts = omega arith in
+    subst (λ b. LeadsBack told g.N.Node.records (record { changes = c.event.new.undo.changes; beside = b })
+    (record { world = c.event.new.self.world; scenario = i.scenario.value; age = i.age + 1 })) (sym v.beside)
     (applied_leads told laws probes i.scenario.value i.age i.parts.world held.sound g.N.Node.records c.event.new.self.world c.args.event
-    (taken_changes c.in_ok-taken.taken ++ c.in_ok-taken.trail.items)
+    c.event.new.undo.changes
     young can is law v.trail
-    i.index c.changing_host-host.result held.index h lt)
+    i.index (changing_host c.args.event i.parts.world) held.index refl lt)
