@@ -1,9 +1,18 @@
-//! Calls of a tape whose conditions are looked at first.
+//! Calls of a tape whose conditions are looked at first, and what fails a test.
 use sim_node::Node;
 use sim_tape::{Frozen, Tape};
 use sim_world::{Event, Query, Refusal, View};
 use std::alloc::Global;
+use std::fmt::Debug;
 use std::test::Fail;
+
+/// Two values are the same, or the test fails.
+pub fn same<T: PartialEq + Debug>(seen: &T, wanted: &T, what: &str) -> Result<(), Fail> {
+    if seen == wanted {
+        return Ok(());
+    }
+    Err(Fail::new(format_args!("{what}: {seen:?}, not {wanted:?}")))
+}
 
 /// Adds an event at the end, where it can happen.
 pub fn add<N: Node>(

@@ -1,33 +1,42 @@
 //! A plain run of events: the worlds after each, made by steps from the start alone.
 ghost use Rattle.std.specs.Prelude.{◌<◌};
 
+use super::calls::same;
 use super::meter::Counts;
 use sim_echo::Echo;
 use sim_node::Node;
+use sim_tape::EventList;
 use sim_world::{Event, Query, Scenario, View, World};
 use std::alloc::Global;
-use std::process::Abort;
 use std::test::Fail;
 
-pub type EchoWorld<R> = World<Echo<Counts<R>>>;
+pub type EchoWorld = World<Echo<Counts>>;
 
 /// An event of a plain run, and whether a node reacted in it.
 #[derive(Clone, Copy)]
-pub struct Happened {
-    pub event: Event,
-    pub acted: bool,
+struct Happened {
+    event: Event,
+    acted: bool,
 }
 
 /// What happened, and the world after each of these events, the start first.
 #[derive(Drop)]
-pub struct Plain<R: Abort + Drop> {
+pub struct Plain {
+    alloc: Global,
     happened: Vec<Happened>,
-    worlds: Vec<EchoWorld<R>>,
+    worlds: Vec<EchoWorld>,
+    meter: Counts,
 }
 
 // How many hosts run.
 fn running<N: Node>(world: &World<N>) -> u64 {
-    (0..world.hosts()).filter(|host| world.is_up(*host)).count() as u64
+    let mut count: u64 = 0;
+    for host in 0..world.hosts() {
+        if world.is_up(host) {
+            count = count.saturating_add(1);
+        }
+    }
+    count
 }
 
 // The world after an event that can happen.
@@ -71,19 +80,18 @@ pub fn looks<N: Node>(alloc: Global, world: &World<N>) -> Result<Vec<View>, Fail
     Ok(views)
 }
 
-impl<R: Abort + Drop> Plain<R> {
+impl Plain {
     /// No event.
-    pub fn new(
-        alloc: Global,
-        scenario: &Scenario,
-        meter: &mut Counts<R>,
-    ) -> Result<Plain<R>, Fail> {
-        let start = World::start(alloc, scenario, meter)?;
+    pub fn new(alloc: Global, scenario: &Scenario) -> Result<Plain, Fail> {
+        let mut meter = Counts::new();
+        let start = World::start(alloc, scenario, &mut meter)?;
         let mut worlds = Vec::new(alloc);
         worlds.push(start)?;
         Ok(Plain {
+            alloc,
             happened: Vec::new(alloc),
             worlds,
+            meter,
         })
     }
 
@@ -92,13 +100,26 @@ impl<R: Abort + Drop> Plain<R> {
         self.happened.len().min(65_536) as u32
     }
 
-    /// The event at a place.
-    pub fn event(&self, place: u32) -> Option<Event> {
-        self.happened.get(place as usize).map(|one| one.event)
+    // The event at a place.
+    fn event(&self, place: u32) -> Option<Event> {
+        match self.happened.get(place as usize) {
+            Some(one) => Some(one.event),
+            None => None,
+        }
+    }
+
+    /// A list has the events of this run and no other.
+    pub fn has_events(&self, list: &EventList) -> Result<(), Fail> {
+        let len = self.len();
+        same(&list.len(), &len, "events")?;
+        for place in 0..len.saturating_add(1) {
+            same(&list.get(place), &self.event(place), "event")?;
+        }
+        Ok(())
     }
 
     /// The world after the first events.
-    pub fn world(&self, place: u32) -> Result<&EchoWorld<R>, Fail> {
+    pub fn world(&self, place: u32) -> Result<&EchoWorld, Fail> {
         match self.worlds.get(place as usize) {
             Some(world) => Ok(world),
             None => Err(Fail::from("no such place")),
@@ -107,8 +128,13 @@ impl<R: Abort + Drop> Plain<R> {
 
     /// In how many of the events from a place up to another a node reacted.
     pub fn acted(&self, from: u32, to: u32) -> u64 {
-        let events = self.happened.iter().take(to as usize).skip(from as usize);
-        events.filter(|one| one.acted).count() as u64
+        let mut count: u64 = 0;
+        for place in from..to {
+            if let Some(one) = self.happened.get(place as usize) {
+                count = count.saturating_add(u64::from(one.acted));
+            }
+        }
+        count
     }
 
     /// How many hosts run after the first events.
@@ -117,10 +143,14 @@ impl<R: Abort + Drop> Plain<R> {
     }
 
     /// Adds an event that can happen.
-    pub fn add(&mut self, alloc: Global, event: Event, meter: &mut Counts<R>) -> Result<(), Fail> {
-        let before = meter.counted();
-        let next = after(alloc, self.world(self.len())?, event, meter)?;
-        let acted = event == Event::Step && 0 < meter.since(before).0;
+    pub fn add(&mut self, event: Event) -> Result<(), Fail> {
+        let before = self.meter.counted();
+        let len = self.len();
+        let next = match self.worlds.get(len as usize) {
+            Some(world) => after(self.alloc, world, event, &mut self.meter)?,
+            None => return Err(Fail::from("no such place")),
+        };
+        let acted = event == Event::Step && 0 < self.meter.since(before).0;
         self.happened.push(Happened { event, acted })?;
         self.worlds.push(next)?;
         Ok(())
