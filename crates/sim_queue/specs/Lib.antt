@@ -1,5 +1,4 @@
 pub mod Pending
 pub mod Items
 pub mod Slots
-pub mod Sparse
 pub mod Store
