@@ -18,7 +18,6 @@ use crate::frozen::Frozen;
 use crate::log::Log;
 use crate::shared_list::SharedList;
 use crate::walk::Walk;
-use circular_buffer::HeapCircularBuffer;
 use sim_node::Node;
 use sim_world::{Event, Scenario, World};
 use std::alloc::Global;
@@ -287,8 +286,8 @@ impl<N: Node> Tape<N> {
         ensures err { OnErr result (self.new ≡ with_world self.new.warm self.new.reach self.old) }
     {
         self.log.reserve(alloc)?;
-        self.checkpoints.reserve(alloc)?;
         let is_whole = (self.place as usize + 1) % self.log.interval() == 0;
+        make_room(alloc, &mut self.checkpoints, is_whole)?;
         let (clock, copy) = self.walk.step(alloc, &self.log, event, is_whole, meter)?;
         self.log.push(Entry { event, clock });
         keep(&mut self.checkpoints, copy);
@@ -382,9 +381,24 @@ impl<N: Node> Tape<N> {
     }
 }
 
+// Makes room for one more world, where one is asked for. The only error is want of memory.
+fn make_room<N: Node>(
+    alloc: Global,
+    worlds: &mut SharedList<World<N>>,
+    asked: bool,
+) -> Result<(), NoMemory>
+    ensures items { worlds.new.items ≡ worlds.old.items }
+    ensures room { OnOk result (IsTrue asked → IsTrue worlds.new.has_room) }
+{
+    if asked {
+        worlds.reserve(alloc)?;
+    }
+    Ok(())
+}
+
 // Keeps a world, where there is one, as the last.
 fn keep<N: Node>(worlds: &mut SharedList<World<N>>, world: Option<Arc<World<N>>>)
-    requires room { IsTrue worlds.old.has_room }
+    requires room { IsSome world → IsTrue worlds.old.has_room }
     requires few { length worlds.old.items < 65537 }
     ensures { MatchOption world (worlds.new.items ≡ worlds.old.items) (λ w. worlds.new.items ≡ worlds.old.items ++ arc_value w ∷ []) }
 {

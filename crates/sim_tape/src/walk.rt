@@ -9,37 +9,24 @@ ghost use Rattle.sim_world.specs.Events.{rules, run, next, refusal_of};
 ghost use Rattle.sim_world.specs.Index.{LeadsBack};
 ghost use Rattle.sim_world.specs.Records.{AnswersFor};
 ghost use Rattle.sim_world.specs.Undone.{is_reaction};
-ghost use Rattle.circular_buffer.specs.Buffer.{buffer, keep_last};
+ghost use Rattle.circular_buffer.specs.Buffer.{buffer};
 ghost use Rattle.sim_tape.specs.Inside.{IsRun, IsWalkIn, IsWalkAfter, AreRecordsIn, IsAtIn, IsAfter, rules_in, world_at_end, world_after};
 ghost use Rattle.sim_tape.specs.Places.{events_of, acting};
 ghost use Rattle.sim_tape.specs.Works.{undone_by, OnlyTurns, Plays};
 
 use crate::NoMemory;
 use crate::log::Log;
-use circular_buffer::HeapCircularBuffer;
+use crate::ring::Ring;
 use sim_node::Node;
-use sim_world::{Event, Undo, World};
+use sim_world::{Event, World};
 use std::alloc::Global;
 use std::sync::Arc;
-
-/// The records of the last events.
-pub(crate) type Ring<N> = HeapCircularBuffer<Undo<N>>;
 
 /// The world at a place of a log, where it is there, and the records of the last events before it.
 #[derive(Drop)]
 pub(crate) struct Walk<N: Node> {
     pub world: Option<World<N>>,
     pub ring: Ring<N>,
-}
-
-// Keeps a record as the newest. Of a full ring the oldest goes, whose memory the world uses again.
-fn keep<N: Node>(ring: &mut Ring<N>, undo: Undo<N>, world: &mut World<N>)
-    ensures ring { ring.new ≡ buffer (keep_last ring.old.capacity (ring.old.items ++ undo ∷ [])) ring.old.capacity }
-    ensures world { world.new ≡ world.old }
-{
-    if let Some(oldest) = ring.push_back(undo) {
-        world.reuse(oldest);
-    }
 }
 
 // A copy of a world that can be shared, where one is asked for.
@@ -87,9 +74,9 @@ impl Log {
         let mut world = world;
         for i in place..to {
             let event = self.entry(i).event;
-            let (after, record) = world.apply(alloc, event, meter)?;
-            world = after;
-            keep(ring, record, &mut world);
+            let mut record = ring.spare(alloc)?;
+            world = world.apply_over(alloc, event, &mut record, meter)?;
+            ring.push(record);
         }
         Ok(world)
     }
@@ -116,10 +103,9 @@ impl Log {
     {
         let mut world = world;
         for _ in 0..count {
-            let Some(record) = ring.pop_back() else {
-                unreachable!()
-            };
-            world = world.undo(alloc, record, meter)?;
+            let mut record = ring.pop();
+            world = world.undo_by(alloc, &mut record, meter)?;
+            ring.put_aside(record);
         }
         Ok(world)
     }
@@ -131,7 +117,7 @@ impl<N: Node> Walk<N> {
         ensures world { IfOk result (λ w. w.world ≡ None) }
         ensures ring { IfOk result (λ w. w.ring ≡ buffer [] window) }
     {
-        let ring = HeapCircularBuffer::with_capacity(alloc, window)?;
+        let ring = Ring::with_capacity(alloc, window)?;
         Ok(Walk { world: None, ring })
     }
 
@@ -315,12 +301,13 @@ impl<N: Node> Walk<N> {
         ensures ring { length self.new.ring.items ≤ self.new.ring.capacity }
         ensures err { OnErr result (IsWalkIn N.told N.records N.laws N.PROBES log.now (length log.now.entries) self.new.world self.new.ring.items) }
     {
+        let mut record = self.ring.spare(alloc)?;
         let Some(world) = self.world.take() else {
             unreachable!()
         };
-        match world.apply(alloc, event, meter) {
-            Ok((mut after, record)) => {
-                keep(&mut self.ring, record, &mut after);
+        match world.apply_over(alloc, event, &mut record, meter) {
+            Ok(after) => {
+                self.ring.push(record);
                 let copy = self.mark(alloc, &after, asked, meter)?;
                 let clock = after.clock();
                 self.world = Some(after);

@@ -182,25 +182,25 @@ impl<N: Node> Cluster<N> {
     }
 
     // The event before is taken back, by the record that it gave.
-    fn undo(&mut self, alloc: Global, undo: Undo<N>, meter: &mut N::Meter) -> Result<(), NoMemory>
+    fn undo(
+        &mut self,
+        alloc: Global,
+        undo: &mut Undo<N>,
+        meter: &mut N::Meter,
+    ) -> Result<(), NoMemory>
         requires held { IsHeld N.told self.old }
-        requires leads { LeadsBack N.told N.records undo (in_hand self.old) }
+        requires leads { LeadsBack N.told N.records undo.old (in_hand self.old) }
         ensures held { OnOk result (IsHeld N.told self.new) }
-        ensures world { OnOk result (self.new.parts.world ≡ back N.records undo.changes self.old.parts.world) }
+        ensures world { OnOk result (self.new.parts.world ≡ back N.records undo.old.changes self.old.parts.world) }
         ensures scenario { OnOk result (self.new.scenario ≡ self.old.scenario) }
         ensures age { OnOk result (self.new.age ≡ self.old.age - 1) }
-        ensures work { OnOk result (N.Meter.work meter.new ≡ taken_back undo.changes (N.Meter.work meter.old)) }
+        ensures work { OnOk result (N.Meter.work meter.new ≡ taken_back undo.old.changes (N.Meter.work meter.old)) }
     {
-        let Undo {
-            taken,
-            trail,
-            beside,
-        } = undo;
-        let mut done = self.parts.take_back_all(alloc, trail, meter)?;
+        self.parts.take_back_all(alloc, &mut undo.trail, meter)?;
+        let taken = undo.taken.take();
         self.parts.take_back_taken(taken)?;
-        self.index.restore(beside);
+        self.index.restore(undo.beside);
         self.age -= 1;
-        done.leave_memory(&mut self.spare);
         Ok(())
     }
 }
@@ -228,10 +228,37 @@ impl<N: Node> World<N> {
         ensures work { OnOk result (N.Meter.work meter.new ≡ turned_by (turns_of self.world event) (N.Meter.work meter.old)) }
     {
         let World { mut cluster } = self;
-        let mut undo = Undo::new(alloc);
+        let mut undo = Undo::empty(alloc);
         undo.trail.take_memory(&mut cluster.spare);
         cluster.apply(alloc, event, &mut undo, meter)?;
         Ok((World { cluster }, undo))
+    }
+
+    /// As `apply`. The record takes the place, and the memory, of one that is no longer wanted; after an error nothing is said
+    /// of it.
+    pub fn apply_over(
+        self,
+        alloc: Global,
+        event: Event,
+        undo: &mut Undo<N>,
+        meter: &mut N::Meter,
+    ) -> Result<World<N>, NoMemory>
+        requires can { IsSome (next (rules N.laws N.PROBES self.scenario) self.world event) }
+        requires young { self.age < 65536 }
+        ensures answers { IfOk result (λ w. AnswersFor (rules N.laws N.PROBES self.scenario) N.records undo.new.changes self.world event w.world) }
+        ensures clock { IfOk result (λ w. w.world.clock ≡ clock_after event self.world) }
+        ensures on { IfOk result (λ w. self.world.clock ≤ w.world.clock) }
+        ensures stopped { IsTrue (is_for_stopped event self.world) → IsOk result }
+        ensures scenario { IfOk result (λ w. w.scenario ≡ self.scenario) }
+        ensures age { IfOk result (λ w. w.age ≡ self.age + 1) }
+        ensures leads { IfOk result (λ w. LeadsBack N.told N.records undo.new w) }
+        ensures acted { OnOk result (count_by is_reaction undo.new.changes ≡ (if acts self.world event then 1 else 0)) }
+        ensures work { OnOk result (N.Meter.work meter.new ≡ turned_by (turns_of self.world event) (N.Meter.work meter.old)) }
+    {
+        let World { mut cluster } = self;
+        undo.clear();
+        cluster.apply(alloc, event, undo, meter)?;
+        Ok(World { cluster })
     }
 
     /// The world before an event, by the record that the event gave. One undo is counted where a node reacted in the event,
@@ -245,6 +272,24 @@ impl<N: Node> World<N> {
         requires { LeadsBack N.told N.records undo self }
         ensures world { IfOk result (λ w. w ≡ record { world = back N.records undo.changes self.world; scenario = self.scenario; age = self.age - 1 }) }
         ensures work { OnOk result (N.Meter.work meter.new ≡ taken_back undo.changes (N.Meter.work meter.old)) }
+    {
+        let World { mut cluster } = self;
+        let mut spent = undo;
+        cluster.undo(alloc, &mut spent, meter)?;
+        spent.trail.leave_memory(&mut cluster.spare);
+        Ok(World { cluster })
+    }
+
+    /// As `undo`. The record is spent then, and its memory can be kept for that of another event.
+    pub fn undo_by(
+        self,
+        alloc: Global,
+        undo: &mut Undo<N>,
+        meter: &mut N::Meter,
+    ) -> Result<World<N>, NoMemory>
+        requires { LeadsBack N.told N.records undo.old self }
+        ensures world { IfOk result (λ w. w ≡ record { world = back N.records undo.old.changes self.world; scenario = self.scenario; age = self.age - 1 }) }
+        ensures work { OnOk result (N.Meter.work meter.new ≡ taken_back undo.old.changes (N.Meter.work meter.old)) }
     {
         let World { mut cluster } = self;
         cluster.undo(alloc, undo, meter)?;

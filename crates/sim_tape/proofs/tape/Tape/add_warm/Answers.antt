@@ -1,6 +1,5 @@
-use Rattle.std.proofs.Common.{◌≡◌, ◌≤◌, ℕ, ◌+◌, ◌%◌, ◌<◌, ◌++◌, ◌∷◌, [], None, cond, length, min, map, sym, ap, ◌∙◌, subst, arith}
+use Rattle.std.proofs.Common.{◌≡◌, ◌≤◌, ℕ, ◌+◌, ◌%◌, ◌<◌, ◌++◌, ◌∷◌, [], None, cond, length, min, sym, ap, ◌∙◌, subst, arith}
 use Rattle.std.specs.Prelude.{nat_eq}
-use Rattle.std.specs.Arc.{arc_value}
 use Rattle.sim_world.specs.Acts.{running}
 use Rattle.sim_world.specs.World.{Scenario}
 use Rattle.sim_world.specs.Clock.{clock_after}
@@ -39,11 +38,11 @@ invariant_of-self-2 g c =
     let low = c.interval.ensures.limits.interval.0 in
     let run0 = subst (λ (l : LogView). IsRun (rules g.N.Node.laws g.N.Node.PROBES l.scenario) l.entries) (sym same) c.self.invariant.0 in
     let marks0 = subst (λ (l : LogView). AreCheckpoints (rules g.N.Node.laws g.N.Node.PROBES l.scenario) (events_of l.entries) i.checkpoints.items) (sym same) c.self.invariant.1 in
-    let marks1 = subst (λ xs. AreCheckpoints r (events_of log.entries) xs) (sym c.in_ok-reserve-2.ensures.items) marks0 in
+    let marks1 = subst (λ xs. AreCheckpoints r (events_of log.entries) xs) (sym c.make_room.ensures.items) marks0 in
     let len : i.place ≡ length (events_of log.entries) = place ∙ sym (events-length log.entries) in
     let is = c.interval.ensures.value in
     let copy = rw (← place) at v.copy in
-    let marks = kept_checkpoints r (events_of log.entries) c.args.event c.reserve-2.new.self.items c.keep.new.worlds.items i.place c.interval.result c.in_ok-clock.copy
+    let marks = kept_checkpoints r (events_of log.entries) c.args.event c.make_room.new.worlds.items c.keep.new.worlds.items i.place c.interval.result c.in_ok-clock.copy
     marks1 (omega (arith, low, is)) is len copy c.keep.ensures in
     let up = sym (events-push log.entries x) in
     let all : Inside g.N.Node.told g.N.Node.records g.N.Node.laws g.N.Node.PROBES log.scenario (log.entries ++ x ∷ []) c.keep.new.worlds.items (i.place + 1) c.step.new.self.world c.step.new.self.ring.items =
