@@ -6,8 +6,6 @@ mod fields;
 mod hosts;
 mod links;
 mod reading;
-#[cfg(test)]
-mod tests;
 
 ghost use Rattle.std.specs.Prelude.{◌≡◌};
 ghost use Rattle.sim_scenario.specs.Scenario as scenario;

@@ -1,0 +1,406 @@
+//! Texts of format 2: their links, and the time that a sync takes.
+
+use super::said::{same, scenario, ways_are};
+use super::texts::{LINES, rows_hold, text_with};
+use sim_links::Way;
+use sim_scenario::{Protocol, ScenarioText, host_name};
+use std::test::Fail;
+
+/// The lines of a text of format 2, whose syncs take no time, with a link from `w` to `a` and room for more.
+const LINES_2: [(&str, &str); 13] = [
+    ("format", "format = 2\ndisk_latency = 0\n"),
+    (
+        "seed",
+        "seed = \"0000000000000000000000000000000000000000000000000000000000000000\"\n",
+    ),
+    ("protocol", "protocol = \"echo\"\n"),
+    ("tick", "tick = 100\n"),
+    ("latency_min", "latency_min = 10\n"),
+    ("latency_max", "latency_max = 10\n"),
+    ("loss", "loss = 0\n"),
+    ("servers", "servers = [\"a\"]\n"),
+    ("checkpoint", "checkpoint = 4\n"),
+    ("window", "window = 2\n"),
+    ("client", "[[client]]\nname = \"w\"\nops = 2\n"),
+    (
+        "link",
+        "[[link]]\nsource = \"w\"\ntarget = \"a\"\nlatency_min = 3\nlatency_max = 3\nloss = 0\n",
+    ),
+    ("more", "\n"),
+];
+
+/// Links that follow another: unknown keys, missing ones, wrong types and numbers out of their ranges, in the order of the keys and
+/// a table before the next; then a source or target that is no host, or both one; then a pair twice, also where both say the same.
+const SECOND_LINKS: &str = r#"
+> 0 @more
+[[link]]
+source = "a"
+target = "w"
+latency_min = 0
+latency_max = 60000
+loss = 1000
+> 3 link @more
+[[link]]
+zebra = 1
+> 3 link @more
+[[link]]
+name = "w"
+> 4 link @more
+[[link]]
+> 4 link @more
+[[link]]
+target = "w"
+latency_min = 0
+latency_max = 0
+loss = 0
+> 4 link @more
+[[link]]
+source = "a"
+latency_min = 0
+latency_max = 0
+loss = 0
+> 4 link @more
+[[link]]
+source = "a"
+target = "w"
+latency_max = 0
+loss = 0
+> 4 link @more
+[[link]]
+source = "a"
+target = "w"
+latency_min = 0
+loss = 0
+> 4 link @more
+[[link]]
+source = "a"
+target = "w"
+latency_min = 0
+latency_max = 0
+> 5 link @more
+[[link]]
+source = 0
+target = "w"
+latency_min = 0
+latency_max = 0
+loss = 0
+> 5 link @more
+[[link]]
+source = "a"
+target = ["w"]
+latency_min = 0
+latency_max = 0
+loss = 0
+> 5 link @more
+[[link]]
+source = "a"
+target = "w"
+latency_min = "0"
+latency_max = 0
+loss = 0
+> 5 link @more
+[[link]]
+source = "a"
+target = "w"
+latency_min = 0
+latency_max = 0.0
+loss = 0
+> 5 link @more
+[[link]]
+source = "a"
+target = "w"
+latency_min = 0
+latency_max = 0
+loss = false
+> 9 link @more
+[[link]]
+source = "a"
+target = "w"
+latency_min = -1
+latency_max = 0
+loss = 0
+> 9 link @more
+[[link]]
+source = "a"
+target = "w"
+latency_min = 60001
+latency_max = 60001
+loss = 0
+> 9 link @more
+[[link]]
+source = "a"
+target = "w"
+latency_min = 2
+latency_max = 1
+loss = 0
+> 9 link @more
+[[link]]
+source = "a"
+target = "w"
+latency_min = 2
+latency_max = 60001
+loss = 0
+> 9 link @more
+[[link]]
+source = "a"
+target = "w"
+latency_min = 0
+latency_max = 0
+loss = 1001
+> 5 link @more
+[[link]]
+loss = 1001
+source = 1
+> 4 link @more
+[[link]]
+loss = 1001
+latency_max = -1
+latency_min = 0
+target = "w"
+> 5 link @more
+[[link]]
+loss = 0
+latency_max = -1
+latency_min = true
+target = "w"
+source = "z"
+> 5 link @more
+[[link]]
+source = 1
+[[link]]
+zebra = 1
+> 13 link @more
+[[link]]
+source = "a"
+target = "z"
+latency_min = 0
+latency_max = 0
+loss = 0
+> 13 link @more
+[[link]]
+source = ""
+target = "w"
+latency_min = 0
+latency_max = 0
+loss = 0
+> 13 link @more
+[[link]]
+source = "W"
+target = "a"
+latency_min = 0
+latency_max = 0
+loss = 0
+> 13 link @more
+[[link]]
+source = "a"
+target = "a"
+latency_min = 0
+latency_max = 0
+loss = 0
+> 14 link @more
+[[link]]
+source = "w"
+target = "a"
+latency_min = 0
+latency_max = 0
+loss = 0
+> 14 link @more
+[[link]]
+source = "w"
+target = "a"
+latency_min = 3
+latency_max = 3
+loss = 0
+> 13 link @more
+[[link]]
+source = "w"
+target = "a"
+latency_min = 3
+latency_max = 3
+loss = 0
+[[link]]
+source = "w"
+target = "z"
+latency_min = 3
+latency_max = 3
+loss = 0
+> 9 link @more
+[[link]]
+source = "w"
+target = "z"
+latency_min = 3
+latency_max = 3
+loss = 0
+[[link]]
+source = "w"
+target = "a"
+latency_min = 3
+latency_max = 2
+loss = 0
+"#;
+
+/// A link in each format, and the keys of format 2.
+const FORMAT_KEYS: &str = r#"
+> 0 @format
+format = 2
+disk_latency = 0
+> 0 @format
+format = 2
+disk_latency = 60000
+> 4 disk_latency @format
+format = 2
+> 9 disk_latency @format
+format = 2
+disk_latency = 60001
+> 9 disk_latency @format
+format = 2
+disk_latency = -1
+> 5 disk_latency @format
+format = 2
+disk_latency = "0"
+> 3 link @format
+format = 1
+> 3 disk_latency @format
+format = 1
+disk_latency = 0
+> 3 disk_latency @format
+format = 3
+disk_latency = 0
+> 3 disk_latency @format
+format = "2"
+disk_latency = 0
+> 3 disk_latency @format
+disk_latency = 0
+> 3 kink @format
+format = 2
+disk_latency = 0
+kink = 1
+"#;
+
+/// No links, links that are no array of tables, and equal names before a link to no host.
+const NO_LINK: &str = r#"
+> 0 @link
+
+@more
+> 3 client @link
+link = []
+@more
+> 5 link @link
+[link]
+@more
+> 0 @format
+format = 2
+disk_latency = 0
+link = []
+@link
+@more
+> 5 link @format
+format = 2
+disk_latency = 0
+link = 1
+@link
+@more
+> 5 link @format
+format = 2
+disk_latency = 0
+link = [1]
+@link
+@more
+> 12 servers @servers
+servers = ["a", "a"]
+@link
+[[link]]
+source = "w"
+target = "z"
+latency_min = 0
+latency_max = 0
+loss = 0
+@more
+"#;
+
+/// Two links.
+const TWO_LINKS: &str = r#"
+@format
+format = 2
+disk_latency = 5
+@protocol
+protocol = "two_phase"
+@servers
+servers = ["a", "b"]
+@more
+[[link]]
+source = "b"
+target = "w"
+latency_min = 1
+latency_max = 2
+loss = 250
+"#;
+
+/// A way of one latency that loses no message.
+fn steady(latency: u32) -> Way {
+    Way {
+        latency_min: latency,
+        latency_max: latency,
+        loss: 0,
+    }
+}
+
+#[test]
+fn faults_of_links(rt: HostRuntime) -> Result<(), Fail> {
+    rows_hold(rt.alloc(), &LINES_2, SECOND_LINKS)
+}
+
+#[test]
+fn keys_of_format_2(rt: HostRuntime) -> Result<(), Fail> {
+    rows_hold(rt.alloc(), &LINES_2, FORMAT_KEYS)?;
+    rows_hold(rt.alloc(), &LINES_2, NO_LINK)
+}
+
+/// Both formats say the same where syncs take no time and there is no link.
+#[test]
+fn both_formats(rt: HostRuntime) -> Result<(), Fail> {
+    let text = text_with(rt.alloc(), &LINES, "")?;
+    let one = scenario(rt.alloc(), text.as_str())?;
+    let text = text_with(rt.alloc(), &LINES_2, "link\n\n@more\n")?;
+    let two = scenario(rt.alloc(), text.as_str())?;
+    say_the_same(&two, &one)?;
+    ways_are(&one.ways, steady(10), &[])?;
+    ways_are(&two.ways, steady(10), &[])
+}
+
+fn say_the_same(two: &ScenarioText, one: &ScenarioText) -> Result<(), Fail> {
+    same(&two.names.len(), &one.names.len(), "hosts")?;
+    same(
+        &host_name(&two.names, 0),
+        &host_name(&one.names, 0),
+        "host 0",
+    )?;
+    same(
+        &host_name(&two.names, 1),
+        &host_name(&one.names, 1),
+        "host 1",
+    )?;
+    same(&two.protocol, &one.protocol, "protocol")?;
+    same(&two.seed, &one.seed, "seed")?;
+    same(&two.tick, &one.tick, "tick")?;
+    same(&two.disk_latency, &one.disk_latency, "disk_latency")?;
+    same(&two.servers, &one.servers, "servers")?;
+    same(&two.ops, &one.ops, "ops")?;
+    same(&two.checkpoint, &one.checkpoint, "checkpoint")?;
+    same(&two.window, &one.window, "window")
+}
+
+/// Links change their own directions alone.
+#[test]
+fn ways_of_links(rt: HostRuntime) -> Result<(), Fail> {
+    let text = text_with(rt.alloc(), &LINES_2, TWO_LINKS)?;
+    let said = scenario(rt.alloc(), text.as_str())?;
+    same(&said.protocol, &Protocol::TwoPhase, "protocol")?;
+    same(&said.disk_latency, &5, "disk_latency")?;
+    let quick = Way {
+        latency_min: 1,
+        latency_max: 2,
+        loss: 250,
+    };
+    ways_are(&said.ways, steady(10), &[(2, 0, steady(3)), (1, 2, quick)])
+}

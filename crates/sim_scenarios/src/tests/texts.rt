@@ -1,0 +1,94 @@
+//! Texts, and what is answered to them.
+
+use sim_scenario::read;
+use std::alloc::{AllocError, Global};
+use std::test::Fail;
+
+/// The lines of a text that is a scenario, each under its key.
+pub const LINES: [(&str, &str); 11] = [
+    ("format", "format = 1\n"),
+    (
+        "seed",
+        "seed = \"0000000000000000000000000000000000000000000000000000000000000000\"\n",
+    ),
+    ("protocol", "protocol = \"echo\"\n"),
+    ("tick", "tick = 100\n"),
+    ("latency_min", "latency_min = 10\n"),
+    ("latency_max", "latency_max = 10\n"),
+    ("loss", "loss = 0\n"),
+    ("servers", "servers = [\"a\"]\n"),
+    ("checkpoint", "checkpoint = 4\n"),
+    ("window", "window = 2\n"),
+    ("client", "[[client]]\nname = \"w\"\nops = 2\n"),
+];
+
+/// What stands in place of a key's line, where it is changed: each change is the key after an `@`, and below it the lines.
+fn changed<'a>(changes: &'a str, key: &str) -> Option<&'a str> {
+    for change in changes.split('@') {
+        if let Some((named, lines)) = change.split_once('\n') {
+            if named == key {
+                return Some(lines);
+            }
+        }
+    }
+    None
+}
+
+/// The text of these lines, some of them changed.
+pub fn text_with(
+    alloc: Global,
+    lines: &[(&str, &str)],
+    changes: &str,
+) -> Result<String, AllocError> {
+    let mut text = String::new(alloc);
+    for (key, line) in lines {
+        text.push_str(changed(changes, *key).unwrap_or(*line))?;
+    }
+    Ok(text)
+}
+
+/// The text with CR and LF at the end of each line.
+pub fn with_crlf(alloc: Global, lines: &str) -> Result<String, AllocError> {
+    let mut text = String::new(alloc);
+    for line in lines.lines() {
+        text.push_str(line)?;
+        text.push_str("\r\n")?;
+    }
+    Ok(text)
+}
+
+/// A scenario with a comment behind it, so that it has so many bytes, and then an end.
+pub fn padded(alloc: Global, len: usize, end: &str) -> Result<String, AllocError> {
+    let mut text = text_with(alloc, &LINES, "")?;
+    text.push_str("#")?;
+    for _ in text.len()..len {
+        text.push_str("x")?;
+    }
+    text.push_str(end)?;
+    Ok(text)
+}
+
+/// Whether the text is refused with this number and key, or is a scenario where `0` is wanted.
+pub fn is_answered(alloc: Global, text: &str, wanted: &str) -> bool {
+    match read(alloc, text) {
+        Ok(_) => wanted == "0",
+        Err(fault) => {
+            let (number, key) = wanted.split_once(' ').unwrap_or((wanted, ""));
+            number.parse::<u8>().unwrap_or(255) == fault.number() && key == fault.key()
+        }
+    }
+}
+
+/// Each row of a table holds: the text with its changes is answered as it says. A row stands after a `>`, what is wanted
+/// before its first `@`.
+pub fn rows_hold(alloc: Global, lines: &[(&str, &str)], table: &str) -> Result<(), Fail> {
+    for row in table.split('>') {
+        if let Some((wanted, changes)) = row.split_once('@') {
+            let text = text_with(alloc, lines, changes)?;
+            if !is_answered(alloc, text.as_str(), wanted.trim()) {
+                return Err(Fail::new(row));
+            }
+        }
+    }
+    Ok(())
+}
