@@ -30,7 +30,6 @@ pub mod Sends
 pub mod Sound
 pub mod SoundEffects
 pub mod SoundFaults
-mod Sent
 pub mod SoundStart
 pub mod Stable
 pub mod Starting
@@ -39,3 +38,4 @@ pub mod Taken
 pub mod Trails
 pub mod Turns
 pub mod Undoing
+pub mod Usual

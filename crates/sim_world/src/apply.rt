@@ -17,11 +17,11 @@ ghost use Rattle.sim_world.specs.Held.{IsHeld, in_hand};
 
 use crate::cluster::Cluster;
 use crate::index::Index;
-use crate::kept::Trail;
+use crate::kept::{Compact, Trail};
 use crate::parts::Parts;
 use crate::record::Undo;
 use crate::scenario::Scenario;
-use crate::undo::{Small, Taken};
+use crate::undo::Taken;
 use crate::world::World;
 use crate::{Event, Fault, NoMemory};
 use sim_node::{Effects, Node};
@@ -49,7 +49,7 @@ impl<N: Node> Parts<N> {
         ensures world { OnOk result (self.new ≡ record self.old { world = at_time to self.old.world }) }
         ensures trail { OnOk result (Extends N.records trail.old.items self.old.world trail.new.items self.new.world) }
     {
-        trail.push(Small::Timed(self.clock))?;
+        trail.push(Compact::Timed(self.clock))?;
         self.clock = to;
         Ok(())
     }
