@@ -1,97 +1,180 @@
 //! The records of the last events.
-ghost use Rattle.std.specs.Prelude.{◌≡◌, ◌-◌, ◌<◌, [], ◌∷◌, ◌++◌, length, take, Some, IfOk};
+ghost use Rattle.std.specs.Prelude.{◌≡◌, ◌⊎◌, ℕ, ◌+◌, ◌-◌, ◌<◌, ◌≤◌, [], ◌∷◌, ◌++◌, length, take, drop, Some, IfOk, OnOk, IsSome};
+ghost use Rattle.std.specs.Vec.{vec_capacity};
+ghost use Rattle.sim_world.specs.Clock.{clock_after};
+ghost use Rattle.sim_world.specs.Acts.{turns_of, turned_by};
+ghost use Rattle.sim_world.specs.Events.{rules, next};
+ghost use Rattle.sim_world.specs.Index.{Kept, LeadsBack};
 ghost use Rattle.circular_buffer.specs.Buffer.{buffer, keep_last, last_item};
+ghost use Rattle.sim_tape.specs.Circle.{around, turned, IsKept, IsTakenBack};
 
 use crate::NoMemory;
-use circular_buffer::HeapCircularBuffer;
 use sim_node::Node;
-use sim_world::Undo;
+use sim_world::{Event, Undo, World};
 use std::alloc::Global;
 use std::marker::Model;
 
-/// The records of the last events, and boxes that no record needs. A record is filled in its box, and the boxes go round, so that
-/// a record is never moved.
+/// The records of the last events. They stand in a circle of slots, of which there is one more than records are kept: a record is
+/// filled in its slot and never moved, and what it has taken of memory stays there for the next one.
 #[derive(Drop)]
 pub(crate) struct Ring<N: Node> {
-    records: HeapCircularBuffer<Box<Undo<N>>>,
-    // With room for the boxes of a full ring, and one more.
-    spares: Vec<Box<Undo<N>>>,
+    // Those that were needed so far, with room for all.
+    slots: Vec<Undo<N>>,
+    // Where the record of the next event is filled; the last records stand before it.
+    free: usize,
+    len: usize,
+    capacity: usize,
 }
 
 impl<N: Node> Model for Ring<N> {
-    ghost use Rattle.std.specs.Prelude.{map};
+    ghost use Rattle.std.specs.Prelude.{◌+◌, ◌≤◌, ◌<◌, length};
+    ghost use Rattle.std.specs.Vec.{vec_capacity};
     ghost use Rattle.sim_world.specs.Index.{Kept};
-    ghost use Rattle.circular_buffer.specs.Buffer.{Buffer, buffer};
+    ghost use Rattle.circular_buffer.specs.Buffer.{Buffer, buffer, keep_last};
+    ghost use Rattle.sim_tape.specs.Circle.{around};
 
     ghost Value = { Buffer (Kept N N.Msg N.Undo) };
 
-    ghost view = { λ r. buffer (map (λ b. b.value) r.records.items) r.records.capacity };
+    ghost view = { λ r. buffer (keep_last r.len (around r.free r.slots.items)) r.capacity };
+
+    ghost invariant = { λ r.
+        (r.free < length r.slots.items)
+        × (r.len < length r.slots.items)
+        × (length r.slots.items ≤ r.capacity + 1)
+        × (r.capacity < vec_capacity r.slots)
+        × (length r.slots.items ≤ r.capacity → r.len ≤ r.free) };
+}
+
+// Makes one more slot, where the circle is not whole yet, else goes on to the first.
+#[cold]
+#[inline(never)]
+fn past_the_last<N: Node>(alloc: Global, slots: &mut Vec<Undo<N>>, capacity: usize) -> usize
+    requires room { capacity < vec_capacity slots.old }
+    requires some { 0 < length slots.old.items }
+    requires most { length slots.old.items ≤ capacity + 1 }
+    ensures turned { keep_last (length slots.old.items) (around result slots.new.items) ≡ slots.old.items }
+    ensures inside { result < length slots.new.items }
+    ensures more { length slots.old.items ≤ length slots.new.items }
+    ensures most { length slots.new.items ≤ capacity + 1 }
+    ensures room { capacity < vec_capacity slots.new }
+    ensures growing { length slots.new.items ≤ capacity → result ≡ length slots.old.items }
+    ensures grown { length slots.old.items ≤ capacity → length slots.old.items < length slots.new.items }
+{
+    let made = slots.len();
+    if capacity < made {
+        return 0;
+    }
+    slots.push_reserved(Undo::empty(alloc));
+    made
+}
+
+// The slot after one.
+#[inline]
+fn slot_after<N: Node>(
+    alloc: Global,
+    slots: &mut Vec<Undo<N>>,
+    capacity: usize,
+    slot: usize,
+) -> usize
+    requires room { capacity < vec_capacity slots.old }
+    requires inside { slot < length slots.old.items }
+    requires most { length slots.old.items ≤ capacity + 1 }
+    ensures turned { keep_last (length slots.old.items) (around result slots.new.items) ≡ turned (around slot slots.old.items) }
+    ensures inside { result < length slots.new.items }
+    ensures more { length slots.old.items ≤ length slots.new.items }
+    ensures most { length slots.new.items ≤ capacity + 1 }
+    ensures room { capacity < vec_capacity slots.new }
+    ensures growing { length slots.new.items ≤ capacity → result ≡ slot + 1 }
+{
+    let after = slot + 1;
+    if after < slots.len() {
+        return after;
+    }
+    past_the_last(alloc, slots, capacity)
+}
+
+// The slot before one, of so many in a circle.
+fn slot_before(count: usize, slot: usize) -> usize
+    requires { slot < count }
+    ensures before { (slot ≡ result + 1) ⊎ ((slot ≡ 0) × (result + 1 ≡ count)) }
+    ensures inside { result < count }
+{
+    if slot == 0 { count - 1 } else { slot - 1 }
 }
 
 impl<N: Node> Ring<N> {
     /// No records, with room for so many. The only error is want of memory.
     pub fn with_capacity(alloc: Global, capacity: usize) -> Result<Ring<N>, NoMemory>
+        requires { capacity ≤ 4096 }
         ensures { IfOk result (λ r. r ≡ buffer [] capacity) }
     {
-        let records = HeapCircularBuffer::with_capacity(alloc, capacity)?;
-        let spares = Vec::with_capacity(alloc, records.capacity() + 1)?;
-        Ok(Ring { records, spares })
+        let mut slots = Vec::with_capacity(alloc, capacity + 1)?;
+        slots.push_reserved(Undo::empty(alloc));
+        Ok(Ring {
+            slots,
+            free: 0,
+            len: 0,
+            capacity,
+        })
     }
 
     /// How many records there are.
     pub fn len(&self) -> usize
-        ensures { result ≡ length self.now.items }
+        ensures value { result ≡ length self.now.items }
     {
-        self.records.len()
+        self.len
     }
 
-    /// A box for the record of an event. The only error is want of memory.
-    pub fn spare(&mut self, alloc: Global) -> Result<Box<Undo<N>>, NoMemory>
-        ensures { self.new ≡ self.old }
+    /// The world after an event that can happen, whose record is kept as the newest; of a full ring the oldest goes. The only error
+    /// is want of memory; the records are of no use then.
+    pub fn apply(
+        &mut self,
+        alloc: Global,
+        world: World<N>,
+        event: Event,
+        meter: &mut N::Meter,
+    ) -> Result<World<N>, NoMemory>
+        requires can { IsSome (next (rules N.laws N.PROBES world.scenario) world.world event) }
+        requires young { world.age < 65536 }
+        ensures kept { IfOk result (λ w. IsKept N.told N.records (rules N.laws N.PROBES world.scenario) self.old.capacity self.old.items world.world event
+            self.new.items w) }
+        ensures clock { IfOk result (λ w. w.world.clock ≡ clock_after event world.world) }
+        ensures on { IfOk result (λ w. world.world.clock ≤ w.world.clock) }
+        ensures scenario { IfOk result (λ w. w.scenario ≡ world.scenario) }
+        ensures age { IfOk result (λ w. w.age ≡ world.age + 1) }
+        ensures work { OnOk result (N.Meter.work meter.new ≡ turned_by (turns_of world.world event) (N.Meter.work meter.old)) }
+        ensures capacity { self.new.capacity ≡ self.old.capacity }
     {
-        if let Some(spare) = self.spares.pop() {
-            return Ok(spare);
-        }
-        Ok(Box::new(alloc, Undo::empty(alloc))?)
+        let after = world.apply_over(alloc, event, &mut self.slots[self.free], meter)?;
+        self.free = slot_after(alloc, &mut self.slots, self.capacity, self.free);
+        self.len = (self.len + 1).min(self.capacity);
+        Ok(after)
     }
 
-    /// Takes a box whose record is no longer wanted, for the record of another event.
-    pub fn put_aside(&mut self, spare: Box<Undo<N>>)
-        ensures { self.new ≡ self.old }
+    /// The world before the event of the newest record, which is taken out. The only error is want of memory; the records are of no
+    /// use then.
+    pub fn undo(
+        &mut self,
+        alloc: Global,
+        world: World<N>,
+        meter: &mut N::Meter,
+    ) -> Result<World<N>, NoMemory>
+        requires some { 0 < length self.old.items }
+        requires leads { (u : Kept N N.Msg N.Undo) → last_item self.old.items ≡ Some u → LeadsBack N.told N.records u world }
+        ensures taken { IfOk result (λ w. IsTakenBack N.records self.old.items world self.new.items w (N.Meter.work meter.old) (N.Meter.work meter.new)) }
+        ensures capacity { self.new.capacity ≡ self.old.capacity }
     {
-        if self.spares.len() < self.spares.capacity() {
-            self.spares.push_reserved(spare);
-        }
-    }
-
-    /// Keeps a record as the newest. Of a full ring the oldest goes.
-    pub fn push(&mut self, newest: Box<Undo<N>>)
-        ensures { self.new ≡ buffer (keep_last self.old.capacity (self.old.items ++ newest.value ∷ [])) self.old.capacity }
-    {
-        if let Some(oldest) = self.records.push_back(newest) {
-            self.put_aside(oldest);
-        }
-    }
-
-    /// Takes the newest record out.
-    pub fn pop(&mut self) -> Box<Undo<N>>
-        requires { 0 < length self.old.items }
-        ensures newest { last_item self.old.items ≡ Some result.value }
-        ensures others { self.new ≡ buffer (take (length self.old.items - 1) self.old.items) self.old.capacity }
-    {
-        match self.records.pop_back() {
-            Some(newest) => newest,
-            None => unreachable!(),
-        }
+        let newest = slot_before(self.slots.len(), self.free);
+        self.free = newest;
+        self.len -= 1;
+        let before = world.undo_by(alloc, &mut self.slots[newest], meter)?;
+        Ok(before)
     }
 
     /// Lets the records go.
     pub fn clear(&mut self)
         ensures { self.new ≡ buffer [] self.old.capacity }
     {
-        for _ in 0..self.len() {
-            let record = self.pop();
-            self.put_aside(record);
-        }
+        self.len = 0;
     }
 }

@@ -74,9 +74,7 @@ impl Log {
         let mut world = world;
         for i in place..to {
             let event = self.entry(i).event;
-            let mut record = ring.spare(alloc)?;
-            world = world.apply_over(alloc, event, &mut record, meter)?;
-            ring.push(record);
+            world = ring.apply(alloc, world, event, meter)?;
         }
         Ok(world)
     }
@@ -103,9 +101,7 @@ impl Log {
     {
         let mut world = world;
         for _ in 0..count {
-            let mut record = ring.pop();
-            world = world.undo_by(alloc, &mut record, meter)?;
-            ring.put_aside(record);
+            world = ring.undo(alloc, world, meter)?;
         }
         Ok(world)
     }
@@ -114,6 +110,7 @@ impl Log {
 impl<N: Node> Walk<N> {
     /// No world, with room for so many records. The only error is want of memory.
     pub fn cold(alloc: Global, window: usize) -> Result<Walk<N>, NoMemory>
+        requires { window ≤ 4096 }
         ensures world { IfOk result (λ w. w.world ≡ None) }
         ensures ring { IfOk result (λ w. w.ring ≡ buffer [] window) }
     {
@@ -301,13 +298,11 @@ impl<N: Node> Walk<N> {
         ensures ring { length self.new.ring.items ≤ self.new.ring.capacity }
         ensures err { OnErr result (IsWalkIn N.told N.records N.laws N.PROBES log.now (length log.now.entries) self.new.world self.new.ring.items) }
     {
-        let mut record = self.ring.spare(alloc)?;
         let Some(world) = self.world.take() else {
             unreachable!()
         };
-        match world.apply_over(alloc, event, &mut record, meter) {
+        match self.ring.apply(alloc, world, event, meter) {
             Ok(after) => {
-                self.ring.push(record);
                 let copy = self.mark(alloc, &after, asked, meter)?;
                 let clock = after.clock();
                 self.world = Some(after);

@@ -15,9 +15,9 @@ returns-in_ok-copy-in-Ok-clause-ok g c =
     let w = c.in-Some.world in
     let v = c.in-Ok.ensures in
     let here = walk_here g.N.Node.told g.N.Node.records r (events_of log.entries) (length log.entries) old.world old.ring.items w c.requires.walk (sym c.take.ensures.value ∙ c.in-Some.is) in
-    rw (c.in_ok-copy-in-Ok.ensures.ring, c.push.ensures, c.spare.ensures)
-    (stepped_walk g.N.Node.told g.N.Node.records g.N.Node.laws g.N.Node.PROBES log.scenario log.entries c.args.event old.world w c.in-Ok.after old.ring.items c.apply_over.new.undo old.ring.capacity
-    c.requires.walk here v.answers v.scenario v.age v.leads v.acted)
+    rw (c.in_ok-copy-in-Ok.ensures.ring, v.kept.kept)
+    (stepped_walk g.N.Node.told g.N.Node.records g.N.Node.laws g.N.Node.PROBES log.scenario log.entries c.args.event old.world w c.in-Ok.after old.ring.items v.kept.undo old.ring.capacity
+    c.requires.walk here v.kept.answers v.scenario v.age v.kept.leads v.kept.acted)
 
 pub returns-in_ok-copy-in-Ok-clause-runs : goal.returns-in_ok-copy-in-Ok-clause-runs
 returns-in_ok-copy-in-Ok-clause-runs g c =
@@ -28,7 +28,7 @@ returns-in_ok-copy-in-Ok-clause-runs g c =
     let v = c.in-Ok.ensures in
     let here = walk_here g.N.Node.told g.N.Node.records r (events_of log.entries) (length log.entries) old.world old.ring.items w c.requires.walk (sym c.take.ensures.value ∙ c.in-Some.is) in
     stepped_runs r log.entries c.args.event c.in-Ok.after
-    (stepped_at g.N.Node.told g.N.Node.records g.N.Node.laws g.N.Node.PROBES log.scenario log.entries c.args.event w c.in-Ok.after c.apply_over.new.undo here v.answers v.scenario v.age)
+    (stepped_at g.N.Node.told g.N.Node.records g.N.Node.laws g.N.Node.PROBES log.scenario log.entries c.args.event w c.in-Ok.after v.kept.undo here v.kept.answers v.scenario v.age)
 
 pub returns-in_ok-copy-in-Ok-clause-clock : goal.returns-in_ok-copy-in-Ok-clause-clock
 returns-in_ok-copy-in-Ok-clause-clock g c =
@@ -41,7 +41,7 @@ returns-in_ok-copy-in-Ok-clause-clock g c =
     c.clock-clock.ensures.value
     ∙ ap (λ x. x.clock)
     (sym (world_at-is r (events_of log.entries ++ c.args.event ∷ []) (length log.entries + 1) c.in-Ok.after
-    (stepped_at g.N.Node.told g.N.Node.records g.N.Node.laws g.N.Node.PROBES log.scenario log.entries c.args.event w c.in-Ok.after c.apply_over.new.undo here v.answers v.scenario v.age)))
+    (stepped_at g.N.Node.told g.N.Node.records g.N.Node.laws g.N.Node.PROBES log.scenario log.entries c.args.event w c.in-Ok.after v.kept.undo here v.kept.answers v.scenario v.age)))
 
 pub returns-in_ok-copy-in-Ok-clause-copy : goal.returns-in_ok-copy-in-Ok-clause-copy
 returns-in_ok-copy-in-Ok-clause-copy g c =
@@ -52,7 +52,7 @@ returns-in_ok-copy-in-Ok-clause-copy g c =
     let v = c.in-Ok.ensures in
     let here = walk_here g.N.Node.told g.N.Node.records r (events_of log.entries) (length log.entries) old.world old.ring.items w c.requires.walk (sym c.take.ensures.value ∙ c.in-Some.is) in
     stepped_copy r (events_of log.entries ++ c.args.event ∷ []) (length log.entries + 1) c.in-Ok.after c.args.asked c.in_ok-copy-in-Ok.copy
-    (stepped_at g.N.Node.told g.N.Node.records g.N.Node.laws g.N.Node.PROBES log.scenario log.entries c.args.event w c.in-Ok.after c.apply_over.new.undo here v.answers v.scenario v.age) c.in_ok-copy-in-Ok.ensures.copy
+    (stepped_at g.N.Node.told g.N.Node.records g.N.Node.laws g.N.Node.PROBES log.scenario log.entries c.args.event w c.in-Ok.after v.kept.undo here v.kept.answers v.scenario v.age) c.in_ok-copy-in-Ok.ensures.copy
 
 pub returns-in_ok-copy-in-Ok-clause-work : goal.returns-in_ok-copy-in-Ok-clause-work
 returns-in_ok-copy-in-Ok-clause-work g c =
@@ -63,7 +63,7 @@ returns-in_ok-copy-in-Ok-clause-work g c =
     let v = c.in-Ok.ensures in
     let here = walk_here g.N.Node.told g.N.Node.records r (events_of log.entries) (length log.entries) old.world old.ring.items w c.requires.walk (sym c.take.ensures.value ∙ c.in-Some.is) in
     stepped_work r (events_of log.entries ++ c.args.event ∷ []) (length log.entries + 1) c.in-Ok.after c.args.asked _ _
-    (stepped_at g.N.Node.told g.N.Node.records g.N.Node.laws g.N.Node.PROBES log.scenario log.entries c.args.event w c.in-Ok.after c.apply_over.new.undo here v.answers v.scenario v.age)
+    (stepped_at g.N.Node.told g.N.Node.records g.N.Node.laws g.N.Node.PROBES log.scenario log.entries c.args.event w c.in-Ok.after v.kept.undo here v.kept.answers v.scenario v.age)
     (step_work _ _ _ w.world c.args.event _ v.work c.in_ok-copy-in-Ok.ensures.work)
 
 pub returns-in_ok-copy-in-Ok-clause-moved : goal.returns-in_ok-copy-in-Ok-clause-moved
@@ -74,7 +74,7 @@ returns-in_ok-copy-in-Ok-clause-moved g c =
     let w = c.in-Some.world in
     let v = c.in-Ok.ensures in
     let here = walk_here g.N.Node.told g.N.Node.records r (events_of log.entries) (length log.entries) old.world old.ring.items w c.requires.walk (sym c.take.ensures.value ∙ c.in-Some.is) in
-    let there = stepped_at g.N.Node.told g.N.Node.records g.N.Node.laws g.N.Node.PROBES log.scenario log.entries c.args.event w c.in-Ok.after c.apply_over.new.undo here v.answers v.scenario v.age in
+    let there = stepped_at g.N.Node.told g.N.Node.records g.N.Node.laws g.N.Node.PROBES log.scenario log.entries c.args.event w c.in-Ok.after v.kept.undo here v.kept.answers v.scenario v.age in
     let before = world_at-is r (events_of log.entries) (length log.entries) w here in
     let after = world_at-is r (events_of log.entries ++ c.args.event ∷ []) (length log.entries + 1) c.in-Ok.after there in
     ap (λ x. x.clock) after ∙ v.clock ∙ ap (λ x. clock_after c.args.event x) (sym before)
@@ -87,7 +87,7 @@ returns-in_ok-copy-in-Ok-clause-on g c =
     let w = c.in-Some.world in
     let v = c.in-Ok.ensures in
     let here = walk_here g.N.Node.told g.N.Node.records r (events_of log.entries) (length log.entries) old.world old.ring.items w c.requires.walk (sym c.take.ensures.value ∙ c.in-Some.is) in
-    let there = stepped_at g.N.Node.told g.N.Node.records g.N.Node.laws g.N.Node.PROBES log.scenario log.entries c.args.event w c.in-Ok.after c.apply_over.new.undo here v.answers v.scenario v.age in
+    let there = stepped_at g.N.Node.told g.N.Node.records g.N.Node.laws g.N.Node.PROBES log.scenario log.entries c.args.event w c.in-Ok.after v.kept.undo here v.kept.answers v.scenario v.age in
     let before = world_at-is r (events_of log.entries) (length log.entries) w here in
     let after = world_at-is r (events_of log.entries ++ c.args.event ∷ []) (length log.entries + 1) c.in-Ok.after there in
     subst (λ x. x.clock ≤ (world_at r (length log.entries + 1) (events_of log.entries ++ c.args.event ∷ [])).clock) (sym before) (subst (λ x. w.world.clock ≤ x.clock) (sym after) v.on)
@@ -95,4 +95,5 @@ returns-in_ok-copy-in-Ok-clause-on g c =
 pub returns-in_ok-copy-in-Ok-clause-reach : goal.returns-in_ok-copy-in-Ok-clause-reach
 returns-in_ok-copy-in-Ok-clause-reach g c =
     let old = c.args.self.now in
-    rw (c.in_ok-copy-in-Ok.ensures.ring, c.push.ensures, c.spare.ensures) (kept_length old.ring.capacity old.ring.items c.apply_over.new.undo c.requires.ring)
+    let v = c.in-Ok.ensures in
+    rw (c.in_ok-copy-in-Ok.ensures.ring, v.kept.kept) (kept_length old.ring.capacity old.ring.items v.kept.undo c.requires.ring)
