@@ -249,6 +249,7 @@ impl<N: Node> Tape<N> {
 
     /// Adds an event that can happen, at the end. The clock never goes back. On a tape that is warm a refused growth of the lists
     /// leaves it so. After another error the tape may be cold. The only error is want of memory.
+    #[inline(always)]
     pub fn add(&mut self, alloc: Global, event: Event, meter: &mut N::Meter) -> Result<(), NoMemory>
         requires end { self.old.place ≡ length self.old.events }
         requires room { length self.old.events < 65536 }
@@ -267,6 +268,7 @@ impl<N: Node> Tape<N> {
     }
 
     // Adds an event that can happen, at the end of a tape that is warm.
+    #[inline(always)]
     fn add_warm(
         &mut self,
         alloc: Global,
@@ -285,9 +287,7 @@ impl<N: Node> Tape<N> {
         ensures work { OnOk result (AddsAtEnd N.laws N.PROBES event self.old (N.Meter.work meter.old) (N.Meter.work meter.new)) }
         ensures err { OnErr result (self.new ≡ with_world self.new.warm self.new.reach self.old) }
     {
-        self.log.reserve(alloc)?;
-        let is_whole = (self.place as usize + 1) % self.log.interval() == 0;
-        make_room(alloc, &mut self.checkpoints, is_whole)?;
+        let is_whole = make_room(alloc, &mut self.log, &mut self.checkpoints)?;
         let (clock, copy) = self.walk.step(alloc, &self.log, event, is_whole, meter)?;
         self.log.push(Entry { event, clock });
         keep(&mut self.checkpoints, copy);
@@ -381,19 +381,27 @@ impl<N: Node> Tape<N> {
     }
 }
 
-// Makes room for one more world, where one is asked for. The only error is want of memory.
+// Makes room for one more event, and where it ends an interval, which is answered, for one more world. The only error is want of
+// memory.
 fn make_room<N: Node>(
     alloc: Global,
+    log: &mut Log,
     worlds: &mut SharedList<World<N>>,
-    asked: bool,
-) -> Result<(), NoMemory>
+) -> Result<bool, NoMemory>
+    ensures same { log.new ≡ record log.old { room = log.new.room } }
+    ensures room { OnOk result (IsTrue log.new.room) }
+    ensures whole { IfOk result (λ whole. whole ≡ ((length log.old.entries + 1) % log.old.scenario.interval == 0)) }
     ensures items { worlds.new.items ≡ worlds.old.items }
-    ensures room { OnOk result (IsTrue asked → IsTrue worlds.new.has_room) }
+    ensures has_room { IfOk result (λ whole. IsTrue whole → IsTrue worlds.new.has_room) }
 {
-    if asked {
+    if !log.has_room() {
+        log.reserve(alloc)?;
+    }
+    let is_whole = log.ends_interval();
+    if is_whole {
         worlds.reserve(alloc)?;
     }
-    Ok(())
+    Ok(is_whole)
 }
 
 // Keeps a world, where there is one, as the last.

@@ -29,6 +29,23 @@ pub(crate) struct Walk<N: Node> {
     pub ring: Ring<N>,
 }
 
+// A copy of a world that can be shared.
+#[cold]
+#[inline(never)]
+fn shared_copy<N: Node>(
+    alloc: Global,
+    world: &World<N>,
+    meter: &mut N::Meter,
+) -> Result<Arc<World<N>>, NoMemory>
+    ensures copy { IfOk result (λ copy. arc_value copy ≡ world.now) }
+    ensures work { OnOk result (N.Meter.work meter.new ≡ record (N.Meter.work meter.old) {
+      copies = (N.Meter.work meter.old).copies + running world.now.world;
+    }) }
+{
+    let copy = world.copy(alloc, meter)?;
+    Ok(Arc::new(alloc, copy)?)
+}
+
 // A copy of a world that can be shared, where one is asked for.
 fn copied<N: Node>(
     alloc: Global,
@@ -44,8 +61,7 @@ fn copied<N: Node>(
     if !asked {
         return Ok(None);
     }
-    let copy = world.copy(alloc, meter)?;
-    Ok(Some(Arc::new(alloc, copy)?))
+    Ok(Some(shared_copy(alloc, world, meter)?))
 }
 
 impl Log {

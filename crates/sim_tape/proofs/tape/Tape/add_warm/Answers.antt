@@ -1,4 +1,4 @@
-use Rattle.std.proofs.Common.{◌≡◌, ◌≤◌, ℕ, ◌+◌, ◌%◌, ◌<◌, ◌++◌, ◌∷◌, [], None, cond, length, min, sym, ap, ◌∙◌, subst, arith}
+use Rattle.std.proofs.Common.{◌≡◌, ◌≤◌, ℕ, Bool, refl, ◌+◌, ◌%◌, ◌<◌, ◌++◌, ◌∷◌, [], None, cond, length, min, sym, ap, ◌∙◌, subst, arith}
 use Rattle.std.specs.Prelude.{nat_eq}
 use Rattle.sim_world.specs.Acts.{running}
 use Rattle.sim_world.specs.World.{Scenario}
@@ -17,33 +17,33 @@ use Rattle.sim_tape.proofs.tape.Tape.add_warm.Goals as goal
 pub step-requires-clause-can : goal.step-requires-clause-can
 step-requires-clause-can g c =
     let i = c.self.inside in
-    let log = c.reserve.new.self in
+    let log = c.make_room.new.log in
     let P : Tape → Type 0 = λ t. refusal_of (rules g.N.Node.laws g.N.Node.PROBES t.scenario) c.args.event (world_of (rules g.N.Node.laws g.N.Node.PROBES t.scenario) t) ≡ None in
     let G : LogView → ℕ → Type 0 = λ l q. refusal_of (rules g.N.Node.laws g.N.Node.PROBES l.scenario) c.args.event (world_at (rules g.N.Node.laws g.N.Node.PROBES l.scenario) q (events_of l.entries)) ≡ None in
     let end : i.place ≡ length i.log.entries = ap (λ t. t.place) c.self.view_is ∙ c.requires.end ∙ ap (λ t. length t.events) (sym c.self.view_is) ∙ events-length i.log.entries in
-    let place : i.place ≡ length log.entries = end ∙ ap (λ l. length l.entries) (sym c.reserve.ensures.same) in
-    subst (λ (q : ℕ). G log q) place (subst (λ (l : LogView). G l i.place) (sym c.reserve.ensures.same) (subst P (sym c.self.view_is) c.requires.can))
+    let place : i.place ≡ length log.entries = end ∙ ap (λ l. length l.entries) (sym c.make_room.ensures.same) in
+    subst (λ (q : ℕ). G log q) place (subst (λ (l : LogView). G l i.place) (sym c.make_room.ensures.same) (subst P (sym c.self.view_is) c.requires.can))
 
 pub invariant_of-self-2 : goal.invariant_of-self-2
 invariant_of-self-2 g c =
     let i = c.self.inside in
-    let log = c.reserve.new.self in
-    let same = c.reserve.ensures.same in
+    let log = c.make_room.new.log in
+    let same = c.make_room.ensures.same in
     let r = rules g.N.Node.laws g.N.Node.PROBES log.scenario in
     let x : Entry = record { event = c.args.event; clock = c.in_ok-clock.clock } in
     let v = c.in_ok-clock.ensures in
     let end : i.place ≡ length i.log.entries = ap (λ t. t.place) c.self.view_is ∙ c.requires.end ∙ ap (λ t. length t.events) (sym c.self.view_is) ∙ events-length i.log.entries in
     let place : i.place ≡ length log.entries = end ∙ ap (λ l. length l.entries) (sym same) in
     let room : length log.entries < 65536 = omega (arith, c.requires.room, ap (λ t. length t.events) c.self.view_is, events-length i.log.entries, end, place) in
-    let low = c.interval.ensures.limits.interval.0 in
+    let low = c.self.invariant.0.limits.interval.0 in
     let run0 = subst (λ (l : LogView). IsRun (rules g.N.Node.laws g.N.Node.PROBES l.scenario) l.entries) (sym same) c.self.invariant.0 in
     let marks0 = subst (λ (l : LogView). AreCheckpoints (rules g.N.Node.laws g.N.Node.PROBES l.scenario) (events_of l.entries) i.checkpoints.items) (sym same) c.self.invariant.1 in
     let marks1 = subst (λ xs. AreCheckpoints r (events_of log.entries) xs) (sym c.make_room.ensures.items) marks0 in
-    let len : i.place ≡ length (events_of log.entries) = place ∙ sym (events-length log.entries) in
-    let is = c.interval.ensures.value in
-    let copy = rw (← place) at v.copy in
-    let marks = kept_checkpoints r (events_of log.entries) c.args.event c.make_room.new.worlds.items c.keep.new.worlds.items i.place c.interval.result c.in_ok-clock.copy
-    marks1 (omega (arith, low, is)) is len copy c.keep.ensures in
+    let whole = c.in_ok-is_whole.ensures.whole ∙ ap {B = Bool} (λ (l : LogView). nat_eq ((length l.entries + 1) % l.scenario.interval) 0) (sym same) in
+    let copy = rw (whole) at v.copy in
+    let some = subst (λ (l : LogView). 0 < l.scenario.interval) (sym same) low in
+    let marks = kept_checkpoints r (events_of log.entries) c.args.event c.make_room.new.worlds.items c.keep.new.worlds.items (length log.entries) log.scenario.interval c.in_ok-clock.copy
+    marks1 some refl (sym (events-length log.entries)) copy c.keep.ensures in
     let up = sym (events-push log.entries x) in
     let all : Inside g.N.Node.told g.N.Node.records g.N.Node.laws g.N.Node.PROBES log.scenario (log.entries ++ x ∷ []) c.keep.new.worlds.items (i.place + 1) c.step.new.self.world c.step.new.self.ring.items =
     record {
@@ -68,8 +68,8 @@ invariant_of-self-2 g c =
 pub returns-clause-ok : goal.returns-clause-ok
 returns-clause-ok g c =
     let i = c.self.inside in
-    let log = c.reserve.new.self in
-    let same = c.reserve.ensures.same in
+    let log = c.make_room.new.log in
+    let same = c.make_room.ensures.same in
     let x : Entry = record { event = c.args.event; clock = c.in_ok-clock.clock } in
     let v = c.in_ok-clock.ensures in
     same_tape _ _
@@ -82,24 +82,24 @@ returns-clause-ok g c =
 pub returns-clause-work : goal.returns-clause-work
 returns-clause-work g c =
     let i = c.self.inside in
-    let log = c.reserve.new.self in
-    let same = c.reserve.ensures.same in
+    let log = c.make_room.new.log in
+    let same = c.make_room.ensures.same in
     let end : i.place ≡ length i.log.entries = ap (λ t. t.place) c.self.view_is ∙ c.requires.end ∙ ap (λ t. length t.events) (sym c.self.view_is) ∙ events-length i.log.entries in
     let place : i.place ≡ length log.entries = end ∙ ap (λ l. length l.entries) (sym same) in
-    let is = c.interval.ensures.value ∙ ap (λ l. l.scenario.interval) same in
-    let N : ℕ → ℕ → LogView → ℕ = λ q k l. cond (nat_eq ((i.place + 1) % k) 0) (running (world_at (rules g.N.Node.laws g.N.Node.PROBES l.scenario) (q + 1) (events_of l.entries ++ c.args.event ∷ []))) 0 in
+    let N : ℕ → LogView → ℕ = λ q l. cond (nat_eq ((q + 1) % l.scenario.interval) 0) (running (world_at (rules g.N.Node.laws g.N.Node.PROBES l.scenario) (q + 1) (events_of l.entries ++ c.args.event ∷ []))) 0 in
+    let whole = c.in_ok-is_whole.ensures.whole ∙ ap {B = Bool} (λ (l : LogView). nat_eq ((length l.entries + 1) % l.scenario.interval) 0) (sym same) in
     let nodes =
-    ap {B = ℕ} (λ (q : ℕ). N q c.interval.result log) (sym place)
-    ∙ ap {B = ℕ} (λ (k : ℕ). N i.place k log) is
-    ∙ ap {B = ℕ} (λ (l : LogView). N i.place i.log.scenario.interval l) same
+    ap {B = ℕ} (λ (b : Bool). cond b (running (world_at (rules g.N.Node.laws g.N.Node.PROBES log.scenario) (length log.entries + 1) (events_of log.entries ++ c.args.event ∷ []))) 0) whole
+    ∙ ap {B = ℕ} (λ (q : ℕ). N q log) (sym place)
+    ∙ ap {B = ℕ} (λ (l : LogView). N i.place l) same
     ∙ ap {B = ℕ} (λ (t : Tape). nodes_at_end (rules g.N.Node.laws g.N.Node.PROBES t.scenario) c.args.event t) c.self.view_is in
     subst (λ (n : ℕ). Plays 1 n (g.N.Meter.Meter.work c.args.meter.now) (g.N.Meter.Meter.work c.step.new.meter)) nodes c.in_ok-clock.ensures.work
 
 pub returns-clause-clock : goal.returns-clause-clock
 returns-clause-clock g c =
     let i = c.self.inside in
-    let log = c.reserve.new.self in
-    let same = c.reserve.ensures.same in
+    let log = c.make_room.new.log in
+    let same = c.make_room.ensures.same in
     let end : i.place ≡ length i.log.entries = ap (λ t. t.place) c.self.view_is ∙ c.requires.end ∙ ap (λ t. length t.events) (sym c.self.view_is) ∙ events-length i.log.entries in
     let place : i.place ≡ length log.entries = end ∙ ap (λ l. length l.entries) (sym same) in
     let G : ℕ → LogView → Type 0 = λ q l.
@@ -116,8 +116,8 @@ returns-clause-clock g c =
 pub returns-clause-on : goal.returns-clause-on
 returns-clause-on g c =
     let i = c.self.inside in
-    let log = c.reserve.new.self in
-    let same = c.reserve.ensures.same in
+    let log = c.make_room.new.log in
+    let same = c.make_room.ensures.same in
     let end : i.place ≡ length i.log.entries = ap (λ t. t.place) c.self.view_is ∙ c.requires.end ∙ ap (λ t. length t.events) (sym c.self.view_is) ∙ events-length i.log.entries in
     let place : i.place ≡ length log.entries = end ∙ ap (λ l. length l.entries) (sym same) in
     let G : ℕ → LogView → Type 0 = λ q l.
