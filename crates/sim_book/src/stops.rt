@@ -2,7 +2,7 @@
 ghost use Rattle.std.specs.Prelude.{◌≡◌, ℕ, ◌≤◌, ◌<◌, nat_le, None, IsTrue, IfSome, length};
 ghost use Rattle.sim_world.specs.Events.{Rules, rules};
 ghost use Rattle.sim_book.specs.Book.{failing_watch, all_done};
-ghost use Rattle.sim_book.specs.Answer.{run_stop, free_watch};
+ghost use Rattle.sim_book.specs.Answer.{first_stop, is_idle, run_stop, free_watch};
 ghost use Rattle.sim_book.specs.OnTape.{world_on};
 ghost use Rattle.sim_book.specs.Watches.{AreChecked, NoneFrom};
 
@@ -47,21 +47,18 @@ pub(crate) fn failing<N: Node>(
     None
 }
 
-/// Why a run stops at a world, if it does: `asked` tells whether as many steps were added as it was asked for, `kept` how many events
-/// are kept.
-fn stop_at<N: Node>(
-    watches: &[Option<Cond>; 8],
-    end: usize,
+// The first reason to stop a run at a world, if there is one: a watch that fails, and the others in their order. `asked` tells whether
+// as many steps were added as it was asked for, `kept` how many events are kept.
+fn first_stop<N: Node>(
+    failing: Option<u32>,
     asked: bool,
     kept: u32,
     world: &World<N>,
 ) -> Option<Stop>
-    requires few { end ≤ 8 }
-    requires none { NoneFrom end watches.now }
-    requires checked { AreChecked world.now.scenario.setup.hosts N.PROBES watches.now }
-    ensures { result ≡ run_stop (rules N.laws N.PROBES world.now.scenario) asked watches.now kept world.now.world }
+    ensures { result ≡ first_stop failing (all_done (rules N.laws N.PROBES world.now.scenario) world.now.world) asked (nat_le 65536 kept)
+        (is_idle world.now.world) }
 {
-    if let Some(watch) = failing(watches, end, world) {
+    if let Some(watch) = failing {
         return Some(Stop::Watch(watch));
     }
     if world.are_clients_done() {
@@ -79,6 +76,24 @@ fn stop_at<N: Node>(
     None
 }
 
+/// The lowest watch that fails of the world at the place of a warm tape.
+pub(crate) fn failing_here<N: Node>(
+    tape: &Tape<N>,
+    watches: &[Option<Cond>; 8],
+    end: usize,
+) -> Option<u32>
+    requires warm { IsTrue tape.now.warm }
+    requires few { end ≤ 8 }
+    requires none { NoneFrom end watches.now }
+    requires checked { AreChecked tape.now.scenario.setup.hosts N.PROBES watches.now }
+    ensures { result ≡ failing_watch (rules N.laws N.PROBES tape.now.scenario) watches.now (world_on N.laws N.PROBES tape.now) }
+{
+    if end == 0 {
+        return None;
+    }
+    failing(watches, end, tape.here())
+}
+
 /// Why a run stops at the place of a warm tape, if it does.
 pub(crate) fn stop<N: Node>(
     tape: &Tape<N>,
@@ -93,22 +108,13 @@ pub(crate) fn stop<N: Node>(
     ensures { result ≡ run_stop (rules N.laws N.PROBES tape.now.scenario) asked watches.now (length tape.now.events)
         (world_on N.laws N.PROBES tape.now) }
 {
-    stop_at(watches, end, asked, tape.len(), tape.here())
-}
-
-/// The lowest watch that fails of the world at the place of a warm tape.
-pub(crate) fn failing_here<N: Node>(
-    tape: &Tape<N>,
-    watches: &[Option<Cond>; 8],
-    end: usize,
-) -> Option<u32>
-    requires warm { IsTrue tape.now.warm }
-    requires few { end ≤ 8 }
-    requires none { NoneFrom end watches.now }
-    requires checked { AreChecked tape.now.scenario.setup.hosts N.PROBES watches.now }
-    ensures { result ≡ failing_watch (rules N.laws N.PROBES tape.now.scenario) watches.now (world_on N.laws N.PROBES tape.now) }
-{
-    failing(watches, end, tape.here())
+    let world = tape.here();
+    let failing = if end == 0 {
+        None
+    } else {
+        failing(watches, end, world)
+    };
+    first_stop(failing, asked, tape.len(), world)
 }
 
 /// The lowest free number of a watch.
