@@ -9,7 +9,7 @@ use crate::places::{Finding, Piece};
 use crate::{Cond, holds};
 use sim_node::{NoMemory, Node};
 use sim_tape::{Frozen, Tape};
-use sim_world::{Event, Scenario, World};
+use sim_world::{Event, Scenario, Undo, World};
 use std::alloc::Global;
 
 // Whether a condition, which was checked, fails at the place of a warm tape.
@@ -73,6 +73,7 @@ pub fn scan_seed<N: Node>(
     ensures { IfOk result (λ found. found ≡ first_failing (rules N.laws N.PROBES scenario.now) cond.now (replicate events Event.Step) 0 events) }
 {
     let mut world = World::<N>::start(alloc, scenario, meter)?;
+    let mut record = Undo::empty(alloc);
     for place in 0..events {
         if !holds(cond, &world) {
             return Ok(Some(place));
@@ -81,9 +82,7 @@ pub fn scan_seed<N: Node>(
             Err(_) => return Ok(None),
             Ok(()) => {}
         }
-        let (after, record) = world.apply(alloc, Event::Step, meter)?;
-        world = after;
-        world.reuse(record);
+        world = world.apply_over(alloc, Event::Step, &mut record, meter)?;
     }
     if holds(cond, &world) {
         Ok(None)

@@ -1,4 +1,4 @@
-use Rattle.std.proofs.Common.{◌≡◌, ◌+◌, Some, sym, ap, ◌∙◌, arith, replicate, subst}
+use Rattle.std.proofs.Common.{◌≡◌, ◌+◌, Some, sym, ap, ◌∙◌, arith, replicate}
 use Rattle.sim_world.specs.declared.Event.TheVariants as event
 use Rattle.sim_world.specs.World.{Scenario}
 use Rattle.sim_watch.specs.Condition.{fault_of}
@@ -28,9 +28,8 @@ returns-in-Err g c =
 
 pub loop-place-preserved : goal.loop-place-preserved
 loop-place-preserved g c =
-    subst (IsStepping g.N.Node.laws g.N.Node.PROBES c.args.cond.now c.args.scenario.now c.args.events (c.loop-place.place + 1)) (sym c.reuse.ensures)
-    (stepping_more g.N.Node.laws g.N.Node.PROBES c.args.cond.now c.args.scenario.now c.args.events c.loop-place.place c.loop-place.world c.in_ok-after.after c.loop-place-test.true c.loop-place.invariant
-    c.in_ok-after.ensures.answers.is_next c.in_ok-after.ensures.scenario c.in_ok-after.ensures.age (sym c.holds.ensures ∙ c.if-not-holds.false))
+    stepping_more g.N.Node.laws g.N.Node.PROBES c.args.cond.now c.args.scenario.now c.args.events c.loop-place.place c.loop-place.world c.in_ok-world-2.world c.loop-place-test.true c.loop-place.invariant
+    c.in_ok-world-2.ensures.answers.is_next c.in_ok-world-2.ensures.scenario c.in_ok-world-2.ensures.age (sym c.holds.ensures ∙ c.if-not-holds.false)
 
 pub returns-then-holds : goal.returns-then-holds
 returns-then-holds g c =
