@@ -5,6 +5,7 @@ use Rattle.std.proofs.lemmas.Bool.Decides.{nat_tests}
 use Rattle.std.specs.Ordering.{nat_cmp, ordering_then, is_lt}
 use Rattle.std.proofs.Math.ListN.{get_or}
 use Rattle.std.specs.Prelude.{nat_le}
+use Rattle.std.specs.Option.{option_map}
 use Rattle.std.specs.BinaryHeap.{IsUpperBound}
 use Rattle.std.specs.declared.cmp.Reverse.{Reverse}
 use Rattle.sim_queue.specs.declared.Item.{Item}
@@ -137,3 +138,19 @@ module _ {B : Type 0} where
       go true p q =
           let due : k.0.0 ≡ e.0 = eqb-true k.0.0 e.0 q in
           ap (λ (d : ℕ). Some (item_of k.0.1 (d, e.1))) due ∙ sym (first_by_top k (y ∷ keys) slots base e (leb-true base k.0.1 p) h due bound covers)
+
+  -- and so is the item that is taken out of it
+  pub first_taken : (k : Reverse (ℕ × ℕ)) (keys : List (Reverse (ℕ × ℕ))) (slots : List (Option (ℕ × B))) (base : ℕ)
+      → k ≡ get_or keys 0 k → 0 < length keys → IsTopLive keys slots base → IsUpperBound key_cmp k keys → Covers keys slots base
+      → option_map (item_of k.0.1) (at slots (k.0.1 - base)) ≡ first (items_from base slots)
+  first_taken k [] slots base top some live bound covers = absurd (omega arith)
+  first_taken k (y ∷ keys) slots base top some live bound covers =
+      let here : is_live k.0.0 k.0.1 slots base ≡ true = subst (λ (x : Reverse (ℕ × ℕ)). is_live x.0.0 x.0.1 slots base ≡ true) (sym top) live in
+      go (nat_le base k.0.1) refl (at slots (k.0.1 - base)) refl here
+    where
+      go : (b : Bool) → nat_le base k.0.1 ≡ b → (o : Option (ℕ × B)) → at slots (k.0.1 - base) ≡ o → (b && is_due k.0.0 o) ≡ true
+          → option_map (item_of k.0.1) (at slots (k.0.1 - base)) ≡ first (items_from base slots)
+      go false p o h q = cc
+      go true p None h q = cc
+      go true p (Some e) h q =
+          ap (λ o. option_map (item_of k.0.1) o) h ∙ sym (first_by_top k (y ∷ keys) slots base e (leb-true base k.0.1 p) h (eqb-true k.0.0 e.0 q) bound covers)

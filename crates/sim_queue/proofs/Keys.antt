@@ -131,10 +131,6 @@ module _ {B : Type 0} where
       top_trimmed [] h = tt
       top_trimmed (k ∷ ks) h = live_trimmed k.0.0 k.0.1 h
 
-  pub front_is : (r : Option (Option (ℕ × B))) (slots rest : List (Option (ℕ × B))) → IsSome r → None ≡ get_or slots 0 None → slots ≡ option_to_list r ++ rest → slots ≡ None ∷ rest
-  front_is None slots rest some look h = absurd (false≢true some)
-  front_is (Some x) slots rest some look h = let e : x ≡ None = sym (look ∙ ap (λ s. get_or s 0 None) h) in h ∙ ap (λ y. y ∷ rest) e
-
   pub at_front : (i : ℕ) (slots : List (Option (ℕ × B))) (x : Option (ℕ × B)) (e : ℕ × B) → at slots i ≡ Some e → at (slots ++ x ∷ []) i ≡ Some e
   at_front i [] x e h = cc
   at_front zero (y ∷ slots) x e h = h

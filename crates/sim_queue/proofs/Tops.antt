@@ -1,5 +1,5 @@
 -- The key at the top of the heap, where keys join and leave.
-use Rattle.std.proofs.Common.{◌≡◌, ◌≢◌, ℕ, zero, suc, ◌+◌, ◌*◌, ◌-◌, ◌<◌, ◌≤◌, Bool, true, false, List, [], ◌∷◌, ◌++◌, Option, Some, None, refl, sym, ◌∙◌, subst, arith, ◌==◌, ◌&&◌, ◌||◌, inl, inr, length}
+use Rattle.std.proofs.Common.{◌≡◌, ◌≢◌, ℕ, zero, suc, ◌+◌, ◌*◌, ◌-◌, ◌<◌, ◌≤◌, Bool, true, false, List, [], ◌∷◌, ◌++◌, Option, Some, None, IsSome, is_some, refl, sym, ap, ◌∙◌, subst, arith, ◌==◌, ◌&&◌, ◌||◌, inl, inr, length}
 use Rattle.std.proofs.lemmas.Bool.{eqb-true, eq-eqb, ne_eqb, leb-true, false≢true}
 use Rattle.std.proofs.lemmas.List.Sorted.{list_any-IsPermutation}
 use Rattle.std.proofs.Math.ListN.{get_or, set}
@@ -115,6 +115,7 @@ module _ {B : Type 0} where
   pub record IsThere (k : Reverse (ℕ × ℕ)) (slots : List (Option (ℕ × B))) (base : ℕ) : Type 0 where
     pub from : base ≤ k.0.1
     pub within : k.0.1 - base < length slots
+    pub some : IsSome (at slots (k.0.1 - base))
 
   within_some : (i : ℕ) (slots : List (Option (ℕ × B))) (e : ℕ × B) → at slots i ≡ Some e → i < length slots
   within_some i [] e h = cc
@@ -131,7 +132,7 @@ module _ {B : Type 0} where
       go : (b : Bool) → nat_le base k.0.1 ≡ b → (o : Option (ℕ × B)) → at slots (k.0.1 - base) ≡ o → (b && is_due k.0.0 o) ≡ true → IsThere k slots base
       go false p o q h = cc
       go true p None q h = cc
-      go true p (Some e) q h = record { from = leb-true base k.0.1 p; within = within_some (k.0.1 - base) slots e q }
+      go true p (Some e) q h = record { from = leb-true base k.0.1 p; within = within_some (k.0.1 - base) slots e q; some = ap (λ o. is_some o) q }
 
   at_emptied : (i : ℕ) (slots : List (Option (ℕ × B))) (e : ℕ × B) → at (set slots i None) i ≡ Some e → ⊥
   at_emptied i [] e h = cc

@@ -1,4 +1,5 @@
 pub mod Pending
 pub mod Items
 pub mod Slots
+pub mod Sparse
 pub mod Store

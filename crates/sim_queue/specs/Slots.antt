@@ -5,7 +5,6 @@ use Rattle.std.specs.Ordering.{nat_cmp, ordering_then}
 use Rattle.std.specs.BinaryHeap.{IsHeap}
 use Rattle.std.specs.declared.cmp.Ordering.{Ordering}
 use Rattle.std.specs.declared.cmp.Reverse.{Reverse}
-use Rattle.sim_queue.specs.Items.{items_from}
 
 -- the slot at a place, none past the end
 abbrev pub at : {B : Type 0} → List (Option (ℕ × B)) → ℕ → Option (ℕ × B)
@@ -59,8 +58,3 @@ pub record IsKept {B : Type 0} (keys : List (Reverse (ℕ × ℕ))) (slots : Lis
 -- the keys of the slots, whatever they are, are those of the new slots too
 abbrev pub KeepsKeys : {B : Type 0} → List (Option (ℕ × B)) → ℕ → List (Option (ℕ × B)) → ℕ → Type 0
 KeepsKeys slots base new after = (keys : List (Reverse (ℕ × ℕ))) → IsKept keys slots base → IsKept keys new after
-
--- what a queue keeps between two calls, with the number of its items
-pub record IsWhole {B : Type 0} (keys : List (Reverse (ℕ × ℕ))) (slots : List (Option (ℕ × B))) (base count : ℕ) : Type 0 where
-  pub kept : IsKept keys slots base
-  pub counted : count ≡ length (items_from base slots)

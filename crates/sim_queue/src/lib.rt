@@ -3,6 +3,7 @@
 //! Every change can be taken back: `uninsert` takes back an `insert`, and `put_back` a `take` or a `take_first`.
 #![tactic(auto)]
 
+mod slots;
 mod store;
 
 ghost use Rattle.std.specs.Prelude.{◌≡◌, ℕ, ◌^◌, ◌<◌, nat_le, OnOk, OnErr, IfOk, IfSome, IfNone, Some, length};
@@ -33,13 +34,13 @@ pub struct Queue<B> {
 
 impl<B> Model for Queue<B> {
     ghost use Rattle.sim_queue.specs.Pending.{Pending};
-    ghost use Rattle.sim_queue.specs.Store.{pending_in, IsSound};
+    ghost use Rattle.sim_queue.specs.Store.{pending_in, IsKeyed};
 
     ghost Value = { Pending B };
 
     ghost view = { λ a. pending_in a.store };
 
-    ghost invariant = { λ a. IsSound a.store };
+    ghost invariant = { λ a. IsKeyed a.store };
 }
 
 impl<B> Queue<B> {

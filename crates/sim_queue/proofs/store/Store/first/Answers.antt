@@ -1,5 +1,5 @@
-use Rattle.std.proofs.Common.{rules, ◌≡◌, ◌<◌, ◌-◌, length, sym, refl, Some, None, ◌∙◌}
-use Rattle.std.proofs.lemmas.List.{get_or_read_under}
+use Rattle.std.proofs.Common.{rules, ◌≡◌, ◌<◌, ◌-◌, length, is_some, sym, ap, Some, None, ◌∙◌}
+use Rattle.std.proofs.lemmas.Bool.{false≢true}
 use Rattle.std.specs.BinaryHeap.{heap_items}
 use Rattle.sim_queue.specs.Slots.{at}
 use Rattle.sim_queue.proofs.FirstKey.{first_none, first_seen}
@@ -11,11 +11,16 @@ returns-in_err-due g c =
     let empty : length (heap_items c.args.self.now.order) ≡ 0 = search rules in
     rw c.from_residual.ensures (sym (first_none _ _ _ empty c.requires.order.covers))
 
-pub returns-in-Some : goal.returns-in-Some
-returns-in-Some g c =
+pub returns-in_err-_due : goal.returns-in_err-_due
+returns-in_err-_due g c =
     let some : 0 < length (heap_items c.args.self.now.order) = search rules in
-    let there = top_there c.in_ok-due.field-0.now _ _ c.args.self.now.base c.in_ok-due.ensures.lookup some c.requires.top in
-    let here : at c.args.self.now.slots.items (c.in_ok-due.field-0.now.0.1 - c.args.self.now.base) ≡ Some (c.in-Some._due, c.in-Some.body) =
-    sym (get_or_read_under c.args.self.now.slots.items _ (length c.args.self.now.slots.items) c.index.result.now None c.index.ensures there.within refl) ∙ c.in-Some.is in
-    first_seen c.in_ok-due.field-0.now _ _ c.args.self.now.base (c.in-Some._due, c.in-Some.body) c.in_ok-due.ensures.lookup some c.requires.top
+    let there = top_there c.in_ok-due.field-0.now _ _ c.args.self.now.slots.base c.in_ok-due.ensures.lookup some c.requires.top in
+    let none : at c.args.self.now.slots.items (c.in_ok-due.field-0.now.0.1 - c.args.self.now.slots.base) ≡ None = search rules in
+    absurd (false≢true (ap (λ o. is_some o) (sym none) ∙ there.some))
+
+pub returns : goal.returns
+returns g c =
+    let some : 0 < length (heap_items c.args.self.now.order) = search rules in
+    let here : at c.args.self.now.slots.items (c.in_ok-due.field-0.now.0.1 - c.args.self.now.slots.base) ≡ Some (c.in_ok-_due._due, c.in_ok-_due.body.now) = search rules in
+    first_seen c.in_ok-due.field-0.now _ _ c.args.self.now.slots.base (c.in_ok-_due._due, c.in_ok-_due.body.now) c.in_ok-due.ensures.lookup some c.requires.top
     (c.in_ok-due.ensures.greatest c.requires.order.heap) c.requires.order.covers here

@@ -6,7 +6,7 @@ use Rattle.sim_queue.proofs.store.Store.make_keys.Given as goal
 abbrev pub invariant-loop-place : goal.invariant-loop-place
 invariant-loop-place g l = record {
   heap : IsHeap key_cmp (heap_items l.self.order);
-  covers : CoversBelow l.place (heap_items l.self.order) l.self.slots.items l.self.base;
+  covers : CoversBelow l.place (heap_items l.self.order) l.self.slots.items l.self.slots.base;
   filled : heap_len l.self.order ≤ l.place;
   room : length l.self.slots.items ≤ heap_capacity l.self.order;
   same : l.self ≡ record l.initial.self { order = l.self.order };

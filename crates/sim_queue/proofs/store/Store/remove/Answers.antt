@@ -1,42 +1,45 @@
-use Rattle.std.proofs.Common.{rules, ◌≡◌, sym, ap, ◌∙◌}
-use Rattle.sim_queue.specs.declared.store.Store.{Store}
-use Rattle.sim_queue.specs.Pending.{Pending, take}
-use Rattle.sim_queue.specs.Items.{pending}
-use Rattle.sim_queue.proofs.Views.{taken_item, taken_rest}
-use Rattle.sim_queue.proofs.Whole.{some_counted, whole_left}
+use Rattle.std.proofs.Common.{rules, ◌≡◌, ℕ, ◌+◌, ◌<◌, ◌≤◌, ◌-◌, length, refl, sym, ap, ◌∙◌, arith}
+use Rattle.std.specs.Option.{option_map}
+use Rattle.sim_queue.specs.Items.{item_of}
+use Rattle.sim_queue.specs.Slots.{at}
+use Rattle.sim_queue.specs.Store.{pending_in}
+use Rattle.sim_queue.proofs.Views.{taken_from, found_from, with-low, none_past, take_none}
 use Rattle.sim_queue.proofs.store.Store.remove.Goals as goal
 
-pub returns-in_err-item-clause-item : goal.returns-in_err-item-clause-item
-returns-in_err-item-clause-item g c =
-    let item = taken_item c.args.serial c.args.self.now.base c.args.self.now.slots.items in
-    search rules
+pub returns-then-serial-base-clause-item : goal.returns-then-serial-base-clause-item
+returns-then-serial-base-clause-item g c =
+    let low : c.args.serial < c.args.self.now.slots.base = search rules in
+    sym (with-low c.args.serial c.args.self.now.slots.base c.args.self.now.slots.items low)
 
-pub returns-in_err-item-clause-rest : goal.returns-in_err-item-clause-rest
-returns-in_err-item-clause-rest g c =
-    let base : c.empty_slot.new.self.base ≡ c.args.self.now.base = ap (λ (s : Store _). s.base) c.empty_slot.ensures.same in
-    rw base (taken_rest c.args.serial c.args.self.now.base c.args.self.now.slots.items _ c.empty_slot.ensures.slots)
+pub returns-then-serial-base-clause-rest : goal.returns-then-serial-base-clause-rest
+returns-then-serial-base-clause-rest g c =
+    let low : c.args.serial < c.args.self.now.slots.base = search rules in
+    sym (take_none c.args.serial c.args.self.now.slots.base c.args.self.now.slots.items (with-low c.args.serial c.args.self.now.slots.base c.args.self.now.slots.items low))
 
-pub overflow_sub-self : goal.overflow_sub-self
-overflow_sub-self g c =
-    rw (ap (λ (s : Store _). s.count) c.empty_slot.ensures.same)
-    (some_counted c.args.self.now.slots.items c.args.self.now.base c.args.self.now.count c.args.serial c.in_ok-item.item
-    (sym (c.in_ok-item.ensures.item ∙ taken_item c.args.serial c.args.self.now.base c.args.self.now.slots.items)) c.requires.counted)
+pub returns-then-place-len-clause-item : goal.returns-then-place-len-clause-item
+returns-then-place-len-clause-item g c =
+    let from : c.args.self.now.slots.base ≤ c.args.serial = search rules in
+    let past : length c.args.self.now.slots.items ≤ c.args.serial - c.args.self.now.slots.base = search rules in
+    sym (none_past c.args.serial c.args.self.now.slots.base c.args.self.now.slots.items from past)
+
+pub returns-then-place-len-clause-rest : goal.returns-then-place-len-clause-rest
+returns-then-place-len-clause-rest g c =
+    let from : c.args.self.now.slots.base ≤ c.args.serial = search rules in
+    let past : length c.args.self.now.slots.items ≤ c.args.serial - c.args.self.now.slots.base = search rules in
+    sym (take_none c.args.serial c.args.self.now.slots.base c.args.self.now.slots.items (none_past c.args.serial c.args.self.now.slots.base c.args.self.now.slots.items from past))
 
 pub returns-clause-item : goal.returns-clause-item
-returns-clause-item g c = c.in_ok-item.ensures.item ∙ taken_item c.args.serial c.args.self.now.base c.args.self.now.slots.items
+returns-clause-item g c =
+    let from : c.args.self.now.slots.base ≤ c.args.serial = search rules in
+    let serial : c.args.self.now.slots.base + (c.args.serial - c.args.self.now.slots.base) ≡ c.args.serial = omega arith in
+    let item : c.take-item.result
+    ≡ option_map (item_of (c.args.self.now.slots.base + (c.args.serial - c.args.self.now.slots.base))) (at c.args.self.now.slots.items (c.args.serial - c.args.self.now.slots.base)) =
+    search rules in
+    item ∙ ap (λ (m : ℕ). option_map (item_of m) (at c.args.self.now.slots.items (c.args.serial - c.args.self.now.slots.base))) serial
+    ∙ found_from c.args.serial c.args.self.now.slots.base c.args.self.now.slots.items _ from refl
 
 pub returns-clause-rest : goal.returns-clause-rest
 returns-clause-rest g c =
-    let base : c.empty_slot.new.self.base ≡ c.args.self.now.base = ap (λ (s : Store _). s.base) c.empty_slot.ensures.same in
-    rw base (taken_rest c.args.serial c.args.self.now.base c.args.self.now.slots.items _ c.empty_slot.ensures.slots)
-
-pub returns-clause-sound : goal.returns-clause-sound
-returns-clause-sound g c =
-    let base : c.empty_slot.new.self.base ≡ c.args.self.now.base = ap (λ (s : Store _). s.base) c.empty_slot.ensures.same in
-    let count : c.empty_slot.new.self.count ≡ c.args.self.now.count = ap (λ (s : Store _). s.count) c.empty_slot.ensures.same in
-    let rest : pending c.args.self.now.base c.empty_slot.new.self.slots.items ≡ take c.args.serial (pending c.args.self.now.base c.args.self.now.slots.items) =
-    taken_rest c.args.serial c.args.self.now.base c.args.self.now.slots.items _ c.empty_slot.ensures.slots in
-    rw (base, count)
-    (whole_left _ c.args.self.now.slots.items _ c.args.self.now.base c.args.self.now.count c.args.serial c.in_ok-item.item (rw base at c.empty_slot.ensures.keyed)
-    (ap (λ (q : Pending _). q.items) rest) (sym (c.in_ok-item.ensures.item ∙ taken_item c.args.serial c.args.self.now.base c.args.self.now.slots.items))
-    c.requires.counted)
+    let from : c.args.self.now.slots.base ≤ c.args.serial = search rules in
+    ap pending_in c.clean.ensures.same
+    ∙ rw c.take-item.ensures.base (taken_from c.args.serial c.args.self.now.slots.base c.args.self.now.slots.items _ from (search rules))

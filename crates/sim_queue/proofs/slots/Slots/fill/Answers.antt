@@ -1,0 +1,22 @@
+use Rattle.std.proofs.Common.{◌≡◌, refl, ap, ◌∙◌, Some, ◌++◌, ◌∷◌, []}
+use Rattle.std.proofs.Math.ListN.{set}
+use Rattle.sim_queue.specs.Slots.{at}
+use Rattle.sim_queue.specs.Sparse.{SlotList, slots_of}
+use Rattle.sim_queue.proofs.Sparse.{filled_slots, filled_sparse, no_index, within_slots}
+use Rattle.sim_queue.proofs.slots.Slots.fill.Goals as goal
+
+pub invariant_of-self-2 : goal.invariant_of-self-2
+invariant_of-self-2 g c =
+    let slots : slots_of c.self.inside.items.items c.self.inside.places.items ≡ c.args.self.now.items = ap (λ (s : SlotList _). s.items) c.self.view_is in
+    let none = no_index c.self.inside.items.items c.self.inside.places.items c.self.inside.base c.args.place c.self.invariant
+    (ap (λ s. at s c.args.place) slots ∙ c.requires.empty) in
+    let within = within_slots c.self.inside.items.items c.self.inside.places.items c.args.self.now.items c.args.place slots c.requires.within in
+    rw (c.push_reserved.ensures.items, c.reserve.ensures.items)
+    (filled_sparse c.self.inside.items.items c.self.inside.places.items c.self.inside.base c.args.place c.in_ok-index.index _ c.in_ok-index.ensures refl within none c.self.invariant)
+
+pub returns-clause-ok : goal.returns-clause-ok
+returns-clause-ok g c =
+    let slots : slots_of c.self.inside.items.items c.self.inside.places.items ≡ c.args.self.now.items = ap (λ (s : SlotList _). s.items) c.self.view_is in
+    rw (c.push_reserved.ensures.items, c.reserve.ensures.items)
+    (filled_slots c.self.inside.items.items c.self.inside.places.items c.self.inside.base c.args.place c.in_ok-index.index _ c.in_ok-index.ensures c.self.invariant
+    ∙ ap (λ s. set s c.args.place (Some (c.args.due, c.args.body))) slots)

@@ -1,0 +1,251 @@
+//! The slots of a queue, one for each serial from the oldest on. Most are empty, so the items that are there stand densely.
+ghost use Rattle.std.specs.Prelude.{◌≡◌, ℕ, ◌+◌, ◌-◌, ◌^◌, ◌<◌, ◌≤◌, OnOk, OnErr, IfOk, Some, None, ◌∷◌, ◌++◌, [], length, slice_set};
+ghost use Rattle.std.specs.Bool.{OnTrue};
+ghost use Rattle.std.specs.Fn.{FnReturnsAt};
+ghost use Rattle.std.specs.Option.{option_map, IsSome};
+ghost use Rattle.sim_queue.specs.Items.{item_of, items_from};
+ghost use Rattle.sim_queue.specs.Slots.{at};
+
+use crate::{Item, NoMemory};
+use std::alloc::Global;
+use std::collections::VecDeque;
+use std::marker::Model;
+
+/// The items by their serials: the first slot stands for the serial `base`.
+#[derive(Drop)]
+pub(crate) struct Slots<B> {
+    // The items that are there, in any order.
+    items: Vec<Item<B>>,
+    // The index of each slot's item among the items.
+    places: VecDeque<Option<u32>>,
+    base: u64,
+}
+
+impl<B> Model for Slots<B> {
+    ghost use Rattle.sim_queue.specs.Sparse.{SlotList, slots_of, IsSparse};
+
+    ghost Value = { SlotList B };
+
+    ghost view = { λ a. record { base = a.base; items = slots_of a.items.items a.places.items } };
+
+    ghost invariant = { λ a. IsSparse a.items.items a.places.items a.base };
+}
+
+impl<B> Slots<B> {
+    pub(crate) fn new(alloc: Global) -> Slots<B>
+        ensures { result ≡ record { base = 0; items = [] } }
+    {
+        Slots {
+            items: Vec::new(alloc),
+            places: VecDeque::new(alloc),
+            base: 0,
+        }
+    }
+
+    /// The serial of the first slot.
+    pub(crate) fn base(&self) -> u64
+        ensures { result ≡ self.now.base }
+    {
+        self.base
+    }
+
+    /// How many slots there are.
+    pub(crate) fn len(&self) -> usize
+        ensures { result ≡ length self.now.items }
+    {
+        self.places.len()
+    }
+
+    /// How many of them have an item.
+    pub(crate) fn count(&self) -> usize
+        ensures { result ≡ length (items_from self.now.base self.now.items) }
+    {
+        self.items.len()
+    }
+
+    /// The due and the body in a slot.
+    pub(crate) fn get(&self, place: usize) -> Option<(u64, &B)>
+        ensures { option_map (λ r. (r.0, r.1.now)) result ≡ at self.now.items place }
+    {
+        let index = (*self.places.get(place)?)?;
+        let item = &self.items[index as usize];
+        Some((item.due, &item.body))
+    }
+
+    /// Adds a slot with this due and body behind the others, and answers its serial, or changes nothing.
+    pub(crate) fn push(&mut self, due: u64, body: B) -> Result<u64, NoMemory>
+    where
+        B: Drop,
+        requires { self.old.base + length self.old.items < 2 ^ 40 }
+        ensures serial { IfOk result (λ s. s ≡ self.old.base + length self.old.items) }
+        ensures ok { OnOk result (self.new.items ≡ self.old.items ++ Some (due, body) ∷ []) }
+        ensures err { OnErr result (self.new.items ≡ self.old.items) }
+        ensures base { self.new.base ≡ self.old.base }
+    {
+        let serial = self.base + self.places.len() as u64;
+        let index = next_index(&self.items)?;
+        self.places.reserve(1)?;
+        self.items.reserve(1)?;
+        self.items.push_reserved(Item { due, serial, body });
+        self.places.push_back_reserved(Some(index));
+        Ok(serial)
+    }
+
+    /// Puts a due and a body into an empty slot, or changes nothing.
+    pub(crate) fn fill(&mut self, place: usize, due: u64, body: B) -> Result<(), NoMemory>
+    where
+        B: Drop,
+        requires within { place < length self.old.items }
+        requires empty { at self.old.items place ≡ None }
+        requires small { self.old.base + length self.old.items ≤ 2 ^ 40 }
+        ensures ok { OnOk result (self.new.items ≡ slice_set self.old.items place (Some (due, body))) }
+        ensures err { OnErr result (self.new.items ≡ self.old.items) }
+        ensures base { self.new.base ≡ self.old.base }
+    {
+        let serial = self.base + place as u64;
+        let index = next_index(&self.items)?;
+        self.items.reserve(1)?;
+        self.items.push_reserved(Item { due, serial, body });
+        self.places[place] = Some(index);
+        Ok(())
+    }
+
+    /// Takes the item out of a slot.
+    pub(crate) fn take(&mut self, place: usize) -> Option<Item<B>>
+        requires { place < length self.old.items }
+        ensures item { result ≡ option_map (item_of (self.old.base + place)) (at self.old.items place) }
+        ensures rest { self.new.items ≡ slice_set self.old.items place None }
+        ensures base { self.new.base ≡ self.old.base }
+    {
+        let index = self.places[place]?;
+        self.places[place] = None;
+        let item = self.items.swap_remove(index as usize);
+        if let Some(moved) = self.items.get(index as usize) {
+            self.places[(moved.serial - self.base) as usize] = Some(index);
+        }
+        Some(item)
+    }
+
+    /// Takes the last slot off, with its item.
+    pub(crate) fn pop(&mut self) -> Item<B>
+        requires { IsSome (at self.old.items (length self.old.items - 1)) }
+        ensures items { self.old.items ≡ self.new.items ++ Some (result.due, result.body) ∷ [] }
+        ensures serial { result.serial ≡ self.new.base + length self.new.items }
+        ensures base { self.new.base ≡ self.old.base }
+    {
+        let last = self.len() - 1;
+        let taken = self.take(last).unwrap();
+        self.places.pop_back();
+        taken
+    }
+
+    /// Whether the first slot is there, and empty.
+    pub(crate) fn is_empty_at_front(&self) -> bool
+        ensures { OnTrue result ((0 < length self.now.items) × (at self.now.items 0 ≡ None)) }
+    {
+        matches!(self.places.front(), Some(None))
+    }
+
+    /// Drops the first slot, which is empty.
+    pub(crate) fn drop_front(&mut self)
+        requires some { 0 < length self.old.items }
+        requires empty { at self.old.items 0 ≡ None }
+        requires small { self.old.base + length self.old.items ≤ 2 ^ 40 }
+        ensures items { self.old.items ≡ None ∷ self.new.items }
+        ensures base { self.new.base ≡ self.old.base + 1 }
+    {
+        self.places.pop_front();
+        self.base += 1;
+    }
+
+    /// Adds an empty slot before the others, or changes nothing.
+    pub(crate) fn add_front(&mut self) -> Result<(), NoMemory>
+        requires { 0 < self.old.base }
+        ensures ok { OnOk result (self.new ≡ record { base = self.old.base - 1; items = None ∷ self.old.items }) }
+        ensures err { OnErr result (self.new ≡ self.old) }
+    {
+        self.places.push_front(None)?;
+        self.base -= 1;
+        Ok(())
+    }
+
+    /// Equal slots, each body as `each` copies it.
+    pub(crate) fn copy<F: Fn(&B) -> Result<B, NoMemory>>(
+        &self,
+        alloc: Global,
+        each: &F,
+    ) -> Result<Slots<B>, NoMemory>
+    where
+        B: Drop,
+        requires callable { F.IsAlwaysCallable each.now }
+        requires equal { (x : B) (r : _) → FnReturnsAt F.Fn each.now x r → IfOk r (λ y. y ≡ x) }
+        ensures { IfOk result (λ copied. copied ≡ self.now) }
+    {
+        let items = copy_items(alloc, &self.items, each)?;
+        let places = copy_places(alloc, &self.places)?;
+        Ok(Slots {
+            items,
+            places,
+            base: self.base,
+        })
+    }
+}
+
+// The index of the next item: there are at most 2^32.
+fn next_index<B>(items: &Vec<Item<B>>) -> Result<u32, NoMemory>
+    ensures { IfOk result (λ k. k ≡ length items.now.items) }
+{
+    let next = items.len();
+    if next > u32::MAX as usize {
+        return Err(NoMemory);
+    }
+    Ok(next as u32)
+}
+
+// Equal items.
+fn copy_items<B: Drop, F: Fn(&B) -> Result<B, NoMemory>>(
+    alloc: Global,
+    items: &Vec<Item<B>>,
+    each: &F,
+) -> Result<Vec<Item<B>>, NoMemory>
+    requires callable { F.IsAlwaysCallable each.now }
+    requires equal { (x : B) (r : _) → FnReturnsAt F.Fn each.now x r → IfOk r (λ y. y ≡ x) }
+    ensures { IfOk result (λ copied. copied.items ≡ items.now.items) }
+{
+    let mut copied = Vec::with_capacity(alloc, items.len())?;
+    for index in 0..items.len() {
+        let item = copy_item(&items[index], each)?;
+        copied.push_reserved(item);
+    }
+    Ok(copied)
+}
+
+// An equal item.
+fn copy_item<B, F: Fn(&B) -> Result<B, NoMemory>>(
+    item: &Item<B>,
+    each: &F,
+) -> Result<Item<B>, NoMemory>
+    requires callable { F.IsAlwaysCallable each.now }
+    requires equal { (x : B) (r : _) → FnReturnsAt F.Fn each.now x r → IfOk r (λ y. y ≡ x) }
+    ensures { IfOk result (λ copied. copied ≡ item.now) }
+{
+    Ok(Item {
+        due: item.due,
+        serial: item.serial,
+        body: each(&item.body)?,
+    })
+}
+
+// Equal places.
+fn copy_places(
+    alloc: Global,
+    places: &VecDeque<Option<u32>>,
+) -> Result<VecDeque<Option<u32>>, NoMemory>
+    ensures { IfOk result (λ copied. copied.items ≡ places.now.items) }
+{
+    let (head, wrapped) = places.as_slices();
+    let mut copied = Vec::with_capacity(alloc, places.len())?;
+    copied.extend_from_slice(head)?;
+    copied.extend_from_slice(wrapped)?;
+    Ok(VecDeque::from_vec(copied))
+}
