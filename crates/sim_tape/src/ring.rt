@@ -175,6 +175,7 @@ impl<N: Node> Ring<N> {
     pub fn clear(&mut self)
         ensures { self.new ≡ buffer [] self.old.capacity }
     {
+        self.free = 0;
         self.len = 0;
     }
 }
