@@ -57,9 +57,9 @@ IsPlacedCell cell = IfSome cell (λ c. c.place < 16)
 abbrev pub IsPlacedChanges : Changes → Type 0
 IsPlacedChanges changes = IsPlacedCell changes.cell × IfSome changes.slot (λ s. s.host < 32)
 
--- a record of a server fits a server of its kind, that of a client any host
+-- a record fits a host of its kind
 abbrev pub fits_role : ℕ → BackupUndo → Role → Type 0
-fits_role hosts (undo.Client next) r = Unit {0}
+fits_role hosts (undo.Client next) (role.Client now) = Unit {0}
 fits_role hosts (undo.Primary progress current changes) (role.Primary p) = IsPlacedPrimary hosts progress current × IsPlacedChanges changes
 fits_role hosts (undo.Backup progress cell) (role.Backup store) = IsPlacedStore progress × IsPlacedCell cell
 fits_role hosts _ r = ⊥

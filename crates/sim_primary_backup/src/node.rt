@@ -108,7 +108,7 @@ impl<T: Meter> Node for PrimaryBackup<T> {
     fn undo(&mut self, _alloc: Global, undo: BackupUndo, meter: &mut T) -> Result<(), NoMemory> {
         meter.undone();
         match (undo, &mut self.state.role) {
-            (BackupUndo::Client { next }, role) => *role = Role::Client { next },
+            (BackupUndo::Client { next }, Role::Client { next: now }) => *now = next,
             (
                 BackupUndo::Primary {
                     progress,

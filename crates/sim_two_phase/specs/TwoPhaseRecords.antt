@@ -38,11 +38,12 @@ coordinator_before conduct slots c = record { conduct = conduct; waiting = resto
 abbrev pub IsPlacedSlots : Slots → Type 0
 IsPlacedSlots slots = IfSome slots.asked (λ s. s.host < 32) × IfSome slots.begun (λ s. s.host < 32)
 
--- a record of a coordinator fits a coordinator, that of another any host
+-- a record fits a host of its kind
 abbrev pub fits_role : ℕ → CommitUndo → Role → Type 0
 fits_role hosts (undo.Coordinator conduct slots) (role.Coordinator c) = IsPlacedConduct hosts conduct × IsPlacedSlots slots
-fits_role hosts (undo.Coordinator conduct slots) _ = ⊥
-fits_role hosts _ role = Unit {0}
+fits_role hosts (undo.Participant before) (role.Participant now) = Unit {0}
+fits_role hosts (undo.Client next) (role.Client now) = Unit {0}
+fits_role hosts _ _ = ⊥
 
 abbrev pub role_before : CommitUndo → Role → Role
 role_before (undo.Client next) r = role.Client next

@@ -103,14 +103,13 @@ impl<T: Meter> Node for TwoPhase<T> {
 
     fn undo(&mut self, _alloc: Global, undo: CommitUndo, meter: &mut T) -> Result<(), NoMemory> {
         meter.undone();
-        match undo {
-            CommitUndo::Client { next } => self.state.role = Role::Client { next },
-            CommitUndo::Participant(before) => self.state.role = Role::Participant(before),
-            CommitUndo::Coordinator { conduct, slots } => {
-                if let Role::Coordinator(coordinator) = &mut self.state.role {
-                    coordinator.take_back(conduct, slots);
-                }
+        match (undo, &mut self.state.role) {
+            (CommitUndo::Client { next }, Role::Client { next: now }) => *now = next,
+            (CommitUndo::Participant(before), Role::Participant(now)) => *now = before,
+            (CommitUndo::Coordinator { conduct, slots }, Role::Coordinator(coordinator)) => {
+                coordinator.take_back(conduct, slots)
             }
+            _ => {}
         }
         Ok(())
     }
