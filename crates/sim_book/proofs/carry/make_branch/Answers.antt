@@ -41,3 +41,6 @@ returns-in-Err-push-clause-turn g c = λ s.
     let within : c.args.p ≤ length (get_or ks c.args.b k).tape.events = subst (λ (x : Kept). c.args.p ≤ length x.tape.events) at known in
     subst (λ (xs : List Kept). IsTurn r (all_shown ks) (command.Branch c.args.b c.args.p) (reply.Refused refusal.NoMemory) (all_shown xs))
     (sym c.in-Err-push.ensures.items) (branch_wants r ks k c.args.b c.args.p c.requires within (omega arith))
+
+pub returns-in-Err-push-clause-same : goal.returns-in-Err-push-clause-same
+returns-in-Err-push-clause-same g c = λ s all. subst (λ (xs : List Kept). AllKept g.N.Node.PROBES s xs) (sym c.in-Err-push.ensures.items) all
