@@ -1,3 +1,4 @@
+mod comers;
 mod fold;
 mod long;
 mod meeting;

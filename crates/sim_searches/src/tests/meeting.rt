@@ -29,8 +29,8 @@ impl Meeting {
         self.met.load(SeqCst)
     }
 
-    // Numbers 0 and 1 wait for each other; any other goes on.
-    fn come(&self, number: u64) {
+    /// Numbers 0 and 1 wait for each other; any other goes on.
+    pub fn come(&self, number: u64) {
         let (mine, other) = match number {
             0 => (&self.zero, &self.one),
             1 => (&self.one, &self.zero),
