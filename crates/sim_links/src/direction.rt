@@ -49,7 +49,7 @@ fn copied<M: Drop, F: Fn(&M) -> Result<M, NoMemory>>(
     requires equal { (m : M) (r : _) → FnReturnsAt F.Fn each.now m r → IfOk r (λ copy. copy ≡ m) }
     ensures { IfOk result (λ copies. copies.items ≡ messages.now) }
 {
-    let mut copies = Vec::new(alloc);
+    let mut copies = Vec::with_capacity(alloc, messages.len())?;
     for message in messages {
         let copy = each(message)?;
         copies.push(copy)?;
