@@ -3,7 +3,6 @@ use Rattle.std.proofs.Common.{◌≡◌, ℕ, ◌+◌, ◌-◌, ◌<◌, ◌≤�
 use Rattle.std.proofs.Common.{zero, suc, ◌++◌, ◌⊎◌, inl, inr, ⊎_elim, IsSome, IfSome, Result, Ok, Err, IsOk, OnOk}
 use Rattle.std.proofs.Math.ListN.{get_or, set}
 use Rattle.std.specs.Prelude.{nat_le}
-use Rattle.std.specs.Option.{option_to_list}
 use Rattle.std.specs.BinaryHeap.{PopsGreatest, KeepsHeap}
 use Rattle.std.proofs.lemmas.Bool.{eqb-true, eq-eqb, le-leb, leb-true, cases_lt, false≢true}
 use Rattle.std.proofs.lemmas.List.Sorted.{list_any-IsPermutation, length_permutation}

@@ -3,6 +3,7 @@ pub mod Laws
 pub mod Keys
 pub mod Views
 pub mod Sparse
+pub mod Search
 pub mod Taken
 pub mod FirstKey
 pub mod Tops

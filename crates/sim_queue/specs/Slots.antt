@@ -58,3 +58,16 @@ pub record IsKept {B : Type 0} (keys : List (Reverse (ℕ × ℕ))) (slots : Lis
 -- the keys of the slots, whatever they are, are those of the new slots too
 abbrev pub KeepsKeys : {B : Type 0} → List (Option (ℕ × B)) → ℕ → List (Option (ℕ × B)) → ℕ → Type 0
 KeepsKeys slots base new after = (keys : List (Reverse (ℕ × ℕ))) → IsKept keys slots base → IsKept keys new after
+
+-- whether an entry is there whose body p takes
+abbrev pub takes : {B : Type 0} → (B → Bool) → Option (ℕ × B) → Bool
+takes p None = false
+takes p (Some e) = p e.1
+
+-- p takes no body between two places
+abbrev pub Skips : {B : Type 0} → (B → Bool) → List (Option (ℕ × B)) → ℕ → ℕ → Type 0
+Skips p slots from to = (j : ℕ) → from ≤ j → j < to → takes p (at slots j) ≡ false
+
+-- i is the first place from one on whose body p takes
+abbrev pub IsFound : {B : Type 0} → (B → Bool) → List (Option (ℕ × B)) → ℕ → ℕ → Type 0
+IsFound p slots from i = (from ≤ i) × (takes p (at slots i) ≡ true) × Skips p slots from i

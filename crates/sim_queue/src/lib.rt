@@ -6,7 +6,7 @@
 mod slots;
 mod store;
 
-ghost use Rattle.std.specs.Prelude.{◌≡◌, ℕ, ◌^◌, ◌<◌, nat_le, OnOk, OnErr, IfOk, IfSome, IfNone, Some, length};
+ghost use Rattle.std.specs.Prelude.{◌≡◌, ℕ, ◌^◌, ◌<◌, nat_le, OnOk, OnErr, IfOk, IfSome, IfNone, Some, length, Bool, ◌&&◌};
 ghost use Rattle.std.specs.Fn.{FnReturnsAt};
 ghost use Rattle.std.specs.List.{find};
 ghost use Rattle.std.specs.Option.{option_map};
@@ -83,6 +83,14 @@ impl<B> Queue<B> {
         self.store.next_from(serial)
     }
 
+    /// The least serial, of at least `serial`, of an item whose body the test takes.
+    pub fn next_that<F: Fn(&B) -> bool>(&self, serial: u64, test: F) -> Option<u64>
+        requires { F.IsAlwaysCallable test }
+        ensures { (p : B → Bool) → ((x : B) (r : Bool) → FnReturnsAt F.Fn test x r → r ≡ p x) → result ≡ option_map (λ x. x.serial) (find (λ x. nat_le serial x.serial && p x.body) self.now.items) }
+    {
+        self.store.next_that(serial, &test)
+    }
+
     /// The serial that the next item gets. It takes no memory.
     pub fn next_serial(&self) -> u64
         ensures { result ≡ self.now.next_serial }
@@ -99,6 +107,7 @@ impl<B> Queue<B> {
     }
 
     /// Takes the first item out. It can be put back.
+    #[inline(always)]
     pub fn take_first(&mut self) -> Option<Item<B>>
         ensures item { result ≡ first self.old.items }
         ensures rest { IfSome result (λ x. self.new ≡ take x.serial self.old) }
@@ -111,6 +120,7 @@ impl<B> Queue<B> {
     }
 
     /// Takes out the item of a serial, if it is pending. It can be put back.
+    #[inline(always)]
     pub fn take(&mut self, serial: u64) -> Option<Item<B>>
         ensures item { result ≡ with_serial serial self.old.items }
         ensures rest { self.new ≡ take serial self.old }
@@ -124,6 +134,7 @@ impl<B> Queue<B> {
     /// Puts an item back that was taken. The next serial stays.
     ///
     /// The item's serial has to be below the next one, and not pending. After `NoMemory` the queue is unchanged, and the item is dropped.
+    #[inline(always)]
     pub fn put_back(&mut self, item: Item<B>) -> Result<(), NoMemory>
     where
         B: Drop,
@@ -138,6 +149,7 @@ impl<B> Queue<B> {
     /// Takes the newest item out, as if it had never been added: the next serial is lowered by one.
     ///
     /// The item with the serial below the next one has to be pending.
+    #[inline(always)]
     pub fn uninsert(&mut self) -> Item<B>
         requires { HasNewest self.old }
         ensures item { newest self.old ≡ Some result }

@@ -1,10 +1,11 @@
 //! The slots of a queue, one for each serial from the oldest on. Most are empty, so the items that are there stand densely.
-ghost use Rattle.std.specs.Prelude.{◌≡◌, ℕ, ◌+◌, ◌-◌, ◌^◌, ◌<◌, ◌≤◌, OnOk, OnErr, IfOk, Some, None, ◌∷◌, ◌++◌, [], length, slice_set};
+ghost use Rattle.std.specs.Prelude.{◌≡◌, ℕ, ◌+◌, ◌-◌, ◌^◌, ◌<◌, ◌≤◌, OnOk, OnErr, IfOk, IfSome, MatchOption, Bool, Some, None, ◌∷◌, ◌++◌, [], length, slice_set};
 ghost use Rattle.std.specs.Bool.{OnTrue};
 ghost use Rattle.std.specs.Fn.{FnReturnsAt};
 ghost use Rattle.std.specs.Option.{option_map, IsSome};
 ghost use Rattle.sim_queue.specs.Items.{item_of, items_from};
-ghost use Rattle.sim_queue.specs.Slots.{at};
+ghost use Rattle.sim_queue.specs.Slots.{at, takes, Skips, IsFound};
+ghost use Rattle.sim_queue.specs.Sparse.{index_at, slot_of, slots_of};
 
 use crate::{Item, NoMemory};
 use std::alloc::Global;
@@ -73,6 +74,7 @@ impl<B> Slots<B> {
     }
 
     /// Adds a slot with this due and body behind the others, and answers its serial, or changes nothing.
+    #[inline(always)]
     pub(crate) fn push(&mut self, due: u64, body: B) -> Result<u64, NoMemory>
     where
         B: Drop,
@@ -111,6 +113,7 @@ impl<B> Slots<B> {
     }
 
     /// Takes the item out of a slot.
+    #[inline(always)]
     pub(crate) fn take(&mut self, place: usize) -> Option<Item<B>>
         requires { place < length self.old.items }
         ensures item { result ≡ option_map (item_of (self.old.base + place)) (at self.old.items place) }
@@ -127,6 +130,7 @@ impl<B> Slots<B> {
     }
 
     /// Takes the last slot off, with its item.
+    #[inline(always)]
     pub(crate) fn pop(&mut self) -> Item<B>
         requires { IsSome (at self.old.items (length self.old.items - 1)) }
         ensures items { self.old.items ≡ self.new.items ++ Some (result.due, result.body) ∷ [] }
@@ -169,6 +173,21 @@ impl<B> Slots<B> {
         Ok(())
     }
 
+    /// The first place, from `start` on, whose body the test takes.
+    pub(crate) fn first_taken<F: Fn(&B) -> bool>(&self, start: usize, test: &F) -> Option<usize>
+        requires { F.IsAlwaysCallable test.now }
+        ensures within { IfSome result (λ i. i < length self.now.items) }
+        ensures found { (p : B → Bool) → ((x : B) (r : Bool) → FnReturnsAt F.Fn test.now x r → r ≡ p x) → MatchOption result (Skips p self.now.items start (length self.now.items)) (λ i. IsFound p self.now.items start i) }
+    {
+        let (head, wrapped) = self.places.as_slices();
+        if let Some(place) = first_in(&self.items, head, start, test) {
+            return Some(place);
+        }
+        let start = start.saturating_sub(head.len());
+        let place = first_in(&self.items, wrapped, start, test)?;
+        Some(head.len() + place)
+    }
+
     /// Equal slots, each body as `each` copies it.
     pub(crate) fn copy<F: Fn(&B) -> Result<B, NoMemory>>(
         &self,
@@ -191,6 +210,39 @@ impl<B> Slots<B> {
     }
 }
 
+// The first of these places, from `start` on, whose body the test takes.
+fn first_in<B, F: Fn(&B) -> bool>(
+    items: &Vec<Item<B>>,
+    places: &[Option<u32>],
+    start: usize,
+    test: &F,
+) -> Option<usize>
+    requires callable { F.IsAlwaysCallable test.now }
+    requires there { (i k : ℕ) → index_at places.now i ≡ Some k → k < length items.now.items }
+    ensures within { IfSome result (λ i. i < length places.now) }
+    ensures found { (p : B → Bool) → ((x : B) (r : Bool) → FnReturnsAt F.Fn test.now x r → r ≡ p x) → MatchOption result (Skips p (slots_of items.now.items places.now) start (length places.now)) (λ i. IsFound p (slots_of items.now.items places.now) start i) }
+{
+    for place in start..places.len() {
+        if is_taken(items, places[place], test) {
+            return Some(place);
+        }
+    }
+    None
+}
+
+// Whether an item is there whose body the test takes.
+#[inline(always)]
+fn is_taken<B, F: Fn(&B) -> bool>(items: &Vec<Item<B>>, index: Option<u32>, test: &F) -> bool
+    requires callable { F.IsAlwaysCallable test.now }
+    requires there { (k : ℕ) → index ≡ Some k → k < length items.now.items }
+    ensures { (p : B → Bool) → ((x : B) (r : Bool) → FnReturnsAt F.Fn test.now x r → r ≡ p x) → result ≡ takes p (slot_of items.now.items index) }
+{
+    match index {
+        Some(index) => test(&items[index as usize].body),
+        None => false,
+    }
+}
+
 // The index of the next item: there are at most 2^32.
 fn next_index<B>(items: &Vec<Item<B>>) -> Result<u32, NoMemory>
     ensures { IfOk result (λ k. k ≡ length items.now.items) }
@@ -200,6 +252,13 @@ fn next_index<B>(items: &Vec<Item<B>>) -> Result<u32, NoMemory>
         return Err(NoMemory);
     }
     Ok(next as u32)
+}
+
+// The capacity of a copy, which leaves some room for what comes next.
+fn with_room(len: usize) -> usize
+    ensures { len ≤ result }
+{
+    len.saturating_add(len / 8).saturating_add(8)
 }
 
 // Equal items.
@@ -212,7 +271,7 @@ fn copy_items<B: Drop, F: Fn(&B) -> Result<B, NoMemory>>(
     requires equal { (x : B) (r : _) → FnReturnsAt F.Fn each.now x r → IfOk r (λ y. y ≡ x) }
     ensures { IfOk result (λ copied. copied.items ≡ items.now.items) }
 {
-    let mut copied = Vec::with_capacity(alloc, items.len())?;
+    let mut copied = Vec::with_capacity(alloc, with_room(items.len()))?;
     for index in 0..items.len() {
         let item = copy_item(&items[index], each)?;
         copied.push_reserved(item);
@@ -244,7 +303,7 @@ fn copy_places(
     ensures { IfOk result (λ copied. copied.items ≡ places.now.items) }
 {
     let (head, wrapped) = places.as_slices();
-    let mut copied = Vec::with_capacity(alloc, places.len())?;
+    let mut copied = Vec::with_capacity(alloc, with_room(places.len()))?;
     copied.extend_from_slice(head)?;
     copied.extend_from_slice(wrapped)?;
     Ok(VecDeque::from_vec(copied))

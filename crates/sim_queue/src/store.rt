@@ -1,5 +1,5 @@
 //! What a queue is made of. Each of its parts may be out of step with the others while one change is under way.
-ghost use Rattle.std.specs.Prelude.{◌≡◌, ℕ, ◌+◌, ◌-◌, ◌^◌, ◌<◌, ◌≤◌, nat_le, OnOk, OnErr, IfOk, IfSome, IfNone, length};
+ghost use Rattle.std.specs.Prelude.{◌≡◌, ℕ, ◌+◌, ◌-◌, ◌^◌, ◌<◌, ◌≤◌, nat_le, OnOk, OnErr, IfOk, IfSome, IfNone, length, Bool, ◌&&◌};
 ghost use Rattle.std.specs.BinaryHeap.{IsHeap, heap_items, heap_len, heap_capacity};
 ghost use Rattle.std.specs.Fn.{FnReturnsAt};
 ghost use Rattle.std.specs.List.{find};
@@ -39,6 +39,7 @@ impl<B> Store<B> {
     }
 
     /// Adds an item, and drops empty slots and dead keys where there are many.
+    #[inline(always)]
     pub(crate) fn add(&mut self, due: u64, body: B) -> Result<u64, NoMemory>
     where
         B: Drop,
@@ -78,6 +79,17 @@ impl<B> Store<B> {
         None
     }
 
+    /// The least serial, of at least this one, of an item whose body the test takes.
+    pub(crate) fn next_that<F: Fn(&B) -> bool>(&self, serial: u64, test: &F) -> Option<u64>
+        requires small { (pending_in self.now).next_serial ≤ 2 ^ 40 }
+        requires callable { F.IsAlwaysCallable test.now }
+        ensures { (p : B → Bool) → ((x : B) (r : Bool) → FnReturnsAt F.Fn test.now x r → r ≡ p x) → result ≡ option_map (λ x. x.serial) (find (λ x. nat_le serial x.serial && p x.body) (pending_in self.now).items) }
+    {
+        let from = serial.saturating_sub(self.slots.base()) as usize;
+        let place = self.slots.first_taken(from, test)?;
+        Some(self.slots.base() + place as u64)
+    }
+
     /// The serial that the next item gets.
     pub(crate) fn next_serial(&self) -> u64
         requires { (pending_in self.now).next_serial ≤ 2 ^ 40 }
@@ -94,6 +106,7 @@ impl<B> Store<B> {
     }
 
     /// Takes the first item out.
+    #[inline(always)]
     pub(crate) fn remove_first(&mut self) -> Option<Item<B>>
         requires { IsKeyed self.old }
         ensures item { result ≡ first (pending_in self.old).items }
