@@ -1,5 +1,5 @@
 -- The usual changes of a step are taken back, each kind for itself.
-use Rattle.std.specs.Prelude.{◌≡◌, ℕ, zero, suc, ◌+◌, ◌-◌, ◌<◌, Bool, true, false, cond, List, [], ◌∷◌, ◌++◌, length, map, Option, Some, None, option_to_list}
+use Rattle.std.specs.Prelude.{◌≡◌, ℕ, zero, suc, ◌+◌, ◌-◌, ◌<◌, cond, List, [], ◌∷◌, ◌++◌, length, map, Option, Some, None, option_to_list}
 use Rattle.std.specs.List.{count_by}
 use Rattle.std.proofs.Common.{refl, sym, ap, ◌∙◌, subst, arith}
 use Rattle.std.proofs.lemmas.List.{map_push}
@@ -12,7 +12,7 @@ use Rattle.sim_world.specs.declared.undo.Small.TheVariants as small
 use Rattle.sim_world.specs.World.{World}
 use Rattle.sim_world.specs.Records.{Fits, back, FitsOne, back_one}
 use Rattle.sim_world.specs.Undone.{is_reaction}
-use Rattle.sim_world.specs.Trail.{unboxed, synced_change, drawn_change, acted_change, sent_changes, words_change, changes_of}
+use Rattle.sim_world.specs.Trail.{unboxed, synced_change, drawn_change, acted_change, sent_changes, changes_of}
 use Rattle.sim_world.proofs.Trails.{back-append, Fits-front}
 use Rattle.sim_world.proofs.Places.{places-back_one}
 
@@ -52,54 +52,45 @@ module _ {State Msg Undo : Type 0} (records : NodeRecords State Undo) where
       ap (λ k. back records (sent_changes k) (back_one records (small.Drew 0 2) (back_one records small.Queued w))) e
       ∙ sym (back-append records (sent_changes n) (small.Drew 0 2 ∷ small.Queued ∷ []) w)
 
-  -- of six lists in a row the last is taken back first
-  module _ (js ks ls ms ns es : List (Small State Msg Undo)) (w : World State Msg) where
-    back_ns : back records (ns ++ es) w ≡ back records ns (back records es w)
-    back_ns = back-append records ns es w
+  -- of five lists in a row the last is taken back first
+  module _ (js ks ls ms es : List (Small State Msg Undo)) (w : World State Msg) where
+    back_ms : back records (ms ++ es) w ≡ back records ms (back records es w)
+    back_ms = back-append records ms es w
 
-    back_ms : back records (ms ++ (ns ++ es)) w ≡ back records ms (back records ns (back records es w))
-    back_ms = back-append records ms (ns ++ es) w ∙ ap (back records ms) back_ns
+    back_ls : back records (ls ++ (ms ++ es)) w ≡ back records ls (back records ms (back records es w))
+    back_ls = back-append records ls (ms ++ es) w ∙ ap (back records ls) back_ms
 
-    back_ls : back records (ls ++ (ms ++ (ns ++ es))) w ≡ back records ls (back records ms (back records ns (back records es w)))
-    back_ls = back-append records ls (ms ++ (ns ++ es)) w ∙ ap (back records ls) back_ms
+    back_ks : back records (ks ++ (ls ++ (ms ++ es))) w ≡ back records ks (back records ls (back records ms (back records es w)))
+    back_ks = back-append records ks (ls ++ (ms ++ es)) w ∙ ap (back records ks) back_ls
 
-    back_ks : back records (ks ++ (ls ++ (ms ++ (ns ++ es)))) w ≡ back records ks (back records ls (back records ms (back records ns (back records es w))))
-    back_ks = back-append records ks (ls ++ (ms ++ (ns ++ es))) w ∙ ap (back records ks) back_ls
+    pub back_five : back records (js ++ (ks ++ (ls ++ (ms ++ es)))) w
+        ≡ back records js (back records ks (back records ls (back records ms (back records es w))))
+    back_five = back-append records js (ks ++ (ls ++ (ms ++ es))) w ∙ ap (back records js) back_ks
 
-    pub back_six : back records (js ++ (ks ++ (ls ++ (ms ++ (ns ++ es))))) w
-        ≡ back records js (back records ks (back records ls (back records ms (back records ns (back records es w)))))
-    back_six = back-append records js (ks ++ (ls ++ (ms ++ (ns ++ es)))) w ∙ ap (back records js) back_ks
+    module _ (f : Fits records (js ++ (ks ++ (ls ++ (ms ++ es)))) w) where
+      fits_ks : Fits records (ks ++ (ls ++ (ms ++ es))) w
+      fits_ks = Fits-end js (ks ++ (ls ++ (ms ++ es))) w f
 
-    module _ (f : Fits records (js ++ (ks ++ (ls ++ (ms ++ (ns ++ es))))) w) where
-      fits_ks : Fits records (ks ++ (ls ++ (ms ++ (ns ++ es)))) w
-      fits_ks = Fits-end js (ks ++ (ls ++ (ms ++ (ns ++ es)))) w f
+      fits_ls : Fits records (ls ++ (ms ++ es)) w
+      fits_ls = Fits-end ks (ls ++ (ms ++ es)) w fits_ks
 
-      fits_ls : Fits records (ls ++ (ms ++ (ns ++ es))) w
-      fits_ls = Fits-end ks (ls ++ (ms ++ (ns ++ es))) w fits_ks
+      fits_ms : Fits records (ms ++ es) w
+      fits_ms = Fits-end ls (ms ++ es) w fits_ls
 
-      fits_ms : Fits records (ms ++ (ns ++ es)) w
-      fits_ms = Fits-end ls (ms ++ (ns ++ es)) w fits_ls
+      pub fifth_fits : Fits records es w
+      fifth_fits = Fits-end ms es w fits_ms
 
-      fits_ns : Fits records (ns ++ es) w
-      fits_ns = Fits-end ms (ns ++ es) w fits_ms
+      pub fourth_fits : Fits records ms (back records es w)
+      fourth_fits = Fits-front records ms es w fits_ms
 
-      pub sixth_fits : Fits records es w
-      sixth_fits = Fits-end ns es w fits_ns
+      pub third_fits : Fits records ls (back records ms (back records es w))
+      third_fits = subst (Fits records ls) back_ms (Fits-front records ls (ms ++ es) w fits_ls)
 
-      pub fifth_fits : Fits records ns (back records es w)
-      fifth_fits = Fits-front records ns es w fits_ns
+      pub second_fits : Fits records ks (back records ls (back records ms (back records es w)))
+      second_fits = subst (Fits records ks) back_ls (Fits-front records ks (ls ++ (ms ++ es)) w fits_ks)
 
-      pub fourth_fits : Fits records ms (back records ns (back records es w))
-      fourth_fits = subst (Fits records ms) back_ns (Fits-front records ms (ns ++ es) w fits_ms)
-
-      pub third_fits : Fits records ls (back records ms (back records ns (back records es w)))
-      third_fits = subst (Fits records ls) back_ms (Fits-front records ls (ms ++ (ns ++ es)) w fits_ls)
-
-      pub second_fits : Fits records ks (back records ls (back records ms (back records ns (back records es w))))
-      second_fits = subst (Fits records ks) back_ls (Fits-front records ks (ls ++ (ms ++ (ns ++ es))) w fits_ks)
-
-      pub first_fits : Fits records js (back records ks (back records ls (back records ms (back records ns (back records es w)))))
-      first_fits = subst (Fits records js) back_ks (Fits-front records js (ks ++ (ls ++ (ms ++ (ns ++ es)))) w f)
+      pub first_fits : Fits records js (back records ks (back records ls (back records ms (back records es w))))
+      first_fits = subst (Fits records js) back_ks (Fits-front records js (ks ++ (ls ++ (ms ++ es))) w f)
 
 -- only a reaction, and what is none of the usual changes, is counted
 module _ (State Msg Undo : Type 0) where
@@ -122,27 +113,20 @@ module _ (State Msg Undo : Type 0) where
       let none : count_by is_reaction two ≡ 0 = refl in
       count-append (sent_changes n) two ∙ omega arith
 
-  count_words : (b : Bool) → count_by is_reaction (words_change {State = State} {Msg = Msg} {Undo = Undo} b) ≡ 0
-  count_words true = refl
-  count_words false = refl
-
-  pub count_changes : (synced : Option (ℕ × disk.DiskUndo)) (drawn : Option ℕ) (acted : Option (ℕ × Undo)) (sent : ℕ) (words : Bool) (others : List (Compact State Msg Undo))
-      → count_by is_reaction (changes_of synced drawn acted sent words others)
+  pub count_changes : (synced : Option (ℕ × disk.DiskUndo)) (drawn : Option ℕ) (acted : Option (ℕ × Undo)) (sent : ℕ) (others : List (Compact State Msg Undo))
+      → count_by is_reaction (changes_of synced drawn acted sent others)
       ≡ count_by is_reaction (map {B = Small State Msg Undo} unboxed others) + count_by is_reaction (acted_change {State = State} {Msg = Msg} acted)
-  count_changes synced drawn acted sent words others =
+  count_changes synced drawn acted sent others =
       let es : List (Small State Msg Undo) = map unboxed others in
-      let ns : List (Small State Msg Undo) = words_change words in
       let ms : List (Small State Msg Undo) = sent_changes sent in
       let ls : List (Small State Msg Undo) = acted_change acted in
       let ks : List (Small State Msg Undo) = drawn_change drawn in
       let js : List (Small State Msg Undo) = synced_change synced in
-      let a = count-append js (ks ++ (ls ++ (ms ++ (ns ++ es)))) in
-      let b = count-append ks (ls ++ (ms ++ (ns ++ es))) in
-      let c = count-append ls (ms ++ (ns ++ es)) in
-      let d = count-append ms (ns ++ es) in
-      let e = count-append ns es in
+      let a = count-append js (ks ++ (ls ++ (ms ++ es))) in
+      let b = count-append ks (ls ++ (ms ++ es)) in
+      let c = count-append ls (ms ++ es) in
+      let d = count-append ms es in
       let p = count_synced synced in
       let q = count_drawn drawn in
       let r = count_sent sent in
-      let s = count_words words in
       omega arith

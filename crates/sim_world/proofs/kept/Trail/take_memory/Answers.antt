@@ -1,10 +1,10 @@
 use Rattle.std.proofs.Common.{map, ap, ◌∙◌}
-use Rattle.sim_world.specs.Trail.{unboxed, synced_change, drawn_change, acted_change, sent_changes, words_change}
+use Rattle.sim_world.specs.Trail.{unboxed, synced_change, drawn_change, acted_change, sent_changes}
 use Rattle.sim_world.proofs.Trails.{refilled}
 use Rattle.sim_world.proofs.kept.Trail.take_memory.Goals as goal
 
 pub returns : goal.returns
 returns g c =
     let i = c.self.inside in
-    refilled (synced_change i.synced) (drawn_change i.drawn) (acted_change i.acted) (sent_changes i.sent) (words_change i.words) (map unboxed i.others.items) (map unboxed c.clear.new.self.items)
+    refilled (synced_change i.synced) (drawn_change i.drawn) (acted_change i.acted) (sent_changes i.sent) (map unboxed i.others.items) (map unboxed c.clear.new.self.items)
     (ap (λ t. t.items) c.self.view_is ∙ c.requires) (ap (λ l. map unboxed l) c.clear.ensures.items)
