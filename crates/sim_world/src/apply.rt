@@ -80,7 +80,7 @@ impl<N: Node> Parts<N> {
         Ok(())
     }
 
-    // An event. An empty record gets the small changes, and what the event can change of the index as it stood before.
+    // An event. The record gets its small changes alone, and what the event can change of the index as it stood before.
     fn event(
         &mut self,
         alloc: Global,
@@ -97,7 +97,6 @@ impl<N: Node> Parts<N> {
         requires index { IsIndex index.old self.old.world }
         requires there { changing_host event self.old.world < length self.old.world.hosts }
         requires spent { effects.old ≡ record { hosts = sc.now.setup.hosts; list = [] } }
-        requires empty { undo.old.changes ≡ [] }
         ensures world { OnOk result (self.new ≡ record self.old { world = after (rules N.laws N.PROBES sc.now) event self.old.world }) }
         ensures stopped { IsTrue (is_for_stopped event self.old.world) → IsOk result }
         ensures trail { OnOk result (IsTrail N.records undo.new.changes self.old.world self.new.world) }
@@ -114,11 +113,13 @@ impl<N: Node> Parts<N> {
                 Ok(())
             }
             Event::Advance(to) => {
+                undo.clear();
                 undo.beside = index.beside(0);
                 self.advance(&mut undo.trail, to)?;
                 Ok(())
             }
             Event::Fault(fault) => {
+                undo.clear();
                 undo.beside = index.beside(stopped_by(fault));
                 self.fail(alloc, sc, index, &mut undo.trail, fault, meter)?;
                 Ok(())
@@ -144,7 +145,7 @@ impl<N: Node> Parts<N> {
 }
 
 impl<N: Node> Cluster<N> {
-    // An event that can happen. An empty record becomes the one by which it is taken back.
+    // An event that can happen. The record becomes the one by which it is taken back.
     fn apply(
         &mut self,
         alloc: Global,
@@ -155,7 +156,6 @@ impl<N: Node> Cluster<N> {
         requires held { IsHeld N.told self.old }
         requires can { refusal_of (rules N.laws N.PROBES self.old.scenario) event self.old.parts.world ≡ None }
         requires young { self.old.age < 65536 }
-        requires empty { undo.old.changes ≡ [] }
         ensures held { OnOk result (IsHeld N.told self.new) }
         ensures answers { OnOk result (
             AnswersFor (rules N.laws N.PROBES self.old.scenario) N.records undo.new.changes self.old.parts.world event self.new.parts.world) }
@@ -256,7 +256,6 @@ impl<N: Node> World<N> {
         ensures work { OnOk result (N.Meter.work meter.new ≡ turned_by (turns_of self.world event) (N.Meter.work meter.old)) }
     {
         let World { mut cluster } = self;
-        undo.clear();
         cluster.apply(alloc, event, undo, meter)?;
         Ok(World { cluster })
     }

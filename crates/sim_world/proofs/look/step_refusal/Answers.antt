@@ -1,7 +1,6 @@
-use Rattle.std.proofs.Common.{◌≡◌, [], ◌∷◌, Bool, true, false, cond, List, Option, Some, None, length, is_some, refl, sym, ap, ◌∙◌, arith}
+use Rattle.std.proofs.Common.{◌≡◌, [], ◌∷◌, true, false, cond, List, Some, None, length, is_some, refl, sym, ap, ◌∙◌}
 use Rattle.sim_queue.specs.declared.Item.{Item}
 use Rattle.sim_queue.specs.Pending.{first}
-use Rattle.sim_world.specs.declared.Refusal.{Refusal}
 use Rattle.sim_world.specs.declared.Refusal.TheVariants as refusal
 use Rattle.sim_world.proofs.look.step_refusal.Goals as goal
 
