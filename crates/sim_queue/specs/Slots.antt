@@ -35,10 +35,6 @@ Covers {B} keys slots base = (i : ℕ) (e : ℕ × B) → at slots i ≡ Some e 
 abbrev pub CoversBelow : {B : Type 0} → ℕ → List (Reverse (ℕ × ℕ)) → List (Option (ℕ × B)) → ℕ → Type 0
 CoversBelow {B} n keys slots base = (i : ℕ) (e : ℕ × B) → i < n → at slots i ≡ Some e → has e.0 (base + i) keys ≡ true
 
--- each pending item of the first n slots has a serial below this one
-abbrev pub AreBelow : {B : Type 0} → ℕ → ℕ → List (Option (ℕ × B)) → ℕ → Type 0
-AreBelow {B} serial n slots base = (i : ℕ) (e : ℕ × B) → i < n → at slots i ≡ Some e → base + i < serial
-
 -- the key at the top, if there is one, is that of a pending item
 abbrev pub IsTopLive : {B : Type 0} → List (Reverse (ℕ × ℕ)) → List (Option (ℕ × B)) → ℕ → Type 0
 IsTopLive [] slots base = Unit {0}

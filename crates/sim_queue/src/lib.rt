@@ -76,13 +76,6 @@ impl<B> Queue<B> {
         self.store.first()
     }
 
-    /// The due (ms), the serial and the body of the item with the least serial that is at least `serial`.
-    pub fn next_from(&self, serial: u64) -> Option<(u64, u64, &B)>
-        ensures { option_map (λ r. item_of r.1 (r.0, r.2.now)) result ≡ find (λ x. nat_le serial x.serial) self.now.items }
-    {
-        self.store.next_from(serial)
-    }
-
     /// The least serial, of at least `serial`, of an item whose body the test takes.
     pub fn next_that<F: Fn(&B) -> bool>(&self, serial: u64, test: F) -> Option<u64>
         requires { F.IsAlwaysCallable test }

@@ -65,20 +65,6 @@ impl<B> Store<B> {
         Some((due, serial, body))
     }
 
-    /// The item of the least serial that is at least this one.
-    pub(crate) fn next_from(&self, serial: u64) -> Option<(u64, u64, &B)>
-        requires { (pending_in self.now).next_serial ≤ 2 ^ 40 }
-        ensures { option_map (λ r. item_of r.1 (r.0, r.2.now)) result ≡ find (λ x. nat_le serial x.serial) (pending_in self.now).items }
-    {
-        let start = serial.saturating_sub(self.slots.base()) as usize;
-        for place in start..self.slots.len() {
-            if let Some((due, body)) = self.slots.get(place) {
-                return Some((due, self.slots.base() + place as u64, body));
-            }
-        }
-        None
-    }
-
     /// The least serial, of at least this one, of an item whose body the test takes.
     pub(crate) fn next_that<F: Fn(&B) -> bool>(&self, serial: u64, test: &F) -> Option<u64>
         requires small { (pending_in self.now).next_serial ≤ 2 ^ 40 }
