@@ -177,6 +177,3 @@ impl<B> Queue<B> {
         })
     }
 }
-
-#[cfg(test)]
-mod tests;
