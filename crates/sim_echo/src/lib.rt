@@ -2,8 +2,6 @@
 #![tactic(auto)]
 
 mod echo;
-#[cfg(test)]
-mod tests;
 
 pub use echo::Echo;
 

@@ -10,6 +10,3 @@ pub use head::{HeadFault, read_head};
 pub use lines::{NextLine, next_line};
 pub use reading::{Ahead, Next, ReaderFault, next_byte};
 pub use writing::{Outlet, WriterFault, put};
-
-#[cfg(test)]
-mod tests;

@@ -47,6 +47,3 @@ pub struct LinkUndo {
     pub change: Change,
     pub was: LinkState,
 }
-
-#[cfg(test)]
-mod tests;

@@ -4,8 +4,6 @@
 mod effects;
 mod meter;
 mod node;
-#[cfg(test)]
-mod tests;
 
 ghost use Rattle.std.specs.Prelude.{◌≡◌};
 ghost use Rattle.sim_node.specs.Node.{is_server};

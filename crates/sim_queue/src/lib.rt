@@ -170,6 +170,3 @@ impl<B> Queue<B> {
         })
     }
 }
-
-#[cfg(test)]
-mod tests;

@@ -1,4 +1,4 @@
-use super::*;
+use sim_lines::{Ahead, HeadFault, NextLine, Outlet, next_line, put, read_head};
 use std::alloc::Global;
 use std::io;
 use std::io::{ErrorKind, Read, Write};

@@ -1,7 +1,7 @@
 ghost use Rattle.std.specs.Prelude.{◌≡◌, OnOk};
 ghost use Rattle.sim_node.specs.Node.{IsSetup, IsFrom};
 
-use crate::{Echo, EchoMsg, EchoUndo};
+use sim_echo::{Echo, EchoMsg, EchoUndo};
 use sim_node::{Effect, Effects, Input, Meter, NoMemory, Node, Setup, there_and_back};
 use std::alloc::Global;
 use std::process::Abort;

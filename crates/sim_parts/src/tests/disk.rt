@@ -1,0 +1,198 @@
+//! What a disk holds after writes, syncs and crashes, and after these are undone.
+ghost use Rattle.std.specs.Prelude.{◌≡◌, ◌+◌, ◌≤◌, IfOk};
+
+use sim_disk::{Disk, NoMemory, WriteFault};
+use std::alloc::Global;
+use std::process::Abort;
+use std::test::Fail;
+
+#[derive(Clone, Copy)]
+enum Act {
+    Write(u32, &'static [u8]),
+    // A write, for which a sync asks with so many writes twice; all three are taken back.
+    WriteAndBack(u32, &'static [u8], u32),
+    // It would end past the disk.
+    OutOfDisk(u32, &'static [u8]),
+    // A sync asks for so many writes, and comes.
+    Sync(u32),
+    // The words of a crash.
+    Crash(&'static [u32]),
+    // The same, the stable bytes then, and the crash taken back.
+    CrashAndBack(&'static [u32], &'static [u8]),
+    // The stable bytes, and how many writes are not stable.
+    Is(&'static [u8], u32),
+    Read(&'static [u8]),
+}
+
+fn is(disk: &Disk, stable: &[u8], unsynced: u32) -> bool {
+    disk.stable() == stable && disk.unsynced() == unsynced
+}
+
+// Whether the write is made, and not out of disk.
+fn write(disk: &mut Disk, offset: u32, bytes: &[u8]) -> Result<bool, NoMemory>
+    ensures { disk.new.asked ≡ disk.old.asked }
+{
+    if bytes.is_empty() || bytes.len() > 64 || disk.unsynced() >= 1 << 24 {
+        return Err(NoMemory);
+    }
+    match disk.write(offset, bytes) {
+        Ok(_undo) => Ok(true),
+        Err(WriteFault::OutOfDisk) => Ok(false),
+        Err(WriteFault::NoMemory) => Err(NoMemory),
+    }
+}
+
+fn write_and_back(disk: &mut Disk, offset: u32, bytes: &[u8], count: u32) -> bool {
+    if bytes.is_empty() || bytes.len() > 64 || disk.unsynced() >= 1 << 24 {
+        return false;
+    }
+    let Ok(added) = disk.write(offset, bytes) else {
+        return false;
+    };
+    let (first, asked) = disk.ask();
+    disk.undo(asked);
+    let (second, asked) = disk.ask();
+    disk.undo(asked);
+    disk.undo(added);
+    first == count && second == count
+}
+
+fn sync(alloc: Global, disk: &mut Disk) -> Result<u32, NoMemory> {
+    let (count, _asked) = disk.ask();
+    disk.sync(alloc, count)?;
+    Ok(count)
+}
+
+fn crash(alloc: Global, disk: &mut Disk, words: &[u32]) -> Result<bool, NoMemory> {
+    if words.len() != disk.unsynced() as usize {
+        return Ok(false);
+    }
+    disk.crash(alloc, words)?;
+    Ok(true)
+}
+
+fn crash_and_back(
+    alloc: Global,
+    disk: &mut Disk,
+    words: &[u32],
+    stable: &[u8],
+) -> Result<bool, NoMemory> {
+    if words.len() != disk.unsynced() as usize {
+        return Ok(false);
+    }
+    let undo = disk.crash(alloc, words)?;
+    let well = is(disk, stable, 0);
+    disk.undo(undo);
+    Ok(well)
+}
+
+// Does the act, and says whether the answer is the wanted one.
+fn goes(alloc: Global, disk: &mut Disk, act: Act) -> Result<bool, NoMemory> {
+    match act {
+        Act::Write(offset, bytes) => write(disk, offset, bytes),
+        Act::WriteAndBack(offset, bytes, count) => Ok(write_and_back(disk, offset, bytes, count)),
+        Act::OutOfDisk(offset, bytes) => Ok(!write(disk, offset, bytes)?),
+        Act::Sync(count) => Ok(sync(alloc, disk)? == count),
+        Act::Crash(words) => crash(alloc, disk, words),
+        Act::CrashAndBack(words, stable) => crash_and_back(alloc, disk, words, stable),
+        Act::Is(stable, unsynced) => Ok(is(disk, stable, unsynced)),
+        Act::Read(bytes) => Ok(disk.read(alloc)?.as_slice() == bytes),
+    }
+}
+
+fn walk(rt: &impl Abort, alloc: Global, disk: &mut Disk, acts: &[Act]) -> Result<(), NoMemory> {
+    for act in acts {
+        assert!(rt; goes(alloc, disk, *act)?);
+    }
+    Ok(())
+}
+
+// Four stable bytes, all 0.
+const ZEROS: [Act; 3] = [
+    Act::Write(0, &[0; 4]),
+    Act::Sync(1),
+    Act::Is(&[0; 4], 0),
+];
+
+#[test]
+fn torn_write(rt: HostRuntime) -> Result<(), Fail> {
+    let acts = [
+        Act::Write(0, &[0x11, 0x22, 0x33, 0x44]),
+        Act::CrashAndBack(&[0], &[0; 4]),
+        Act::CrashAndBack(&[1], &[0x11, 0x22, 0x33, 0x44]),
+        Act::CrashAndBack(&[5], &[0x11, 0, 0, 0]),
+        Act::CrashAndBack(&[2], &[0; 4]),
+        Act::Is(&[0; 4], 1),
+        Act::Read(&[0x11, 0x22, 0x33, 0x44]),
+    ];
+    let mut disk = Disk::new(rt.alloc());
+    walk(&rt, rt.alloc(), &mut disk, &ZEROS)?;
+    Ok(walk(&rt, rt.alloc(), &mut disk, &acts)?)
+}
+
+#[test]
+fn gap(rt: HostRuntime) -> Result<(), Fail> {
+    let acts = [
+        Act::Write(6, &[7, 8]),
+        Act::Read(&[0, 0, 0, 0, 0, 0, 7, 8]),
+        Act::CrashAndBack(&[2], &[0; 4]),
+        Act::Crash(&[5]),
+        Act::Is(&[0, 0, 0, 0, 0, 0, 7], 0),
+        Act::CrashAndBack(&[], &[0, 0, 0, 0, 0, 0, 7]),
+        Act::Is(&[0, 0, 0, 0, 0, 0, 7], 0),
+    ];
+    let mut disk = Disk::new(rt.alloc());
+    walk(&rt, rt.alloc(), &mut disk, &ZEROS)?;
+    Ok(walk(&rt, rt.alloc(), &mut disk, &acts)?)
+}
+
+// Two writes, for each of which a sync asks: how many writes each of these covers. Where they do not cover all, 0.
+fn ask_twice(disk: &mut Disk) -> Result<(u32, u32), NoMemory>
+    ensures { IfOk result (λ counts. counts.0 + counts.1 ≤ disk.new.asked) }
+{
+    write(disk, 0, &[1])?;
+    let (first, _asked) = disk.ask();
+    write(disk, 1, &[2])?;
+    let (second, _asked) = disk.ask();
+    if first.checked_add(second) != Some(disk.unsynced()) {
+        return Ok((0, 0));
+    }
+    Ok((first, second))
+}
+
+#[test]
+fn syncs_in_flight(rt: HostRuntime) -> Result<(), Fail> {
+    let alloc = rt.alloc();
+    let mut disk = Disk::new(alloc);
+    walk(&rt, alloc, &mut disk, &ZEROS)?;
+    let (first, second) = ask_twice(&mut disk)?;
+    assert_eq!(rt; (first, second), (1, 1));
+    let synced = disk.sync(alloc, first)?;
+    assert!(rt; is(&disk, &[1, 0, 0, 0], 1));
+    let mut other = disk.copy(alloc)?;
+    disk.undo(synced);
+    assert!(rt; is(&disk, &[0; 4], 2));
+    other.sync(alloc, second)?;
+    assert!(rt; is(&other, &[1, 2, 0, 0], 0));
+    other.sync(alloc, 0)?;
+    assert!(rt; is(&other, &[1, 2, 0, 0], 0));
+    Ok(())
+}
+
+#[test]
+fn out_of_disk(rt: HostRuntime) -> Result<(), Fail> {
+    let acts = [
+        Act::OutOfDisk(4033, &[1; 64]),
+        Act::OutOfDisk(4096, &[1]),
+        Act::OutOfDisk(u32::MAX, &[1]),
+        Act::WriteAndBack(1, &[2], 1),
+        Act::Is(&[], 0),
+        Act::Write(4032, &[1; 64]),
+    ];
+    let mut disk = Disk::new(rt.alloc());
+    walk(&rt, rt.alloc(), &mut disk, &acts)?;
+    let read = disk.read(rt.alloc())?;
+    assert_eq!(rt; read.len(), 4096);
+    assert_eq!(rt; (read[4031], read[4032]), (0, 1));
+    Ok(())
+}

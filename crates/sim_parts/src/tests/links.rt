@@ -1,0 +1,212 @@
+//! The table of changes of a direction, and that each change is taken back.
+ghost use Rattle.std.specs.Prelude.{◌≡◌, IfOk};
+
+use sim_links::{Change, LinkState, Links, NoMemory, Way, Ways};
+use std::alloc::Global;
+use std::process::Abort;
+use std::test::Fail;
+
+// What is done with the direction from 3 to 5.
+#[derive(Clone, Copy)]
+enum Act {
+    // Its state, and how many messages it holds.
+    Is(LinkState, u32),
+    // A change, and the messages that leave.
+    Change(Change, &'static [u32]),
+    // A change, the messages that leave, the state then and how many it holds then; the change is taken back.
+    ChangeAndBack(Change, &'static [u32], LinkState, u32),
+    Keep(u32),
+    Unkeep(u32),
+}
+
+fn is_in(links: &Links<u32>, state: LinkState, count: u32) -> bool {
+    links.state(3, 5) == state && links.held(3, 5) == count
+}
+
+fn change_and_back(
+    alloc: Global,
+    links: &mut Links<u32>,
+    change: Change,
+    left: &[u32],
+    state: LinkState,
+    count: u32,
+) -> bool {
+    let (undo, messages) = links.change(alloc, 3, 5, change);
+    let well = is_in(links, state, count) && messages.as_slice() == left;
+    links.undo(undo, messages);
+    well
+}
+
+fn keep(links: &mut Links<u32>, message: u32) -> Result<bool, NoMemory> {
+    if !matches!(links.state(3, 5), LinkState::Held) || links.held(3, 5) >= 4096 {
+        return Ok(false);
+    }
+    links.keep(3, 5, message)?;
+    Ok(true)
+}
+
+fn unkeep(links: &mut Links<u32>) -> Option<u32> {
+    if links.held(3, 5) == 0 {
+        return None;
+    }
+    Some(links.unkeep(3, 5))
+}
+
+// Does the act, and says whether the answer is the wanted one.
+fn goes(alloc: Global, links: &mut Links<u32>, act: Act) -> Result<bool, NoMemory> {
+    let well = match act {
+        Act::Is(state, count) => is_in(links, state, count),
+        Act::Change(change, left) => links.change(alloc, 3, 5, change).1.as_slice() == left,
+        Act::ChangeAndBack(change, left, state, count) => {
+            change_and_back(alloc, links, change, left, state, count)
+        }
+        Act::Keep(message) => keep(links, message)?,
+        Act::Unkeep(message) => unkeep(links) == Some(message),
+    };
+    Ok(well)
+}
+
+fn walk(
+    rt: &impl Abort,
+    alloc: Global,
+    links: &mut Links<u32>,
+    acts: &[Act],
+) -> Result<(), NoMemory> {
+    for act in acts {
+        assert!(rt; goes(alloc, links, *act)?);
+    }
+    Ok(())
+}
+
+const HELD: [Act; 3] = [Act::Change(Change::Hold, &[]), Act::Keep(7), Act::Keep(8)];
+
+const CUT: [Act; 1] = [Act::Change(Change::Cut, &[])];
+
+#[test]
+fn an_open_direction_by_the_table(rt: HostRuntime) -> Result<(), Fail> {
+    let acts = [
+        Act::ChangeAndBack(Change::Hold, &[], LinkState::Held, 0),
+        Act::ChangeAndBack(Change::Cut, &[], LinkState::Cut, 0),
+        Act::ChangeAndBack(Change::Release, &[], LinkState::Through, 0),
+        Act::ChangeAndBack(Change::Repair, &[], LinkState::Through, 0),
+        Act::Is(LinkState::Through, 0),
+    ];
+    let mut links = Links::new(rt.alloc())?;
+    Ok(walk(&rt, rt.alloc(), &mut links, &acts)?)
+}
+
+#[test]
+fn a_held_direction_by_the_table(rt: HostRuntime) -> Result<(), Fail> {
+    let acts = [
+        Act::ChangeAndBack(Change::Hold, &[], LinkState::Held, 2),
+        Act::ChangeAndBack(Change::Cut, &[7, 8], LinkState::Cut, 0),
+        Act::ChangeAndBack(Change::Release, &[7, 8], LinkState::Through, 0),
+        Act::ChangeAndBack(Change::Repair, &[], LinkState::Held, 2),
+        Act::Is(LinkState::Held, 2),
+        Act::Unkeep(8),
+        Act::Is(LinkState::Held, 1),
+        Act::Unkeep(7),
+        Act::Is(LinkState::Held, 0),
+    ];
+    let mut links = Links::new(rt.alloc())?;
+    walk(&rt, rt.alloc(), &mut links, &HELD)?;
+    Ok(walk(&rt, rt.alloc(), &mut links, &acts)?)
+}
+
+#[test]
+fn a_cut_direction_by_the_table(rt: HostRuntime) -> Result<(), Fail> {
+    let acts = [
+        Act::ChangeAndBack(Change::Hold, &[], LinkState::Held, 0),
+        Act::ChangeAndBack(Change::Cut, &[], LinkState::Cut, 0),
+        Act::ChangeAndBack(Change::Release, &[], LinkState::Cut, 0),
+        Act::ChangeAndBack(Change::Repair, &[], LinkState::Through, 0),
+        Act::Is(LinkState::Cut, 0),
+    ];
+    let mut links = Links::new(rt.alloc())?;
+    walk(&rt, rt.alloc(), &mut links, &CUT)?;
+    Ok(walk(&rt, rt.alloc(), &mut links, &acts)?)
+}
+
+// Whether each direction but that from 3 to 5 is open.
+fn others_are_open(links: &Links<u32>) -> bool {
+    for at in 0..1024u16 {
+        let (a, b) = (at / 32, at % 32);
+        if (a, b) != (3, 5) && links.state(a, b) != LinkState::Through {
+            return false;
+        }
+    }
+    true
+}
+
+#[test]
+fn other_directions_stay(rt: HostRuntime) -> Result<(), Fail> {
+    let mut links = Links::new(rt.alloc())?;
+    walk(&rt, rt.alloc(), &mut links, &HELD)?;
+    assert!(rt; others_are_open(&links));
+    walk(&rt, rt.alloc(), &mut links, &[Act::Change(Change::Cut, &[7, 8])])?;
+    assert!(rt; others_are_open(&links));
+    Ok(())
+}
+
+#[test]
+fn a_copy_is_equal(rt: HostRuntime) -> Result<(), Fail> {
+    let mut links = Links::new(rt.alloc())?;
+    walk(&rt, rt.alloc(), &mut links, &HELD)?;
+    let mut copy = links.copy(rt.alloc(), |message: &u32| Ok(*message))?;
+    assert!(rt; others_are_open(&copy));
+    walk(&rt, rt.alloc(), &mut copy, &[Act::Is(LinkState::Held, 2), Act::Unkeep(8)])?;
+    walk(&rt, rt.alloc(), &mut links, &[Act::Is(LinkState::Held, 2)])?;
+    Ok(())
+}
+
+// Messages that a trait copies.
+trait Message: Drop + Sized {
+    fn copy_of(alloc: Global, message: &Self) -> Result<Self, NoMemory>
+        ensures { IfOk result (λ copy. copy ≡ message.now) };
+}
+
+impl Message for u32 {
+    fn copy_of(_alloc: Global, message: &Self) -> Result<Self, NoMemory> {
+        Ok(*message)
+    }
+}
+
+fn copy_of<M: Message>(alloc: Global, links: &Links<M>) -> Result<Links<M>, NoMemory>
+    ensures { IfOk result (λ copy. copy ≡ links.now) }
+{
+    links.copy(alloc, |message| M::copy_of(alloc, message))
+}
+
+#[test]
+fn a_copy_by_a_trait_is_equal(rt: HostRuntime) -> Result<(), Fail> {
+    let mut links = Links::new(rt.alloc())?;
+    walk(&rt, rt.alloc(), &mut links, &CUT)?;
+    let copy = copy_of(rt.alloc(), &links)?;
+    assert!(rt; is_in(&copy, LinkState::Cut, 0));
+    Ok(())
+}
+
+const SLOW: Way = Way {
+    latency_min: 5,
+    latency_max: 60_000,
+    loss: 1_000,
+};
+
+const QUICK: Way = Way {
+    latency_min: 1,
+    latency_max: 2,
+    loss: 3,
+};
+
+#[test]
+fn ways_are_set_one_by_one(rt: HostRuntime) {
+    let mut ways = Ways::all(SLOW);
+    assert_eq!(rt; ways.way(31, 31), SLOW);
+    ways.set(3, 5, QUICK);
+    let copy = ways.copy();
+    for at in 0..1024u16 {
+        let (a, b) = (at / 32, at % 32);
+        let wanted = if (a, b) == (3, 5) { QUICK } else { SLOW };
+        assert_eq!(rt; copy.way(a, b), wanted, "from {a} to {b}");
+    }
+}

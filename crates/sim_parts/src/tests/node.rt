@@ -1,0 +1,133 @@
+//! Who is a server, and the effects of a reaction in their order.
+ghost use Rattle.std.specs.Prelude.{◌≡◌};
+
+use sim_node::{Effect, Effects, Setup, serves};
+use std::process::Abort;
+use std::test::Fail;
+
+// What is asked for.
+#[derive(Clone, Copy)]
+enum Asked {
+    Send(u16, u32),
+    Timer(u32),
+    Write(u32, &'static [u8]),
+    Sync,
+    Done,
+}
+
+#[derive(Clone, Copy)]
+enum Act {
+    Ask(Asked),
+    Take(Asked),
+    // There is no effect to take.
+    TakeNone,
+    // How many there are.
+    Count(usize),
+}
+
+/// Two servers and two clients, each of the clients with three operations.
+const FOUR_HOSTS: Setup = Setup {
+    servers: 2,
+    hosts: 4,
+    ops: [3; 32],
+};
+
+// Asks for it, and says whether there was room.
+fn ask(effects: &mut Effects<u32>, asked: Asked) -> bool
+    requires { effects.old.hosts ≡ 4 }
+    ensures { effects.new.hosts ≡ 4 }
+{
+    if effects.len() >= 40 {
+        return false;
+    }
+    match asked {
+        Asked::Send(to, msg) if to < 4 => effects.send(to, msg),
+        Asked::Timer(delay) if 0 < delay && delay <= 60_000 => effects.timer(delay),
+        Asked::Write(offset, bytes) if !bytes.is_empty() && bytes.len() <= 64 => {
+            effects.write(offset, bytes)
+        }
+        Asked::Sync => effects.sync(),
+        Asked::Done => effects.done(),
+        _ => return false,
+    }
+    true
+}
+
+// Whether the effect is what was asked for.
+fn is(effect: &Effect<u32>, asked: Asked) -> bool {
+    match (effect, asked) {
+        (Effect::Send { to, msg }, Asked::Send(host, sent)) => *to == host && *msg == sent,
+        (Effect::Timer(delay), Asked::Timer(wanted)) => *delay == wanted,
+        (Effect::Write { offset, len, bytes }, Asked::Write(place, written)) => {
+            *offset == place && *len as usize == written.len() && bytes.starts_with(written)
+        }
+        (Effect::Sync, Asked::Sync) | (Effect::Done, Asked::Done) => true,
+        _ => false,
+    }
+}
+
+// Does the act, and says whether the answer is the wanted one.
+fn goes(effects: &mut Effects<u32>, act: Act) -> bool
+    requires { effects.old.hosts ≡ 4 }
+    ensures { effects.new.hosts ≡ 4 }
+{
+    match act {
+        Act::Ask(asked) => ask(effects, asked),
+        Act::Take(asked) => match effects.take_first() {
+            Some(effect) => is(&effect, asked),
+            None => false,
+        },
+        Act::TakeNone => effects.take_first().is_none(),
+        Act::Count(count) => effects.len() == count,
+    }
+}
+
+fn walk(rt: &impl Abort, effects: &mut Effects<u32>, acts: &[Act])
+    requires { effects.old.hosts ≡ 4 }
+    ensures { effects.new.hosts ≡ 4 }
+{
+    for act in acts {
+        assert!(rt; goes(effects, *act));
+    }
+}
+
+#[test]
+fn servers_come_first(rt: HostRuntime) {
+    for (host, server) in [(0, true), (1, true), (2, false), (3, false)] {
+        assert_eq!(rt; serves(&FOUR_HOSTS, host), server, "host {host}");
+    }
+}
+
+#[test]
+fn effects_come_in_order_and_are_used_again(rt: HostRuntime) -> Result<(), Fail> {
+    let acts = [
+        Act::Ask(Asked::Send(3, 7)),
+        Act::Ask(Asked::Timer(200)),
+        Act::Ask(Asked::Write(16, &[5, 6])),
+        Act::Ask(Asked::Sync),
+        Act::Ask(Asked::Done),
+        Act::Count(5),
+        Act::Take(Asked::Send(3, 7)),
+        Act::Take(Asked::Timer(200)),
+        Act::Take(Asked::Write(16, &[5, 6])),
+        Act::Take(Asked::Sync),
+        Act::Take(Asked::Done),
+        Act::TakeNone,
+        Act::Ask(Asked::Send(0, 8)),
+        Act::Take(Asked::Send(0, 8)),
+        Act::Count(0),
+    ];
+    let mut effects = Effects::new(rt.alloc(), &FOUR_HOSTS)?;
+    walk(&rt, &mut effects, &acts);
+    Ok(())
+}
+
+#[test]
+fn there_is_room_for_forty(rt: HostRuntime) -> Result<(), Fail> {
+    let mut effects = Effects::new(rt.alloc(), &FOUR_HOSTS)?;
+    walk(&rt, &mut effects, &[Act::Ask(Asked::Sync); 40]);
+    walk(&rt, &mut effects, &[Act::Count(40)]);
+    walk(&rt, &mut effects, &[Act::Take(Asked::Sync); 40]);
+    walk(&rt, &mut effects, &[Act::TakeNone]);
+    Ok(())
+}
