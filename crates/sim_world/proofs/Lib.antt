@@ -9,6 +9,7 @@ pub mod Counts
 pub mod Crashings
 pub mod Draws
 pub mod Dues
+pub mod Ends
 pub mod Facts
 pub mod Filters
 pub mod FirstDue

@@ -76,8 +76,7 @@ impl<N: Node> Parts<N> {
         ensures index { OnOk result (IsIndex index.new self.new.world) }
         ensures work { OnOk result (N.Meter.work meter.new ≡ turned_by (turns_of self.old.world (Event.Fault fault)) (N.Meter.work meter.old)) }
     {
-        self.fault(alloc, sc, index, trail, fault, meter)?;
-        Ok(())
+        self.fault(alloc, sc, index, trail, fault, meter)
     }
 
     // An event. The record gets its small changes alone, and what the event can change of the index as it stood before.
