@@ -1,5 +1,5 @@
 use Rattle.std.proofs.Common.{◌≢◌, ◌+◌, ◌<◌, length, length-set, arith, below_more, add_assoc, get_or-set_other, get_or-set_same}
-use Rattle.sim_streams.proofs.WindowLemmas.{next_is_word}
+use Rattle.sim_streams.proofs.WordLemmas.{next_is_word}
 use Rattle.sim_streams.proofs.window.Goals as goal
 
 pub fill-preserved : goal.fill-preserved

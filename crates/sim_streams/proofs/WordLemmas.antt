@@ -1,20 +1,9 @@
--- Lemmas on the windows of the streams.
+-- Lemmas on the words of the streams.
 use Rattle.std.proofs.Common.{◌≡◌, ℕ, ◌+◌, ◌<◌, List, arith, ap, ◌∙◌}
-use Rattle.std.specs.Prelude.{replicate, slice_index}
-use Rattle.std.proofs.lemmas.List.{get_or-replicate}
 use Rattle.sim_streams.specs.Word.{word}
 use Rattle.std.proofs.Common.{◌%◌, ◌^◌}
 use Rattle.std.proofs.Math.Nat.{mod-eq_of_lt}
 use Rattle.rand_chacha.specs.ChaCha.{ChaCha, key_of, next_word}
-use Rattle.sim_streams.specs.Windows.{AreWords}
-
--- with no word known, there is nothing to show
-pub no_words : (seed starts : List ℕ) (words : List (List ℕ)) → AreWords seed starts (replicate 34 0) words
-no_words seed starts words =
-    let none : (s : ℕ) → s < 34 → slice_index (replicate 34 0) s ≡ 0 = λ s below. get_or-replicate 34 s 0 0 below in record {
-      within = λ s below. omega (arith, none s below);
-      right = λ s i below there. absurd (omega (arith, none s below));
-    }
 
 -- what a generator gives next, where it stands at place p of a stream of the seed
 pub next_is_word : (seed : List ℕ) (s p w : ℕ) (g h : ChaCha)

@@ -1,0 +1,17 @@
+-- What is kept of the words of the streams.
+use Rattle.std.specs.Prelude.{◌≡◌, ℕ, ◌+◌, ◌<◌, List, length, slice_index, slice_index_or}
+use Rattle.sim_streams.specs.declared.Kept.{Kept}
+use Rattle.sim_streams.specs.Word.{word}
+
+-- these are the words of a stream from a place on
+abbrev pub AreWords : List ℕ → ℕ → ℕ → List ℕ → Type 0
+AreWords seed stream first words = (i : ℕ) → i < length words → slice_index words i ≡ word seed stream (first + i)
+
+-- what is kept are words of a stream
+abbrev pub IsKept : List ℕ → ℕ → Kept → Type 0
+IsKept seed stream kept = AreWords seed stream kept.first kept.words.items
+
+-- of each stream words of its own are kept
+pub record AreKept (seed : List ℕ) (kept : List Kept) : Type 0 where
+  pub all : length kept ≡ 34
+  pub own : (s : ℕ) (k : Kept) → s < 34 → k ≡ slice_index_or kept s k → IsKept seed s k
