@@ -8,11 +8,13 @@ use Rattle.hex.specs.Hex.{decode_of}
 use Rattle.toml.specs.Data.{Members, as_str, as_table}
 use Rattle.toml.specs.Parse.{parse_document}
 use Rattle.sim_scenario.specs.declared.Protocol.{Protocol}
+use Rattle.sim_scenario.specs.declared.reading.Opening.{Opening}
+use Rattle.sim_scenario.specs.declared.reading.Rest.{Rest}
 use Rattle.sim_scenario.specs.Scenario.{Fault, ScenarioText, first_some, key_faults, count_fault, repeated_fault, document_fault, scenario_of, read, read_document, text_fault, unknown_key, at_key, whole_fault, string_fault, list_fault, names_fault, clients_fault, is_within, out_of_range, is_seed, protocol_named, protocol_of, least_servers, whole, text_at, server_names, clients, repeated_from, first_32, known_keys, is_format_2, LinkText, Link, links, links_fault, links_between, links_of, host_fault, pair_fault, with_links, way_of, host_names}
 use Rattle.sim_links.specs.declared.Way.{Way}
 use Rattle.sim_links.specs.Ways.{Ways, all}
 use Rattle.sim_scenario.proofs.Saying.{IsPart, Say, and, done, after}
-use Rattle.sim_scenario.specs.Parts.{checked, ◌>>=◌, disk_latency_of, links_in, placed, linked_ways, keys_of, format_of, seed_of, protocol_in, number_of, servers_of, clients_of, count_of, differing, scenario_in}
+use Rattle.sim_scenario.specs.Parts.{checked, ◌>>=◌, disk_latency_of, links_in, placed, linked_ways, keys_of, format_of, seed_of, protocol_in, number_of, servers_of, clients_of, count_of, differing, joined_in, hosts_in, scenario_in}
 
 keys_part : (doc : Members) → IsPart (keys_of doc) (option_map (λ key. record { number = 3; key = key }) (unknown_key (known_keys doc) doc)) tt
 unfolding keys_of
@@ -81,7 +83,7 @@ ways_part way links = record { same = refl }
 
 in_order : (doc : Members)
     → Say (scenario_in doc) (option_map (λ key. record { number = 3; key = key }) (unknown_key (known_keys doc) doc) ∷ (key_faults doc ++ count_fault doc ∷ repeated_fault doc ∷ host_fault (links_of doc) ∷ pair_fault (unwrap_or (links_of doc) []) ∷ [])) (scenario_of doc)
-unfolding scenario_in
+unfolding scenario_in hosts_in joined_in
 in_order doc =
     and _ (keys_part doc) (and _ (format_part doc) (and _ (seed_part doc) (and _ (protocol_part doc)
     (and _ (number_part (codes "tick") 1 60000 doc) (and _ (number_part (codes "latency_min") 0 60000 doc)
@@ -103,47 +105,61 @@ read_of_document text doc short parsed =
     ∙ ap (λ o. checked o (scenario_of doc)) (sym (after (option_map (λ key. record { number = 3; key = key }) (unknown_key (known_keys doc) doc)) (key_faults doc) (count_fault doc ∷ repeated_fault doc ∷ host_fault (links_of doc) ∷ pair_fault (unwrap_or (links_of doc) []) ∷ [])))
     ∙ sym (in_order doc).same
 
--- parts that all say a value
-record Ends {A : Type 0} (parts : Result A Fault) (value : A) : Type 0 where
-  same : parts ≡ Ok value
+-- parts that say what is left of them
+record Ends {A : Type 0} (parts end : Result A Fault) : Type 0 where
+  same : parts ≡ end
 
-given : {A B : Type 0} {part : Result A Fault} {value : A} (next : A → Result B Fault) {end : B} → part ≡ Ok value → Ends (next value) end → Ends (part >>= next) end
+last : {A : Type 0} {end : Result A Fault} → Ends end end
+last = record { same = refl }
+
+given : {A B : Type 0} {part : Result A Fault} {value : A} (next : A → Result B Fault) {end : Result B Fault} → part ≡ Ok value → Ends (next value) end → Ends (part >>= next) end
 given next p e = record { same = ap (λ r. r >>= next) p ∙ e.same }
 
--- what a document says, where each part says its value
-pub scenario_in-said : (doc : Members) (seed : List ℕ) (protocol : Protocol) (tick latency_min latency_max loss : ℕ) (servers : List (List ℕ)) (checkpoint window : ℕ) (hosts : List (List ℕ)) (operations : List ℕ)
-    (disk_latency : ℕ) (texts : List LinkText) (names : List (List ℕ)) (links : List Link) (ways : Ways)
+-- what a document says after its first parts
+pub scenario_in-said : (doc : Members) (seed : List ℕ) (protocol : Protocol) (tick latency_min latency_max loss : ℕ)
     → keys_of doc ≡ Ok tt → format_of doc ≡ Ok tt → seed_of doc ≡ Ok seed → protocol_in doc ≡ Ok protocol
     → number_of (codes "tick") (codes "tick") 1 60000 doc ≡ Ok tick
     → number_of (codes "latency_min") (codes "latency_min") 0 60000 doc ≡ Ok latency_min
     → number_of (codes "latency_max") (codes "latency_max") latency_min 60000 doc ≡ Ok latency_max
     → number_of (codes "loss") (codes "loss") 0 1000 doc ≡ Ok loss
+    → scenario_in doc ≡ hosts_in (record { seed = seed; protocol = protocol; tick = tick; way = record { latency_min = latency_min; latency_max = latency_max; loss = loss } }) doc
+unfolding scenario_in
+scenario_in-said doc seed protocol tick latency_min latency_max loss a b c d e f g h =
+    (given _ a (given _ b (given _ c (given _ d (given _ e (given _ f (given _ g (given _ h last)))))))).same
+
+-- what it says after its hosts and links
+pub hosts_in-said : (opening : Opening) (doc : Members) (servers : List (List ℕ)) (checkpoint window : ℕ) (hosts : List (List ℕ)) (operations : List ℕ) (disk_latency : ℕ) (texts : List LinkText)
     → servers_of doc ≡ Ok servers
     → number_of (codes "checkpoint") (codes "checkpoint") 1 1024 doc ≡ Ok checkpoint
     → number_of (codes "window") (codes "window") 1 4096 doc ≡ Ok window
     → clients_of servers doc ≡ Ok (both hosts operations)
     → disk_latency_of doc ≡ Ok disk_latency
     → links_in doc ≡ Ok texts
-    → count_of protocol (length servers) (length hosts) ≡ Ok tt
-    → differing (length servers) hosts ≡ Ok names
+    → hosts_in opening doc ≡ joined_in opening (length servers) hosts operations (record { checkpoint = checkpoint; window = window; disk_latency = disk_latency }) texts
+unfolding hosts_in
+hosts_in-said opening doc servers checkpoint window hosts operations disk_latency texts a b c d e f =
+    (given _ a (given _ b (given _ c (given _ d (given _ e (given _ f last)))))).same
+
+-- what it says where the hosts and the links are joined
+pub joined_in-said : (opening : Opening) (servers : ℕ) (hosts : List (List ℕ)) (operations : List ℕ) (rest : Rest) (texts : List LinkText) (names : List (List ℕ)) (links : List Link) (ways : Ways)
+    → count_of opening.protocol servers (length hosts) ≡ Ok tt
+    → differing servers hosts ≡ Ok names
     → placed names texts ≡ Ok links
-    → linked_ways (record { latency_min = latency_min; latency_max = latency_max; loss = loss }) links ≡ Ok ways
-    → scenario_in doc ≡ Ok (record {
+    → linked_ways opening.way links ≡ Ok ways
+    → joined_in opening servers hosts operations rest texts ≡ Ok (record {
       names = names;
-      protocol = protocol;
-      seed = seed;
-      tick = tick;
+      protocol = opening.protocol;
+      seed = opening.seed;
+      tick = opening.tick;
       ways = ways;
-      disk_latency = disk_latency;
-      servers = length servers;
-      ops = first_32 (replicate (length servers) 0 ++ operations);
-      checkpoint = checkpoint;
-      window = window;
+      disk_latency = rest.disk_latency;
+      servers = servers;
+      ops = first_32 (replicate servers 0 ++ operations);
+      checkpoint = rest.checkpoint;
+      window = rest.window;
     })
-unfolding scenario_in
-scenario_in-said doc seed protocol tick latency_min latency_max loss servers checkpoint window hosts operations disk_latency texts names links ways a b c d e f g h i j k l m n o p q r =
-    (given _ a (given _ b (given _ c (given _ d (given _ e (given _ f (given _ g (given _ h (given _ i (given _ j (given _ k (given _ l
-    (given _ m (given _ n (given _ o (given _ p (given _ q (given _ r (record { same = refl }))))))))))))))))))).same
+unfolding joined_in
+joined_in-said opening servers hosts operations rest texts names links ways a b c d = (given _ a (given _ b (given _ c (given _ d last)))).same
 
 -- a scenario with the same servers and operations
 pub said_as : (s : ScenarioText) (servers : ℕ) (ops : List ℕ) → s.servers ≡ servers → s.ops ≡ ops

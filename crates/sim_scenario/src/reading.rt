@@ -1,18 +1,19 @@
 //! The whole text of a scenario.
-ghost use Rattle.std.specs.Prelude.{◌≡◌, ◌≢◌, IfOk, IfErr, Ok, Err};
+ghost use Rattle.std.specs.Prelude.{◌≡◌, ◌≢◌, ◌+◌, IfOk, IfErr, Ok, Err, map, string_bytes, vec_len};
 ghost use Rattle.toml.specs.View.{table_view};
 ghost use Rattle.sim_scenario.specs.Faults as faults;
 ghost use Rattle.sim_scenario.specs.Hosts.{IsNumbered};
 ghost use Rattle.sim_scenario.specs.Limits.{IsWithinLimits};
+ghost use Rattle.sim_scenario.specs.Links.{link_said};
 ghost use Rattle.sim_scenario.specs.Parts as parts;
 ghost use Rattle.sim_scenario.specs.Scenario as scenario;
 ghost use Rattle.sim_scenario.specs.Seen.{seen};
 
-use crate::ScenarioText;
 use crate::fault::{Key, ScenarioFault};
 use crate::fields::{disk_latency, format, known_keys, number, protocol, seed};
-use crate::hosts::{all_hosts, fitting, host_operations, number_hosts, server_names};
-use crate::links::{linked_ways, links, placed};
+use crate::hosts::{Hosts, all_hosts, fitting, host_operations, number_hosts, server_names};
+use crate::links::{LinkText, linked_ways, links, placed};
+use crate::{Protocol, ScenarioText};
 use sim_links::Way;
 use std::alloc::Global;
 use toml::Table;
@@ -44,6 +45,24 @@ pub fn read(alloc: Global, text: &str) -> Result<ScenarioText, ScenarioFault>
     }
 }
 
+/// What a text says first: the seed, the protocol, the tick in milliseconds, and the way of each pair without a link.
+#[derive(Drop)]
+struct Opening {
+    seed: [u8; 32],
+    protocol: Protocol,
+    tick: u32,
+    way: Way,
+}
+
+/// The numbers that come after the servers: two in events, one in milliseconds.
+#[derive(Drop)]
+struct Rest {
+    checkpoint: u32,
+    window: u32,
+    disk_latency: u32,
+}
+
+// Reads what comes first, and then the hosts.
 #[tactic(auto, unfolding(crate::specs::Parts::scenario_in))]
 fn read_table(alloc: Global, table: &Table) -> Result<ScenarioText, ScenarioFault>
     ensures said { faults.Gives seen result (parts.scenario_in (table_view table.now)) }
@@ -57,6 +76,26 @@ fn read_table(alloc: Global, table: &Table) -> Result<ScenarioText, ScenarioFaul
     let latency_min = number(table, Key::LatencyMin, 0, 60_000)?;
     let latency_max = number(table, Key::LatencyMax, latency_min, 60_000)?;
     let loss = number(table, Key::Loss, 0, 1_000)?;
+    let way = Way {
+        latency_min,
+        latency_max,
+        loss,
+    };
+    let opening = Opening {
+        seed,
+        protocol,
+        tick,
+        way,
+    };
+    read_hosts(alloc, table, opening)
+}
+
+// Reads the hosts and the links, and then joins them.
+#[tactic(auto, unfolding(crate::specs::Parts::hosts_in))]
+fn read_hosts(alloc: Global, table: &Table, opening: Opening) -> Result<ScenarioText, ScenarioFault>
+    ensures said { faults.Gives seen result (parts.hosts_in opening (table_view table.now)) }
+    ensures numbered { IfOk result (λ s. IsNumbered s.names) }
+{
     let server_names = server_names(alloc, table)?;
     let servers = server_names.len();
     let checkpoint = number(table, Key::Checkpoint, 1, 1_024)?;
@@ -64,15 +103,38 @@ fn read_table(alloc: Global, table: &Table) -> Result<ScenarioText, ScenarioFaul
     let hosts = all_hosts(alloc, table, server_names)?;
     let disk_latency = disk_latency(table)?;
     let links = links(alloc, table)?;
+    let rest = Rest {
+        checkpoint,
+        window,
+        disk_latency,
+    };
+    joined(alloc, opening, servers, hosts, rest, links.as_slice())
+}
+
+// Numbers the hosts, and places the links between them.
+#[tactic(auto, unfolding(crate::specs::Parts::joined_in))]
+fn joined(
+    alloc: Global,
+    opening: Opening,
+    servers: usize,
+    hosts: Hosts,
+    rest: Rest,
+    links: &[LinkText],
+) -> Result<ScenarioText, ScenarioFault>
+    requires counted { vec_len hosts.names ≡ servers + vec_len hosts.operations }
+    ensures said { faults.Gives seen result (parts.joined_in opening servers (map string_bytes hosts.names.items) hosts.operations.items rest (map link_said links.now)) }
+    ensures numbered { IfOk result (λ s. IsNumbered s.names) }
+{
+    let Opening {
+        seed,
+        protocol,
+        tick,
+        way,
+    } = opening;
     fitting(protocol, servers, hosts.names.len())?;
     let ops = host_operations(servers, hosts.operations.as_slice());
     let names = number_hosts(alloc, hosts.names, servers)?;
-    let between = placed(alloc, &names, links.as_slice())?;
-    let way = Way {
-        latency_min,
-        latency_max,
-        loss,
-    };
+    let between = placed(alloc, &names, links)?;
     let ways = linked_ways(way, between.as_slice())?;
     Ok(ScenarioText {
         names,
@@ -80,10 +142,10 @@ fn read_table(alloc: Global, table: &Table) -> Result<ScenarioText, ScenarioFaul
         seed,
         tick,
         ways,
-        disk_latency,
+        disk_latency: rest.disk_latency,
         servers: servers as u16,
         ops,
-        checkpoint,
-        window,
+        checkpoint: rest.checkpoint,
+        window: rest.window,
     })
 }

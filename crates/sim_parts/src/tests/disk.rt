@@ -108,11 +108,7 @@ fn walk(rt: &impl Abort, alloc: Global, disk: &mut Disk, acts: &[Act]) -> Result
 }
 
 // Four stable bytes, all 0.
-const ZEROS: [Act; 3] = [
-    Act::Write(0, &[0; 4]),
-    Act::Sync(1),
-    Act::Is(&[0; 4], 0),
-];
+const ZEROS: [Act; 3] = [Act::Write(0, &[0; 4]), Act::Sync(1), Act::Is(&[0; 4], 0)];
 
 #[test]
 fn torn_write(rt: HostRuntime) -> Result<(), Fail> {

@@ -137,20 +137,28 @@ fn gathers_what_it_writes(rt: HostRuntime) -> Result<(), Fail> {
     Ok(())
 }
 
+// What a text leaves in a writer that fails after so many writes, or nothing where it does not fail.
+fn left_after(alloc: Global, writes_left: usize, text: &[u8]) -> Option<Vec<u8>> {
+    let mut writer = Narrow {
+        held: Vec::new(alloc),
+        writes_left,
+    };
+    let mut outlet = Outlet::new(alloc);
+    outlet.hand_over(&mut writer, text).ok()?;
+    match outlet.flush(&mut writer) {
+        Ok(()) => None,
+        Err(_fault) => Some(writer.held),
+    }
+}
+
 #[test]
-fn stops_at_each_write(rt: HostRuntime) -> Result<(), Fail> {
+fn stops_at_each_write(rt: HostRuntime) {
+    let text = b"0123456789".as_slice();
     for k in 0..10 {
-        let mut writer = Narrow {
-            held: Vec::new(rt.alloc()),
-            writes_left: k,
-        };
-        let mut outlet = Outlet::new(rt.alloc());
-        assert!(rt; outlet.hand_over(&mut writer, b"0123456789").is_ok());
-        assert!(rt; outlet.flush(&mut writer).is_err(), "at write {k}");
-        assert_eq!(rt;
-            writer.held.as_slice(),
-            b"0123456789".as_slice().split_at(k).0
+        let held = left_after(rt.alloc(), k, text);
+        assert!(rt;
+            held.is_some_and(|held| held.as_slice() == text.split_at(k).0),
+            "at write {k}"
         );
     }
-    Ok(())
 }

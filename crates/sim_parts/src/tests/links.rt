@@ -143,7 +143,12 @@ fn other_directions_stay(rt: HostRuntime) -> Result<(), Fail> {
     let mut links = Links::new(rt.alloc())?;
     walk(&rt, rt.alloc(), &mut links, &HELD)?;
     assert!(rt; others_are_open(&links));
-    walk(&rt, rt.alloc(), &mut links, &[Act::Change(Change::Cut, &[7, 8])])?;
+    walk(
+        &rt,
+        rt.alloc(),
+        &mut links,
+        &[Act::Change(Change::Cut, &[7, 8])],
+    )?;
     assert!(rt; others_are_open(&links));
     Ok(())
 }
@@ -154,7 +159,12 @@ fn a_copy_is_equal(rt: HostRuntime) -> Result<(), Fail> {
     walk(&rt, rt.alloc(), &mut links, &HELD)?;
     let mut copy = links.copy(rt.alloc(), |message: &u32| Ok(*message))?;
     assert!(rt; others_are_open(&copy));
-    walk(&rt, rt.alloc(), &mut copy, &[Act::Is(LinkState::Held, 2), Act::Unkeep(8)])?;
+    walk(
+        &rt,
+        rt.alloc(),
+        &mut copy,
+        &[Act::Is(LinkState::Held, 2), Act::Unkeep(8)],
+    )?;
     walk(&rt, rt.alloc(), &mut links, &[Act::Is(LinkState::Held, 2)])?;
     Ok(())
 }
@@ -198,15 +208,22 @@ const QUICK: Way = Way {
     loss: 3,
 };
 
+// Whether the way from 3 to 5 is the one, and each other way is the other.
+fn only_one_is(ways: &Ways, one: Way, other: Way) -> bool {
+    for at in 0..1024u16 {
+        let (a, b) = (at / 32, at % 32);
+        let wanted = if (a, b) == (3, 5) { one } else { other };
+        if ways.way(a, b) != wanted {
+            return false;
+        }
+    }
+    true
+}
+
 #[test]
 fn ways_are_set_one_by_one(rt: HostRuntime) {
     let mut ways = Ways::all(SLOW);
-    assert_eq!(rt; ways.way(31, 31), SLOW);
+    assert!(rt; only_one_is(&ways, SLOW, SLOW));
     ways.set(3, 5, QUICK);
-    let copy = ways.copy();
-    for at in 0..1024u16 {
-        let (a, b) = (at / 32, at % 32);
-        let wanted = if (a, b) == (3, 5) { QUICK } else { SLOW };
-        assert_eq!(rt; copy.way(a, b), wanted, "from {a} to {b}");
-    }
+    assert!(rt; only_one_is(&ways.copy(), QUICK, SLOW));
 }

@@ -2,6 +2,7 @@
 ghost use Rattle.std.specs.Prelude.{◌≡◌};
 
 use sim_queue::{Item, NoMemory, Queue};
+use std::alloc::Global;
 use std::process::Abort;
 use std::test::Fail;
 
@@ -131,53 +132,71 @@ fn walk(rt: &impl Abort, queue: &mut Queue<char>, acts: &[Act]) -> Result<(), No
     Ok(())
 }
 
-// From four items on, each row and then what is left.
+// From four items on the acts, and then what is left.
+fn walk_from_four(
+    rt: &impl Abort,
+    alloc: Global,
+    acts: &[Act],
+    left: &[Act],
+) -> Result<(), NoMemory> {
+    let mut queue = Queue::new(alloc);
+    walk(rt, &mut queue, &FOUR)?;
+    walk(rt, &mut queue, acts)?;
+    walk(rt, &mut queue, left)
+}
+
+const LOOKS: [Act; 7] = [
+    Act::First(Some((10, 1, 'b'))),
+    Act::NextBut(0, 'x', Some(0)),
+    Act::Take(2, Some((20, 2, 'c'))),
+    Act::Take(2, None),
+    Act::NextBut(2, 'x', Some(3)),
+    Act::NextBut(4, 'x', None),
+    Act::Counts(3, 4),
+];
+
 #[test]
-fn walks_from_four(rt: HostRuntime) -> Result<(), Fail> {
-    let looks = [
-        Act::First(Some((10, 1, 'b'))),
-        Act::NextBut(0, 'x', Some(0)),
-        Act::Take(2, Some((20, 2, 'c'))),
-        Act::Take(2, None),
-        Act::NextBut(2, 'x', Some(3)),
-        Act::NextBut(4, 'x', None),
-        Act::Counts(3, 4),
-    ];
-    let insertions_taken_back = [
-        Act::InsertAndBack(5, 'e', 4, (5, 4, 'e')),
-        Act::First(Some((10, 1, 'b'))),
-        Act::InsertAndBack(50, 'f', 4, (10, 1, 'b')),
-    ];
-    let put_back = [
-        Act::TakeAndBack(0),
-        Act::TakeAndBack(1),
-        Act::TakeAndBack(2),
-        Act::TakeAndBack(3),
-        Act::TakeFirstAndBack((10, 1, 'b'), (10, 3, 'd')),
-    ];
-    let searches = [
-        Act::NextBut(0, 'a', Some(1)),
-        Act::NextBut(2, 'c', Some(3)),
-        Act::NextBut(3, 'd', None),
-        Act::Take(0, Some((30, 0, 'a'))),
-        Act::Insert(40, 'e', 4),
-        Act::NextBut(0, 'b', Some(2)),
-        Act::NextBut(4, 'x', Some(4)),
-    ];
-    let rows: [(&[Act], &[Act]); 5] = [
-        (&[], &HAS_FOUR),
-        (&looks, &[]),
-        (&insertions_taken_back, &HAS_FOUR),
-        (&put_back, &HAS_FOUR),
-        (&searches, &[]),
-    ];
-    for (row, left) in rows {
-        let mut queue = Queue::new(rt.alloc());
-        walk(&rt, &mut queue, &FOUR)?;
-        walk(&rt, &mut queue, row)?;
-        walk(&rt, &mut queue, left)?;
-    }
-    Ok(())
+fn looks(rt: HostRuntime) -> Result<(), Fail> {
+    Ok(walk_from_four(&rt, rt.alloc(), &LOOKS, &[])?)
+}
+
+const INSERTIONS_TAKEN_BACK: [Act; 3] = [
+    Act::InsertAndBack(5, 'e', 4, (5, 4, 'e')),
+    Act::First(Some((10, 1, 'b'))),
+    Act::InsertAndBack(50, 'f', 4, (10, 1, 'b')),
+];
+
+#[test]
+fn insertions_taken_back(rt: HostRuntime) -> Result<(), Fail> {
+    Ok(walk_from_four(&rt, rt.alloc(), &INSERTIONS_TAKEN_BACK, &HAS_FOUR)?)
+}
+
+const TAKING_TAKEN_BACK: [Act; 5] = [
+    Act::TakeAndBack(0),
+    Act::TakeAndBack(1),
+    Act::TakeAndBack(2),
+    Act::TakeAndBack(3),
+    Act::TakeFirstAndBack((10, 1, 'b'), (10, 3, 'd')),
+];
+
+#[test]
+fn taking_taken_back(rt: HostRuntime) -> Result<(), Fail> {
+    Ok(walk_from_four(&rt, rt.alloc(), &TAKING_TAKEN_BACK, &HAS_FOUR)?)
+}
+
+const SEARCHES: [Act; 7] = [
+    Act::NextBut(0, 'a', Some(1)),
+    Act::NextBut(2, 'c', Some(3)),
+    Act::NextBut(3, 'd', None),
+    Act::Take(0, Some((30, 0, 'a'))),
+    Act::Insert(40, 'e', 4),
+    Act::NextBut(0, 'b', Some(2)),
+    Act::NextBut(4, 'x', Some(4)),
+];
+
+#[test]
+fn searches(rt: HostRuntime) -> Result<(), Fail> {
+    Ok(walk_from_four(&rt, rt.alloc(), &SEARCHES, &[])?)
 }
 
 #[test]
@@ -202,7 +221,11 @@ fn copies(rt: HostRuntime) -> Result<(), Fail> {
     walk(&rt, &mut queue, &FOUR)?;
     let mut copied = queue.copy(rt.alloc(), |body| Ok(*body))?;
     assert!(rt; queue.copy(rt.alloc(), |_body| Err(NoMemory)).is_err());
-    walk(&rt, &mut queue, &[Act::TakeFirst(Some((10, 1, 'b'))), Act::Counts(3, 4)])?;
+    walk(
+        &rt,
+        &mut queue,
+        &[Act::TakeFirst(Some((10, 1, 'b'))), Act::Counts(3, 4)],
+    )?;
     walk(&rt, &mut copied, &HAS_FOUR)?;
     Ok(())
 }

@@ -66,7 +66,11 @@ fn walked_back(rt: HostRuntime) {
     ];
     walk(&rt, &mut streams, &there_and_back);
     let mut other = streams.copy();
-    walk(&rt, &mut other, &[Act::Draw(0, 683509331), Act::Place(0, 4)]);
+    walk(
+        &rt,
+        &mut other,
+        &[Act::Draw(0, 683509331), Act::Place(0, 4)],
+    );
     walk(&rt, &mut streams, &[Act::Place(0, 3), Act::Place(1, 0)]);
 }
 
@@ -104,7 +108,10 @@ fn drawn_again(streams: &mut Streams, words: &[u32], back: usize) -> bool {
     let Some(from) = words.len().checked_sub(back) else {
         return false;
     };
-    undraw(streams, 2, back as u64) && words[from..].iter().all(|word| draw(streams, 2) == Some(*word))
+    undraw(streams, 2, back as u64)
+        && words[from..]
+            .iter()
+            .all(|word| draw(streams, 2) == Some(*word))
 }
 
 #[test]
@@ -114,9 +121,15 @@ fn walks_over_borders(rt: HostRuntime) {
     for word in &mut words {
         *word = draw(&mut streams, 2).unwrap_or(0);
     }
-    assert_eq!(rt; (words[0], words[16], words[64]), (3514151508, 1442751401, 3880648186));
+    assert_eq!(rt;
+        (words[0], words[16], words[64]),
+        (3514151508, 1442751401, 3880648186)
+    );
     for back in [1, 6, 7, 22, 23, 80, 87, 149, 150] {
-        assert!(rt; drawn_again(&mut streams, &words, back), "after {back} words back");
+        assert!(rt;
+            drawn_again(&mut streams, &words, back),
+            "after {back} words back"
+        );
     }
     assert!(rt; goes(&mut streams, Act::Place(2, 150)));
 }
