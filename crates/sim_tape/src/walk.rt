@@ -219,6 +219,20 @@ impl<N: Node> Walk<N> {
         }
     }
 
+    // There is no world and no record any more. The next world takes over the words that were computed for this one.
+    fn give_way(&mut self, next: &mut World<N>)
+        ensures next { next.new ≡ next.old }
+        ensures world { self.new.world ≡ None }
+        ensures capacity { self.new.ring.capacity ≡ self.old.ring.capacity }
+        ensures ring { self.new.ring.items ≡ [] }
+    {
+        if let Some(world) = &mut self.world {
+            next.take_words(world);
+        }
+        self.world = None;
+        self.ring.clear();
+    }
+
     /// Makes the world of a place anew, from a checkpoint at or below it, which is copied. The only error is want of memory. Where
     /// the copy is refused nothing changes; after another error there is no world.
     pub fn anew(
@@ -243,9 +257,8 @@ impl<N: Node> Walk<N> {
         ensures err { OnErr result ((place : ℕ) → IsWalkIn N.told N.records N.laws N.PROBES log.now place self.old.world self.old.ring.items →
             IsWalkIn N.told N.records N.laws N.PROBES log.now place self.new.world self.new.ring.items) }
     {
-        let world = checkpoint.copy(alloc, meter)?;
-        self.world = None;
-        self.ring.clear();
+        let mut world = checkpoint.copy(alloc, meter)?;
+        self.give_way(&mut world);
         let world = log.play(alloc, from, to, world, &mut self.ring, meter);
         match world {
             Ok(after) => {
