@@ -210,8 +210,8 @@ impl Measure {
         turns: u32,
     ) -> Result<u64, AllocError> {
         match self {
-            Measure::Draws => Ok(streams::draws(alloc, turns)),
-            Measure::Undraws => Ok(streams::undraws(alloc, turns)),
+            Measure::Draws => Ok(streams::draws(turns)),
+            Measure::Undraws => Ok(streams::undraws(turns)),
             Measure::QueueTurns(pending) => queue::turns(alloc, pending, turns),
             Measure::QueueUndos(pending) => queue::undos(alloc, pending, turns),
             Measure::WorldSteps(cluster) => world::steps(alloc, cluster, turns),

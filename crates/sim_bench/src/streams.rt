@@ -1,6 +1,5 @@
 use crate::mixed;
 use sim_streams::Streams;
-use std::alloc::Global;
 
 // The most words that a stream gives.
 const MOST_PLACES: u64 = 1 << 40;
@@ -22,8 +21,8 @@ fn undraw(streams: &mut Streams, stream: u16) {
 }
 
 /// Draws from each stream in turn.
-pub fn draws(alloc: Global, turns: u32) -> u64 {
-    let mut streams = Streams::new([7; 32]).with_memory(alloc);
+pub fn draws(turns: u32) -> u64 {
+    let mut streams = Streams::new([7; 32]);
     let mut sum = 0;
     for turn in 0..turns {
         sum = mixed(sum, draw(&mut streams, (turn % 34) as u16));
@@ -32,8 +31,8 @@ pub fn draws(alloc: Global, turns: u32) -> u64 {
 }
 
 /// Draws from two streams, takes both words back, and draws from the first again.
-pub fn undraws(alloc: Global, turns: u32) -> u64 {
-    let mut streams = Streams::new([7; 32]).with_memory(alloc);
+pub fn undraws(turns: u32) -> u64 {
+    let mut streams = Streams::new([7; 32]);
     let mut sum = 0;
     for _turn in 0..turns {
         sum = mixed(sum, draw(&mut streams, 5));
