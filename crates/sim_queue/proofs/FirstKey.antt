@@ -1,6 +1,6 @@
 -- The top key of the heap is that of the first item.
-use Rattle.std.proofs.Common.{◌≡◌, ℕ, zero, suc, ◌+◌, ◌-◌, ◌<◌, ◌≤◌, Bool, true, false, cond, List, [], ◌∷◌, Option, Some, None, refl, sym, ap, ◌∙◌, subst, arith, ◌==◌, ◌&&◌, ◌||◌, nat_lt, ◌⊎◌, inl, inr, ⊎_elim, ◌≢◌, length}
-use Rattle.std.proofs.lemmas.Bool.{eqb-true, cases_eq, leb-true}
+use Rattle.std.proofs.Common.{◌≡◌, ℕ, zero, suc, ◌+◌, ◌-◌, ◌<◌, ◌≤◌, Bool, true, false, cond, List, [], ◌∷◌, Option, Some, None, refl, sym, ap, ◌∙◌, subst, arith, ◌==◌, ◌&&◌, ◌||◌, nat_lt, inl, inr, ⊎_elim, ◌≢◌, length, IsSome, is_some}
+use Rattle.std.proofs.lemmas.Bool.{eqb-true, eq-eqb, cases_eq, leb-true, false≢true}
 use Rattle.std.proofs.lemmas.Bool.Decides.{nat_tests}
 use Rattle.std.specs.Ordering.{nat_cmp, ordering_then, is_lt}
 use Rattle.std.proofs.Math.ListN.{get_or}
@@ -10,12 +10,10 @@ use Rattle.std.specs.BinaryHeap.{IsUpperBound}
 use Rattle.std.specs.declared.cmp.Reverse.{Reverse}
 use Rattle.sim_queue.specs.declared.Item.{Item}
 use Rattle.sim_queue.specs.Pending.{first, first_of, is_before}
-use Rattle.sim_queue.specs.Slots.{at, has, is_live, is_due, key_cmp, Covers, IsTopLive}
+use Rattle.sim_queue.specs.Keys.{Keys, has, key_cmp, heap_keys, NotAfter, IsFirstKey, HasNone}
+use Rattle.sim_queue.specs.Slots.{at, is_due, Covers, IsTopLive}
 use Rattle.sim_queue.specs.Items.{item_of, items_from}
-
--- a due and serial that is not after another
-abbrev pub NotAfter : ℕ → ℕ → ℕ → ℕ → Type 0
-NotAfter zd zs yd ys = (zd < yd) ⊎ ((zd ≡ yd) × (zs ≤ ys))
+use Rattle.sim_queue.proofs.Keys.{within_some}
 
 late : (zd zs yd ys : ℕ) → NotAfter zd zs yd ys → (nat_lt yd zd || ((yd == zd) && nat_lt ys zs)) ≡ false
 late zd zs yd ys (inl p) = grind (arith, nat_tests)
@@ -31,21 +29,29 @@ least_due xd xs yd ys h = grind (arith, nat_tests)
 least_serial : (xd xs yd ys : ℕ) → is_lt (ordering_then (nat_cmp yd xd) (nat_cmp ys xs)) ≡ false → xd ≡ yd → xs ≤ ys
 least_serial xd xs yd ys h e = grind (arith, nat_tests)
 
-pub not_after : (xd xs yd ys : ℕ) → is_lt (ordering_then (nat_cmp yd xd) (nat_cmp ys xs)) ≡ false → NotAfter xd xs yd ys
+not_after : (xd xs yd ys : ℕ) → is_lt (ordering_then (nat_cmp yd xd) (nat_cmp ys xs)) ≡ false → NotAfter xd xs yd ys
 not_after xd xs yd ys h = ⊎_elim
     (λ (e : xd ≡ yd). inr (e, least_serial xd xs yd ys h e))
     (λ (ne : xd ≢ yd). inl (let l = least_due xd xs yd ys h in omega arith)) (cases_eq xd yd)
 
 -- what bounds the keys bounds each of them
-bounded : (x : Reverse (ℕ × ℕ)) (d s : ℕ) (keys : List (Reverse (ℕ × ℕ))) → has d s keys ≡ true → IsUpperBound key_cmp x keys → NotAfter x.0.0 x.0.1 d s
+bounded : (x : Reverse (ℕ × ℕ)) (d s : ℕ) (keys : List (Reverse (ℕ × ℕ))) → has d s (heap_keys keys) ≡ true → IsUpperBound key_cmp x keys → NotAfter x.0.0 x.0.1 d s
 bounded x d s [] h all = cc
 bounded x d s (k ∷ keys) h all = go (λ q. bounded x d s keys q all.1) (k.0.0 == d) (k.0.1 == s) refl refl h
   where
-    go : (has d s keys ≡ true → NotAfter x.0.0 x.0.1 d s) → (a b : Bool) → (k.0.0 == d) ≡ a → (k.0.1 == s) ≡ b → ((a && b) || has d s keys) ≡ true → NotAfter x.0.0 x.0.1 d s
+    go : (has d s (heap_keys keys) ≡ true → NotAfter x.0.0 x.0.1 d s) → (a b : Bool) → (k.0.0 == d) ≡ a → (k.0.1 == s) ≡ b → ((a && b) || has d s (heap_keys keys)) ≡ true → NotAfter x.0.0 x.0.1 d s
     go f true true p q h =
         subst (λ (n : ℕ). NotAfter x.0.0 x.0.1 n s) (eqb-true k.0.0 d p) (subst (λ (m : ℕ). NotAfter x.0.0 x.0.1 k.0.0 m) (eqb-true k.0.1 s q) (not_after x.0.0 x.0.1 k.0.0 k.0.1 all.0))
     go f true false p q h = f h
     go f false b p q h = f h
+
+-- the key at the top of a heap is the first
+pub heap_first : (k : Reverse (ℕ × ℕ)) (keys : List (Reverse (ℕ × ℕ))) → k ≡ get_or keys 0 k → 0 < length keys → IsUpperBound key_cmp k keys → IsFirstKey k.0.0 k.0.1 (heap_keys keys)
+heap_first k [] top some bound = absurd (omega arith)
+heap_first k (y ∷ keys) top some bound = (here, λ e t h. bounded k e t (y ∷ keys) h bound)
+  where
+    here : has k.0.0 k.0.1 (heap_keys (y ∷ keys)) ≡ true
+    here = subst (λ (x : Reverse (ℕ × ℕ)). has k.0.0 k.0.1 (heap_keys (x ∷ keys)) ≡ true) top (rw (eq-eqb k.0.0 k.0.0 refl, eq-eqb k.0.1 k.0.1 refl) refl)
 
 module _ {B : Type 0} where
   -- z is not after any item of the slots
@@ -106,51 +112,58 @@ module _ {B : Type 0} where
   first_at z n (suc i) (Some e ∷ slots) h s all =
       ap (λ y. Some y) (wins z (item_of n e) (n + 1) i slots h (omega arith) (omega arith) (least_head z n e slots all) (least_tail z n (Some e) slots all))
 
-  -- where the top key is that of a pending item, and bounds the others, that item is the first
-  pub first_by_top : (k : Reverse (ℕ × ℕ)) (keys : List (Reverse (ℕ × ℕ))) (slots : List (Option (ℕ × B))) (base : ℕ) (e : ℕ × B)
-      → base ≤ k.0.1 → at slots (k.0.1 - base) ≡ Some e → k.0.0 ≡ e.0 → IsUpperBound key_cmp k keys → Covers keys slots base
-      → first (items_from base slots) ≡ Some (item_of k.0.1 e)
-  first_by_top k keys slots base e from h due bound covers =
-      first_at (item_of k.0.1 e) base (k.0.1 - base) slots h (omega arith)
-      (λ j f p. subst (λ (d : ℕ). NotAfter d k.0.1 f.0 (base + j)) due (bounded k f.0 (base + j) keys (covers j f p) bound))
+  -- where the first key is that of a pending item, that item is the first
+  pub first_by_key : (d s : ℕ) (keys : Keys) (slots : List (Option (ℕ × B))) (base : ℕ) (e : ℕ × B)
+      → base ≤ s → at slots (s - base) ≡ Some e → d ≡ e.0 → IsFirstKey d s keys → Covers keys slots base
+      → first (items_from base slots) ≡ Some (item_of s e)
+  first_by_key d s keys slots base e from h due key covers =
+      first_at (item_of s e) base (s - base) slots h (omega arith)
+      (λ j f p. subst (λ (n : ℕ). NotAfter n s f.0 (base + j)) due (key.1 f.0 (base + j) (covers j f p)))
 
   none_from : (n : ℕ) (slots : List (Option (ℕ × B))) → ((i : ℕ) (e : ℕ × B) → at slots i ≡ Some e → ⊥) → items_from n slots ≡ []
   none_from n [] none = refl
   none_from n (None ∷ slots) none = none_from (n + 1) slots (λ i e h. none (suc i) e h)
   none_from n (Some e ∷ slots) none = absurd (none 0 e refl)
 
-  pub first_none : (keys : List (Reverse (ℕ × ℕ))) (slots : List (Option (ℕ × B))) (base : ℕ) → length keys ≡ 0 → Covers keys slots base → first (items_from base slots) ≡ None
+  pub first_none : (keys : Keys) (slots : List (Option (ℕ × B))) (base : ℕ) → HasNone keys → Covers keys slots base → first (items_from base slots) ≡ None
   unfolding first
-  first_none [] slots base l covers = ap (λ xs. first xs) (none_from base slots (λ i e h. cc (covers i e h)))
-  first_none (k ∷ keys) slots base l covers = absurd (omega arith)
+  first_none keys slots base none covers =
+      ap (λ xs. first xs) (none_from base slots (λ i e h. false≢true (sym (none e.0 (base + i)) ∙ covers i e h)))
 
-  -- what stands in the slot of the top key is the first item
-  pub first_seen : (k : Reverse (ℕ × ℕ)) (keys : List (Reverse (ℕ × ℕ))) (slots : List (Option (ℕ × B))) (base : ℕ) (e : ℕ × B)
-      → k ≡ get_or keys 0 k → 0 < length keys → IsTopLive keys slots base → IsUpperBound key_cmp k keys → Covers keys slots base
-      → at slots (k.0.1 - base) ≡ Some e → Some (item_of k.0.1 (k.0.0, e.1)) ≡ first (items_from base slots)
-  first_seen k [] slots base e top some live bound covers h = absurd (omega arith)
-  first_seen k (y ∷ keys) slots base e top some live bound covers h =
-      let here : is_live k.0.0 k.0.1 slots base ≡ true = subst (λ (x : Reverse (ℕ × ℕ)). is_live x.0.0 x.0.1 slots base ≡ true) (sym top) live in
-      go (nat_le base k.0.1) refl (subst (λ (o : Option (ℕ × B)). (nat_le base k.0.1 && is_due k.0.0 o) ≡ true) h here)
+  -- the item of a key is in its slot
+  pub record IsThere (s : ℕ) (slots : List (Option (ℕ × B))) (base : ℕ) : Type 0 where
+    pub from : base ≤ s
+    pub within : s - base < length slots
+    pub some : IsSome (at slots (s - base))
+
+  pub top_there : (d s : ℕ) (keys : Keys) (slots : List (Option (ℕ × B))) (base : ℕ) → IsFirstKey d s keys → IsTopLive keys slots base → IsThere s slots base
+  top_there d s keys slots base key live = go (nat_le base s) refl (at slots (s - base)) refl (live d s key)
     where
-      go : (b : Bool) → nat_le base k.0.1 ≡ b → (b && is_due k.0.0 (Some e)) ≡ true → Some (item_of k.0.1 (k.0.0, e.1)) ≡ first (items_from base slots)
+      go : (b : Bool) → nat_le base s ≡ b → (o : Option (ℕ × B)) → at slots (s - base) ≡ o → (b && is_due d o) ≡ true → IsThere s slots base
+      go false p o q h = cc
+      go true p None q h = cc
+      go true p (Some e) q h = record { from = leb-true base s p; within = within_some (s - base) slots e q; some = ap (λ o. is_some o) q }
+
+  -- what stands in the slot of the first key is the first item
+  pub first_seen : (d s : ℕ) (keys : Keys) (slots : List (Option (ℕ × B))) (base : ℕ) (e : ℕ × B) → IsFirstKey d s keys → IsTopLive keys slots base → Covers keys slots base
+      → at slots (s - base) ≡ Some e → Some (item_of s (d, e.1)) ≡ first (items_from base slots)
+  first_seen d s keys slots base e key live covers h =
+      go (nat_le base s) refl (subst (λ (o : Option (ℕ × B)). (nat_le base s && is_due d o) ≡ true) h (live d s key))
+    where
+      go : (b : Bool) → nat_le base s ≡ b → (b && is_due d (Some e)) ≡ true → Some (item_of s (d, e.1)) ≡ first (items_from base slots)
       go false p q = cc
       go true p q =
-          let due : k.0.0 ≡ e.0 = eqb-true k.0.0 e.0 q in
-          ap (λ (d : ℕ). Some (item_of k.0.1 (d, e.1))) due ∙ sym (first_by_top k (y ∷ keys) slots base e (leb-true base k.0.1 p) h due bound covers)
+          let due : d ≡ e.0 = eqb-true d e.0 q in
+          ap (λ (n : ℕ). Some (item_of s (n, e.1))) due ∙ sym (first_by_key d s keys slots base e (leb-true base s p) h due key covers)
 
   -- and so is the item that is taken out of it
-  pub first_taken : (k : Reverse (ℕ × ℕ)) (keys : List (Reverse (ℕ × ℕ))) (slots : List (Option (ℕ × B))) (base : ℕ)
-      → k ≡ get_or keys 0 k → 0 < length keys → IsTopLive keys slots base → IsUpperBound key_cmp k keys → Covers keys slots base
-      → option_map (item_of k.0.1) (at slots (k.0.1 - base)) ≡ first (items_from base slots)
-  first_taken k [] slots base top some live bound covers = absurd (omega arith)
-  first_taken k (y ∷ keys) slots base top some live bound covers =
-      let here : is_live k.0.0 k.0.1 slots base ≡ true = subst (λ (x : Reverse (ℕ × ℕ)). is_live x.0.0 x.0.1 slots base ≡ true) (sym top) live in
-      go (nat_le base k.0.1) refl (at slots (k.0.1 - base)) refl here
+  pub first_taken : (d s : ℕ) (keys : Keys) (slots : List (Option (ℕ × B))) (base : ℕ) → IsFirstKey d s keys → IsTopLive keys slots base → Covers keys slots base
+      → option_map (item_of s) (at slots (s - base)) ≡ first (items_from base slots)
+  first_taken d s keys slots base key live covers = go (nat_le base s) refl (at slots (s - base)) refl (live d s key)
     where
-      go : (b : Bool) → nat_le base k.0.1 ≡ b → (o : Option (ℕ × B)) → at slots (k.0.1 - base) ≡ o → (b && is_due k.0.0 o) ≡ true
-          → option_map (item_of k.0.1) (at slots (k.0.1 - base)) ≡ first (items_from base slots)
-      go false p o h q = cc
-      go true p None h q = cc
-      go true p (Some e) h q =
-          ap (λ o. option_map (item_of k.0.1) o) h ∙ sym (first_by_top k (y ∷ keys) slots base e (leb-true base k.0.1 p) h (eqb-true k.0.0 e.0 q) bound covers)
+      go : (b : Bool) → nat_le base s ≡ b → (o : Option (ℕ × B)) → at slots (s - base) ≡ o → (b && is_due d o) ≡ true
+          → option_map (item_of s) (at slots (s - base)) ≡ first (items_from base slots)
+      go false p o q h = cc
+      go true p None q h = cc
+      go true p (Some e) q h =
+          ap (λ o. option_map (item_of s) o) q ∙ sym (first_by_key d s keys slots base e (leb-true base s p) q (eqb-true d e.0 h) key covers)

@@ -6,4 +6,8 @@ pub mod Sparse
 pub mod Search
 pub mod Taken
 pub mod FirstKey
-pub mod Tops
+pub mod Least
+pub mod Links
+pub mod Turning
+pub mod Counts
+pub mod Counting

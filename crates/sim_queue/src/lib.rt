@@ -3,8 +3,11 @@
 //! Every change can be taken back: `uninsert` takes back an `insert`, and `put_back` a `take` or a `take_first`.
 #![tactic(auto)]
 
+mod agenda;
+mod lists;
 mod slots;
 mod store;
+mod wheel;
 
 ghost use Rattle.std.specs.Prelude.{◌≡◌, ℕ, ◌^◌, ◌<◌, nat_le, OnOk, OnErr, IfOk, IfSome, IfNone, Some, length, Bool, ◌&&◌};
 ghost use Rattle.std.specs.Fn.{FnReturnsAt};

@@ -1,22 +1,17 @@
 //! What a queue is made of. Each of its parts may be out of step with the others while one change is under way.
-ghost use Rattle.std.specs.Prelude.{◌≡◌, ℕ, ◌+◌, ◌-◌, ◌^◌, ◌<◌, ◌≤◌, nat_le, OnOk, OnErr, IfOk, IfSome, IfNone, length, Bool, ◌&&◌};
-ghost use Rattle.std.specs.BinaryHeap.{IsHeap, heap_items, heap_len, heap_capacity};
+ghost use Rattle.std.specs.Prelude.{◌≡◌, ℕ, ◌^◌, ◌<◌, ◌≤◌, nat_le, OnOk, OnErr, IfOk, IfSome, IfNone, length, Bool, ◌&&◌};
 ghost use Rattle.std.specs.Fn.{FnReturnsAt};
 ghost use Rattle.std.specs.List.{find};
 ghost use Rattle.std.specs.Option.{option_map};
 ghost use Rattle.sim_queue.specs.Items.{item_of};
 ghost use Rattle.sim_queue.specs.Pending.{none_pending, IsPending, HasNewest, first, insert, take, put_back, uninsert, newest, with_serial};
-ghost use Rattle.sim_queue.specs.Slots.{is_live, key_cmp, CoversBelow};
-ghost use Rattle.sim_queue.specs.Store.{pending_in, IsOrdered, IsKeyed};
+ghost use Rattle.sim_queue.specs.Slots.{is_live};
+ghost use Rattle.sim_queue.specs.Store.{pending_in, IsCovered, IsKeyed};
 
+use crate::agenda::Agenda;
 use crate::slots::Slots;
 use crate::{Item, NoMemory};
 use std::alloc::Global;
-use std::cmp::Reverse;
-use std::collections::BinaryHeap;
-
-// Dues and serials, of which the least is at the top.
-type Keys = BinaryHeap<Reverse<(u64, u64)>>;
 
 /// The items in slots, and their keys. It has no invariant: each call says what it asks for and what it leaves.
 #[derive(Drop)]
@@ -24,7 +19,7 @@ pub(crate) struct Store<B> {
     // Each pending item's due and body, by its serial.
     slots: Slots<B>,
     // The due and serial of each pending item, and of some that no longer are.
-    order: Keys,
+    order: Agenda,
 }
 
 impl<B> Store<B> {
@@ -34,7 +29,7 @@ impl<B> Store<B> {
     {
         Store {
             slots: Slots::new(alloc),
-            order: BinaryHeap::new(alloc),
+            order: Agenda::new(alloc),
         }
     }
 
@@ -51,8 +46,10 @@ impl<B> Store<B> {
         ensures keyed { IsKeyed self.new }
     {
         self.trim();
-        self.rebuild();
-        self.push_slot(due, body)
+        self.order.rebuild(&self.slots);
+        let added = self.push_slot(due, body);
+        self.clean();
+        added
     }
 
     /// The first item.
@@ -60,7 +57,7 @@ impl<B> Store<B> {
         requires { IsKeyed self.now }
         ensures { option_map (λ r. item_of r.1 (r.0, r.2.now)) result ≡ first (pending_in self.now).items }
     {
-        let &Reverse((due, serial)) = self.order.peek()?;
+        let (due, serial) = self.order.first()?;
         let (_due, body) = self.slots.get((serial - self.slots.base()) as usize)?;
         Some((due, serial, body))
     }
@@ -100,7 +97,7 @@ impl<B> Store<B> {
         ensures none { IfNone result (pending_in self.new ≡ pending_in self.old) }
         ensures keyed { IsKeyed self.new }
     {
-        let Reverse((_due, serial)) = self.order.pop()?;
+        let (_due, serial) = self.order.pop()?;
         let place = (serial - self.slots.base()) as usize;
         let item = self.slots.take(place);
         self.clean();
@@ -121,9 +118,10 @@ impl<B> Store<B> {
         if place >= self.slots.len() {
             return None;
         }
-        let item = self.slots.take(place);
+        let item = self.slots.take(place)?;
+        self.order.forget(item.due, serial);
         self.clean();
-        item
+        Some(item)
     }
 
     /// Takes the newest item out, with its slot.
@@ -135,6 +133,7 @@ impl<B> Store<B> {
         ensures keyed { IsKeyed self.new }
     {
         let item = self.slots.pop();
+        self.order.forget(item.due, item.serial);
         self.clean();
         item
     }
@@ -151,8 +150,10 @@ impl<B> Store<B> {
         ensures keyed { IsKeyed self.new }
     {
         self.widen(item.serial)?;
-        self.rebuild();
-        self.fill_slot(item)
+        self.order.rebuild(&self.slots);
+        let added = self.fill_slot(item);
+        self.clean();
+        added
     }
 
     /// Equal pending items, each body as `each` copies it.
@@ -171,7 +172,7 @@ impl<B> Store<B> {
     {
         Ok(Store {
             slots: self.slots.copy(alloc, each)?,
-            order: self.order.clone()?,
+            order: self.order.copy()?,
         })
     }
 
@@ -188,14 +189,30 @@ impl<B> Store<B> {
         }
     }
 
-    // Takes keys of items that are no longer pending from the top.
+    // Takes the first keys out, up to that of a pending item: where there are as many keys as items, the first one is.
+    #[inline(always)]
     fn clean(&mut self)
-        requires ordered { IsOrdered self.old }
+        requires covered { IsCovered self.old }
         requires small { (pending_in self.old).next_serial ≤ 2 ^ 40 }
         ensures keyed { IsKeyed self.new }
         ensures same { self.new ≡ record self.old { order = self.new.order } }
     {
-        while let Some(&Reverse((due, serial))) = self.order.peek() {
+        if self.order.has_as_many_as(self.slots.count()) {
+            return;
+        }
+        self.drop_dead();
+    }
+
+    // Takes the first keys out, up to that of a pending item.
+    #[cold]
+    #[inline(never)]
+    fn drop_dead(&mut self)
+        requires covered { IsCovered self.old }
+        requires small { (pending_in self.old).next_serial ≤ 2 ^ 40 }
+        ensures keyed { IsKeyed self.new }
+        ensures same { self.new ≡ record self.old { order = self.new.order } }
+    {
+        while let Some((due, serial)) = self.order.first() {
             if self.is_pending(due, serial) {
                 return;
             }
@@ -207,15 +224,15 @@ impl<B> Store<B> {
     fn push_slot(&mut self, due: u64, body: B) -> Result<u64, NoMemory>
     where
         B: Drop,
-        requires keyed { IsKeyed self.old }
+        requires covered { IsCovered self.old }
         requires room { (pending_in self.old).next_serial < 2 ^ 40 }
         ensures serial { IfOk result (λ s. s ≡ (pending_in self.old).next_serial) }
         ensures ok { OnOk result (pending_in self.new ≡ insert due body (pending_in self.old)) }
         ensures err { OnErr result (pending_in self.new ≡ pending_in self.old) }
-        ensures keyed { IsKeyed self.new }
+        ensures covered { IsCovered self.new }
     {
         let serial = self.slots.push(due, body)?;
-        if let Err(_refused) = self.order.push(Reverse((due, serial))) {
+        if let Err(_refused) = self.order.push(due, serial) {
             self.slots.pop();
             return Err(NoMemory);
         }
@@ -226,22 +243,22 @@ impl<B> Store<B> {
     fn fill_slot(&mut self, item: Item<B>) -> Result<(), NoMemory>
     where
         B: Drop,
-        requires keyed { IsKeyed self.old }
+        requires covered { IsCovered self.old }
+        requires small { (pending_in self.old).next_serial ≤ 2 ^ 40 }
         requires from { self.old.slots.base ≤ item.serial }
         requires below { item.serial < (pending_in self.old).next_serial }
         requires absent { ¬ (IsPending item.serial (pending_in self.old)) }
         ensures ok { OnOk result (pending_in self.new ≡ put_back item (pending_in self.old)) }
         ensures err { OnErr result (pending_in self.new ≡ pending_in self.old) }
-        ensures keyed { IsKeyed self.new }
+        ensures covered { IsCovered self.new }
     {
         let Item { due, serial, body } = item;
         let place = (serial - self.slots.base()) as usize;
         self.slots.fill(place, due, body)?;
-        if let Err(_refused) = self.order.push(Reverse((due, serial))) {
+        if let Err(_refused) = self.order.push(due, serial) {
             self.slots.take(place);
             return Err(NoMemory);
         }
-        self.clean();
         Ok(())
     }
 
@@ -272,52 +289,4 @@ impl<B> Store<B> {
         }
         Ok(())
     }
-
-    // Makes the keys anew, where there are more than 64 and more than two for each slot. This takes no memory.
-    fn rebuild(&mut self)
-        requires { IsKeyed self.old }
-        ensures keyed { IsKeyed self.new }
-        ensures same { self.new ≡ record self.old { order = self.new.order } }
-    {
-        let keys = self.order.len();
-        let places = self.slots.len();
-        if keys <= 64 || keys / 2 <= places || self.order.capacity() < places {
-            return;
-        }
-        self.make_keys();
-    }
-
-    // Makes the keys anew. There is room for one for each slot.
-    #[cold]
-    #[inline(never)]
-    fn make_keys(&mut self)
-        requires small { (pending_in self.old).next_serial ≤ 2 ^ 40 }
-        requires room { length self.old.slots.items ≤ heap_capacity self.old.order }
-        ensures keyed { IsKeyed self.new }
-        ensures same { self.new ≡ record self.old { order = self.new.order } }
-    {
-        self.order.clear();
-        for place in 0..self.slots.len() {
-            add_key(&self.slots, &mut self.order, place);
-        }
-        self.clean();
-    }
-}
-
-// Adds the key of the item in a slot, if there is one. The keys have room for it.
-fn add_key<B>(slots: &Slots<B>, order: &mut Keys, place: usize)
-    requires heap { IsHeap key_cmp (heap_items order.old) }
-    requires covers { CoversBelow place (heap_items order.old) slots.now.items slots.now.base }
-    requires small { slots.now.base + place < 2 ^ 40 }
-    requires room { heap_len order.old < heap_capacity order.old }
-    ensures heap { IsHeap key_cmp (heap_items order.new) }
-    ensures covers { CoversBelow (place + 1) (heap_items order.new) slots.now.items slots.now.base }
-    ensures len { heap_len order.new ≤ heap_len order.old + 1 }
-    ensures room { heap_capacity order.old ≤ heap_capacity order.new }
-{
-    let due = match slots.get(place) {
-        Some((due, _body)) => due,
-        None => return,
-    };
-    let _room = order.push(Reverse((due, slots.base() + place as u64)));
 }

@@ -1,13 +1,12 @@
-use Rattle.std.proofs.Common.{sym, ap, ◌∙◌, IsSome, rules}
-use Rattle.sim_queue.specs.declared.store.Store.{Store}
-use Rattle.sim_queue.proofs.Keys.{popped}
+use Rattle.std.proofs.Common.{rules, ◌≡◌, length}
+use Rattle.sim_queue.specs.Items.{items_from}
+use Rattle.sim_queue.proofs.Counting.{top_counted}
 use Rattle.sim_queue.proofs.store.Store.clean.Goals as goal
 
-pub loop-due-preserved : goal.loop-due-preserved
-loop-due-preserved g c =
-    let some : IsSome c.pop.result = search rules in record {
-      ordered = popped c.pop.result c.in-Some.field-0.now _ _ _ _ c.in-Some.ensures.lookup some c.pop.ensures.top c.pop.ensures.permutation c.pop.ensures.heap_order
-          (sym c.is_pending.ensures ∙ c.if-is_pending.false) c.loop-due.invariant.ordered;
-      small = c.loop-due.invariant.small;
-      same = ap (λ (s : Store _). record s { order = c.pop.new.self }) c.loop-due.invariant.same;
+pub returns-then-has_as_many_as-clause-keyed : goal.returns-then-has_as_many_as-clause-keyed
+returns-then-has_as_many_as-clause-keyed g c =
+    let same : length c.args.self.now.order ≡ length (items_from c.args.self.now.slots.base c.args.self.now.slots.items) = search rules in record {
+      covers = c.requires.covered;
+      top = top_counted _ _ _ c.requires.covered same;
+      small = c.requires.small;
     }

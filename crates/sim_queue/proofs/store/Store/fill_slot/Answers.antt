@@ -1,11 +1,8 @@
-use Rattle.std.proofs.Common.{rules, ◌≡◌, ◌-◌, ◌∙◌, ap, refl, Some, None}
+use Rattle.std.proofs.Common.{◌≡◌, ◌-◌, ◌∙◌, ap, refl, Some, None}
 use Rattle.std.proofs.Math.ListN.{set}
 use Rattle.std.proofs.lemmas.List.{set-set}
-use Rattle.std.specs.BinaryHeap.{heap_items}
 use Rattle.sim_queue.specs.Items.{items_from}
-use Rattle.sim_queue.specs.Slots.{at, IsKept}
-use Rattle.sim_queue.specs.Store.{pending_in}
-use Rattle.sim_queue.proofs.Keys.{restored}
+use Rattle.sim_queue.specs.Slots.{at}
 use Rattle.sim_queue.proofs.Laws.{not_found}
 use Rattle.sim_queue.proofs.Sparse.{set_none}
 use Rattle.sim_queue.proofs.Views.{empty_at, put_again}
@@ -26,26 +23,9 @@ returns-in-Err-clause-err g c =
     let items = c.take.ensures.rest ∙ ap (λ s. set s place None) c.in_ok-fill.ensures.ok ∙ set-set slots place (Some (c.args.item.due, c.args.item.body)) None ∙ set_none slots place empty in
     rw (items, c.take.ensures.base, c.fill.ensures.base) refl
 
-pub returns-in-Err-clause-keyed : goal.returns-in-Err-clause-keyed
-returns-in-Err-clause-keyed g c =
-    let slots = c.args.self.now.slots.items in
-    let none = not_found c.args.item.serial (items_from c.args.self.now.slots.base slots) c.requires.absent in
-    let place = c.args.item.serial - c.base.result in
-    let empty : at slots place ≡ None = rw c.base.ensures (empty_at c.args.item.serial c.args.self.now.slots.base slots c.requires.from none) in
-    let items = c.take.ensures.rest ∙ ap (λ s. set s place None) c.in_ok-fill.ensures.ok ∙ set-set slots place (Some (c.args.item.due, c.args.item.body)) None ∙ set_none slots place empty in
-    let kept : IsKept (heap_items c.push.new.self) slots c.args.self.now.slots.base = search rules in
-    rw (items, c.take.ensures.base, c.fill.ensures.base) kept
-
-pub clean-requires-clause-ordered : goal.clean-requires-clause-ordered
-clean-requires-clause-ordered g c =
-    rw (c.in_ok-fill.ensures.ok, c.fill.ensures.base, c.base.ensures)
-    (restored _ _ c.args.self.now.slots.items c.args.self.now.slots.base c.args.item.serial (c.args.item.due, c.args.item.body) c.requires.from c.in_default.ensures.permutation
-    c.in_default.ensures.heap_order c.requires.keyed.order)
-
 pub returns-clause-ok : goal.returns-clause-ok
 returns-clause-ok g c =
     let slots = c.args.self.now.slots.items in
     let none = not_found c.args.item.serial (items_from c.args.self.now.slots.base slots) c.requires.absent in
-    ap pending_in c.clean.ensures.same
-    ∙ rw c.fill.ensures.base
+    rw c.fill.ensures.base
     (put_again c.args.item c.args.self.now.slots.base slots c.fill.new.self.items c.requires.from c.requires.below none (rw c.base.ensures at c.in_ok-fill.ensures.ok))

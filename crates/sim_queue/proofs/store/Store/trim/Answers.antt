@@ -1,5 +1,4 @@
 use Rattle.std.proofs.Common.{ap, sym, subst, ◌∙◌}
-use Rattle.std.specs.BinaryHeap.{heap_items}
 use Rattle.sim_queue.specs.Slots.{IsKept}
 use Rattle.sim_queue.specs.Items.{pending}
 use Rattle.sim_queue.proofs.Keys.{trimmed}
@@ -12,6 +11,6 @@ loop-turn-preserved g c =
     let base = c.loop-turn.self.slots.base in
     let e = c.drop_front.ensures.items in
     rw c.drop_front.ensures.base (
-      trimmed (heap_items c.loop-turn.self.order) _ _ (subst (λ s. IsKept (heap_items c.loop-turn.self.order) s base) e c.loop-turn.invariant.0),
+      trimmed c.loop-turn.self.order _ _ (subst (λ s. IsKept c.loop-turn.self.order s base) e c.loop-turn.invariant.0),
       pending_trimmed base c.drop_front.new.self.items ∙ ap (λ s. pending base s) (sym e) ∙ c.loop-turn.invariant.1,
     )

@@ -1,5 +1,4 @@
 use Rattle.std.proofs.Common.{◌<◌, arith, ◌∙◌}
-use Rattle.std.specs.BinaryHeap.{heap_items}
 use Rattle.sim_queue.proofs.Keys.{widened}
 use Rattle.sim_queue.proofs.Views.{pending_widened}
 use Rattle.sim_queue.proofs.store.Store.widen.Goals as goal
@@ -8,6 +7,6 @@ pub loop-self-preserved : goal.loop-self-preserved
 loop-self-preserved g c =
     let some : 0 < c.loop-self.self.slots.base = omega arith in
     rw c.in_ok-add_front.ensures.ok (
-      widened (heap_items c.loop-self.self.order) _ c.loop-self.self.slots.base some c.loop-self.invariant.0,
+      widened c.loop-self.self.order _ c.loop-self.self.slots.base some c.loop-self.invariant.0,
       pending_widened c.loop-self.self.slots.base c.loop-self.self.slots.items some ∙ c.loop-self.invariant.1,
     )
