@@ -6,10 +6,6 @@ use Rattle.sim_queue.specs.Keys.{Keys, has}
 use Rattle.sim_queue.specs.Items.{items_from}
 use Rattle.sim_queue.specs.Slots.{at, is_due, is_live, Covers, IsTopLive}
 
-or_right : (a b : Bool) → b ≡ true → (a || b) ≡ true
-or_right true b h = refl
-or_right false b h = h
-
 -- keys without one of these
 abbrev pick : Bool → Keys → Keys → Keys
 pick true rest others = rest
