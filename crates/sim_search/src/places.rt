@@ -8,8 +8,8 @@ ghost use Rattle.sim_search.specs.Faults.{is_bad_search, search_fault, reason};
 use crate::SearchFault;
 use sim_claims::{Gate, Pieces, least};
 use sim_node::{NoMemory, Node};
-use sim_tape::Frozen;
-use sim_watch::{Cond, Finding, piece, pieces, scan};
+use sim_tape::{Frozen, Tape};
+use sim_watch::{Cond, Finding, piece, pieces, scan_after};
 use std::alloc::Global;
 use std::sync::Wait;
 use std::thread::Threads;
@@ -32,7 +32,25 @@ struct Places<'a, N: Node> {
     ghost checked: { fault_of frozen.now.scenario.setup.hosts N.PROBES cond.now ≡ None },
 }
 
-impl<'a, N: Node> Pieces<N::Meter> for Places<'a, N> {
+// What a worker scans with: its meter, and the tape of its last piece.
+#[derive(Drop)]
+struct Scanner<N: Node> {
+    meter: N::Meter,
+    last: Option<Tape<N>>,
+}
+
+// A scanner for each meter, none of which has scanned a piece.
+fn scanners<N: Node>(alloc: Global, meters: Vec<N::Meter>) -> Result<Vec<Scanner<N>>, NoMemory>
+    ensures { IfOk result (λ made. length made.items ≡ length meters.items) }
+{
+    let mut made = Vec::with_capacity(alloc, meters.len())?;
+    for meter in meters {
+        made.push_reserved(Scanner { meter, last: None });
+    }
+    Ok(made)
+}
+
+impl<'a, N: Node> Pieces<Scanner<N>> for Places<'a, N> {
     ghost count = { λ s. pieces s.lo s.hi s.interval };
 
     ghost finding = { λ s i. let p = piece s.lo s.hi s.interval i in
@@ -42,9 +60,16 @@ impl<'a, N: Node> Pieces<N::Meter> for Places<'a, N> {
         pieces(self.lo, self.hi, self.interval)
     }
 
-    fn scan(&self, number: u64, meter: &mut N::Meter) -> Result<Option<u32>, NoMemory> {
+    fn scan(&self, number: u64, scanner: &mut Scanner<N>) -> Result<Option<u32>, NoMemory> {
         let part = piece(self.lo, self.hi, self.interval, number);
-        let Finding { piece: _, place } = scan(self.alloc, self.frozen, part, self.cond, meter)?;
+        let Finding { piece: _, place } = scan_after(
+            self.alloc,
+            self.frozen,
+            &mut scanner.last,
+            part,
+            self.cond,
+            &mut scanner.meter,
+        )?;
         Ok(place)
     }
 }
@@ -96,7 +121,11 @@ where
         hi: hi as u32,
         interval: frozen.interval(),
     };
-    match least(rt, alloc, &places, gate, meters) {
+    let scanners = match scanners::<N>(alloc, meters) {
+        Ok(scanners) => scanners,
+        Err(_) => return Err(SearchFault::NoMemory),
+    };
+    match least(rt, alloc, &places, gate, scanners) {
         Ok(Some((_, place))) => Ok(Some(place)),
         Ok(None) => Ok(None),
         Err(_) => Err(SearchFault::NoMemory),

@@ -83,3 +83,14 @@ pub cold_walk : {State Msg Undo : Type 0} (told : State → Setup) (records : No
 cold_walk told records r es p hand us within none empty =
     subst (λ h. IsWalk told records r es p h us) (sym none)
     (subst (λ xs. IsWalk told records r es p None xs) (sym empty) (record { within = within; here = refl; answers = no_records told records r es p }))
+
+-- a walk that has lost its records
+pub bare_walk : {State Msg Undo : Type 0} (told : State → Setup) (records : NodeRecords State Undo) (r : Rules State Msg) (es : List Event) (p : ℕ) (hand old : Option (InHand State Msg))
+    (us vs : List (Kept State Msg Undo)) → hand ≡ old → us ≡ [] → IsWalk told records r es p old vs → IsWalk told records r es p hand us
+bare_walk {State = State} {Msg = Msg} told records r es p hand old us vs same empty walk =
+    subst (λ h. IsWalk told records r es p h us) (sym same)
+    (subst (λ xs. IsWalk told records r es p old xs) (sym empty) (bare old walk))
+  where
+    bare : (hand : Option (InHand State Msg)) → IsWalk told records r es p hand vs → IsWalk told records r es p hand []
+    bare None w = record { within = w.within; here = refl; answers = no_records told records r es p }
+    bare (Some now) w = record { within = w.within; here = w.here; answers = no_records told records r es p }

@@ -171,6 +171,18 @@ impl<N: Node> Ring<N> {
         Ok(before)
     }
 
+    /// Lets the records go, and takes the memory of a ring for as many records that is done with.
+    pub fn take_over(&mut self, spent: Ring<N>)
+        ensures { self.new ≡ buffer [] self.old.capacity }
+    {
+        self.free = 0;
+        self.len = 0;
+        if self.capacity == spent.capacity {
+            let Ring { slots, .. } = spent;
+            self.slots = slots;
+        }
+    }
+
     /// Lets the records go.
     pub fn clear(&mut self)
         ensures { self.new ≡ buffer [] self.old.capacity }

@@ -349,6 +349,15 @@ impl<N: Node> Tape<N> {
         self.walk.ring.clear();
     }
 
+    // Lets the records go, and takes over from a tape that is done with: its memory for records, and where both worlds are there and
+    // of one seed the words that were computed for them.
+    pub(crate) fn take_over(&mut self, spent: Tape<N>)
+        ensures { self.new ≡ with_world self.old.warm 0 self.old }
+    {
+        let Tape { walk, .. } = spent;
+        self.walk.take_over(walk);
+    }
+
     /// A tape of the first events, at their end, which shares the full segments and the checkpoints; it is cold. The only error is
     /// want of memory.
     pub fn split(&self, alloc: Global, to: u32) -> Result<Tape<N>, NoMemory>

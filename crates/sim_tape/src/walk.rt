@@ -233,6 +233,29 @@ impl<N: Node> Walk<N> {
         self.ring.clear();
     }
 
+    // Takes over the words that were computed for another world.
+    fn take_words(&mut self, spent: &mut Option<World<N>>)
+        ensures world { self.new.world ≡ self.old.world }
+        ensures ring { self.new.ring ≡ self.old.ring }
+    {
+        if let Some(world) = &mut self.world {
+            if let Some(before) = spent {
+                world.take_words(before);
+            }
+        }
+    }
+
+    /// Lets the records go, and takes over from a walk that is done with: its memory for as many records, and where both worlds are
+    /// there and of one seed the words that were computed for the other.
+    pub fn take_over(&mut self, spent: Walk<N>)
+        ensures world { self.new.world ≡ self.old.world }
+        ensures ring { self.new.ring ≡ buffer [] self.old.ring.capacity }
+    {
+        let Walk { mut world, ring } = spent;
+        self.take_words(&mut world);
+        self.ring.take_over(ring);
+    }
+
     /// Makes the world of a place anew, from a checkpoint at or below it, which is copied. The only error is want of memory. Where
     /// the copy is refused nothing changes; after another error there is no world.
     pub fn anew(

@@ -40,9 +40,32 @@ pub fn scan<N: Node>(
     ensures work { OnOk result (Plays (piece.hi % frozen.now.scenario.interval)
         (nodes_below (rules N.laws N.PROBES frozen.now.scenario) piece.lo frozen.now.events) (N.Meter.work meter.old) (N.Meter.work meter.new)) }
 {
-    let mut tape = frozen.tape(alloc, piece.lo, meter)?;
+    scan_after(alloc, frozen, &mut None, piece, cond, meter)
+}
+
+/// Looks for the least place of a piece of a frozen run at which a condition fails, as `scan` does. The tape of the last piece, if
+/// there is one, is taken over, and that of this one is left for the next. The only error is want of memory; no tape is left then.
+pub fn scan_after<N: Node>(
+    alloc: Global,
+    frozen: &Frozen<N>,
+    last: &mut Option<Tape<N>>,
+    piece: Piece,
+    cond: &Cond,
+    meter: &mut N::Meter,
+) -> Result<Finding, NoMemory>
+    requires order { piece.lo ≤ piece.hi }
+    requires one { piece.lo / frozen.now.scenario.interval ≡ piece.hi / frozen.now.scenario.interval }
+    requires end { piece.hi ≤ length frozen.now.events }
+    requires checked { fault_of frozen.now.scenario.setup.hosts N.PROBES cond.now ≡ None }
+    ensures piece { IfOk result (λ f. f.piece ≡ piece) }
+    ensures place { IfOk result (λ f. f.place ≡ first_failing (rules N.laws N.PROBES frozen.now.scenario) cond.now frozen.now.events piece.lo piece.hi) }
+    ensures work { OnOk result (Plays (piece.hi % frozen.now.scenario.interval)
+        (nodes_below (rules N.laws N.PROBES frozen.now.scenario) piece.lo frozen.now.events) (N.Meter.work meter.old) (N.Meter.work meter.new)) }
+{
+    let mut tape = frozen.tape_after(alloc, last.take(), piece.lo, meter)?;
     for place in piece.lo..piece.hi {
         if fails_here(&tape, cond) {
+            *last = Some(tape);
             return Ok(Finding {
                 piece,
                 place: Some(place),
@@ -51,11 +74,13 @@ pub fn scan<N: Node>(
         tape.forward(alloc, 1, meter)?;
     }
     if fails_here(&tape, cond) {
+        *last = Some(tape);
         return Ok(Finding {
             piece,
             place: Some(piece.hi),
         });
     }
+    *last = Some(tape);
     Ok(Finding { piece, place: None })
 }
 

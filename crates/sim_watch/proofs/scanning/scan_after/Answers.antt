@@ -2,7 +2,7 @@ use Rattle.std.proofs.Common.{◌≡◌, ◌+◌, ◌-◌, ◌%◌, true, false,
 use Rattle.sim_world.specs.Events.{rules}
 use Rattle.sim_tape.specs.Tape.{Tape}
 use Rattle.sim_watch.proofs.Scans.{scanning_none, scanning_more, found_at, found_is, found_none, all_before, checked_at, plays_more, plays_within}
-use Rattle.sim_watch.proofs.scanning.scan.Goals as goal
+use Rattle.sim_watch.proofs.scanning.scan_after.Goals as goal
 
 pub loop-place-init : goal.loop-place-init
 loop-place-init g c =

@@ -2,7 +2,7 @@ use Rattle.std.proofs.Common.{◌+◌, ◌-◌, ◌%◌}
 use Rattle.sim_world.specs.Events.{rules}
 use Rattle.sim_tape.specs.Works.{Plays, nodes_below}
 use Rattle.sim_watch.specs.Scanning.{IsScanning}
-use Rattle.sim_watch.proofs.scanning.scan.Given as goal
+use Rattle.sim_watch.proofs.scanning.scan_after.Given as goal
 
 abbrev pub invariant-loop-place : goal.invariant-loop-place
 invariant-loop-place g l =
