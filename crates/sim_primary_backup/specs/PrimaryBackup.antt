@@ -48,7 +48,7 @@ saved store =
 
 -- the last put, for the backups
 abbrev pub apply_of : Store → BackupMsg
-apply_of store = Apply store.progress.applied store.progress.last (slice_index store.cells store.progress.last)
+apply_of store = Apply store.progress.last store.progress.applied (slice_index store.cells store.progress.last)
 
 -- a sync has come
 abbrev pub after_sync : Store → Store
@@ -151,7 +151,7 @@ backup_synced store =
 
 abbrev pub react_backup : Store → Input BackupMsg → Reaction Store BackupMsg
 react_backup store input.Synced = backup_synced store
-react_backup store (input.Message from (Apply m cell val)) = told from m cell val store
+react_backup store (input.Message from (Apply cell m val)) = told from m cell val store
 react_backup store _ = (store, [])
 
 -- A client: what it counts from 1 is the put that it waits for.

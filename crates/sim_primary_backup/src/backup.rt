@@ -72,7 +72,7 @@ impl Store {
             }
             Input::Message {
                 sender,
-                msg: BackupMsg::Apply(m, cell, val),
+                msg: BackupMsg::Apply(cell, m, val),
             } => self.told(*sender, *m, *cell, *val, setup, effects),
             _ => None,
         }

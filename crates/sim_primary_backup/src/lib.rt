@@ -2,12 +2,14 @@
 #![tactic(auto)]
 
 mod backup;
+mod boxed;
 mod client;
 mod node;
 mod primary;
 mod roles;
 mod store;
 
+pub use boxed::BoxedPrimary;
 pub use node::PrimaryBackup;
 pub use roles::{
     BackupMsg, BackupUndo, Cell, Changes, Primary, Progress, Request, Role, Slot, State, Store,

@@ -1,4 +1,4 @@
-use crate::{BackupMsg, BackupUndo, Primary, Role, State, Store, client};
+use crate::{BackupMsg, BackupUndo, BoxedPrimary, Primary, Role, State, Store, client};
 use sim_node::{Effects, Input, Meter, NoMemory, Node, Setup};
 use std::alloc::Global;
 use std::marker::{Model, PhantomData};
@@ -44,7 +44,7 @@ impl<T: Meter> Node for PrimaryBackup<T> {
     ghost records = { backup_records };
 
     fn boot(
-        _alloc: Global,
+        alloc: Global,
         setup: &Setup,
         me: u16,
         disk: &[u8],
@@ -54,7 +54,7 @@ impl<T: Meter> Node for PrimaryBackup<T> {
         let role = if me >= setup.servers {
             Role::Client { next: 0 }
         } else if me == 0 {
-            Role::Primary(Primary::at_boot(disk))
+            Role::Primary(BoxedPrimary::new(alloc, Primary::at_boot(disk))?)
         } else {
             Role::Backup(Store::on(disk))
         };
@@ -86,7 +86,8 @@ impl<T: Meter> Node for PrimaryBackup<T> {
                 *next = client::react(setup, self.state.me, ops, before, input, effects);
                 BackupUndo::Client { next: before }
             }
-            Role::Primary(primary) => {
+            Role::Primary(boxed) => {
+                let primary = boxed.get_mut();
                 let progress = primary.store.progress;
                 let current = primary.current;
                 let changes = primary.react(setup, input, effects);
@@ -115,8 +116,8 @@ impl<T: Meter> Node for PrimaryBackup<T> {
                     current,
                     changes,
                 },
-                Role::Primary(primary),
-            ) => { primary.take_back(progress, current, changes) }
+                Role::Primary(boxed),
+            ) => { boxed.get_mut().take_back(progress, current, changes) }
             (BackupUndo::Backup { progress, cell }, Role::Backup(store)) => {
                 store.take_back(progress, cell)
             }
@@ -125,10 +126,19 @@ impl<T: Meter> Node for PrimaryBackup<T> {
         Ok(())
     }
 
-    fn copy(&self, _alloc: Global, meter: &mut T) -> Result<Self, NoMemory> {
+    fn copy(&self, alloc: Global, meter: &mut T) -> Result<Self, NoMemory> {
         meter.copied();
+        let role = match &self.state.role {
+            Role::Client { next } => Role::Client { next: *next },
+            Role::Primary(primary) => Role::Primary(BoxedPrimary::new(alloc, *primary.get())?),
+            Role::Backup(store) => Role::Backup(*store),
+        };
         Ok(PrimaryBackup {
-            state: self.state,
+            state: State {
+                setup: self.state.setup,
+                me: self.state.me,
+                role,
+            },
             meter: PhantomData,
         })
     }
@@ -136,7 +146,7 @@ impl<T: Meter> Node for PrimaryBackup<T> {
     fn probe(&self, k: u8) -> u64 {
         match (&self.state.role, k) {
             (Role::Client { next }, 0) => *next,
-            (Role::Primary(primary), 1) => primary.store.progress.applied,
+            (Role::Primary(boxed), 1) => boxed.get().store.progress.applied,
             (Role::Backup(store), 1) => store.progress.applied,
             _ => 0,
         }

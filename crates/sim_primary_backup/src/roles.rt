@@ -1,3 +1,4 @@
+use crate::BoxedPrimary;
 use sim_hosts::HostSet;
 use sim_node::Setup;
 
@@ -6,8 +7,8 @@ use sim_node::Setup;
 pub enum BackupMsg {
     /// A client asks to put this value into a cell, as its put of this number.
     Put(u64, u64),
-    /// The primary asks to apply put number n: the cell and the value.
-    Apply(u64, u8, u64),
+    /// The primary asks to apply to this cell put number n: the value. The cell stands first, beside the tag, to save bytes.
+    Apply(u8, u64, u64),
     /// A backup has applied all puts up to this one, and they are stable.
     Ack(u64),
     /// The put of the client of this number has ended.
@@ -36,9 +37,9 @@ pub struct Store {
 #[derive(Clone, Copy, Debug, PartialEq, Eq)]
 pub struct Request {
     pub client: Option<u16>,
-    pub number: u64,
     /// The backups that have it.
     pub answers: HostSet,
+    pub number: u64,
 }
 
 /// A put that waits.
@@ -57,16 +58,16 @@ pub struct Primary {
 }
 
 /// What a host is.
-#[derive(Clone, Copy, Debug)]
+#[derive(Drop)]
 pub enum Role {
     /// A client waits for the end of this put, counted from 1.
     Client { next: u64 },
-    Primary(Primary),
+    Primary(BoxedPrimary),
     Backup(Store),
 }
 
 /// The state of a host.
-#[derive(Clone, Copy, Debug)]
+#[derive(Drop)]
 pub struct State {
     pub setup: Setup,
     pub me: u16,

@@ -115,8 +115,8 @@ impl Store {
     {
         let progress = &self.progress;
         BackupMsg::Apply(
-            progress.applied,
             progress.last,
+            progress.applied,
             self.cells[progress.last as usize],
         )
     }
