@@ -86,7 +86,7 @@ forced_by_coordinator c = forced c.transaction (byte_of_flag c.commits) c.first
 
 -- it tells all participants that its transaction is committed
 abbrev pub telling : Setup → Conduct → List (Effect CommitMsg)
-telling setup c = to_all (others setup) (Decide c.transaction true) ++ Effect.Timer 100 ∷ []
+telling setup c = to_all (others setup) (Decide true c.transaction) ++ Effect.Timer 100 ∷ []
 
 -- it has a commit on its disk when it starts
 abbrev pub started : Setup → Conduct → Reaction Conduct CommitMsg
@@ -106,19 +106,19 @@ committed client number c =
 abbrev pub voted_yes : ℕ → ℕ → ℕ → HostSet → Setup → Conduct → Reaction Conduct CommitMsg
 voted_yes from client number voted setup c =
     if all_in (others setup) (joined from voted) then committed client number c
-    else (record c { phase = phase.Voting client number (joined from voted) }, [])
+    else (record c { phase = phase.Voting client (joined from voted) number }, [])
 
 -- a participant is against: it aborts, and tells the client and all participants at once
 abbrev pub voted_no : ℕ → ℕ → Setup → Conduct → Reaction Conduct CommitMsg
 voted_no client number setup c =
     let new = record c { first = noted c.transaction first.Aborted c.first; phase = phase.Resting; unsure = raised c.unsure } in (
       new,
-      forced_by_coordinator new ++ Effect.Send client (Answer number false) ∷ to_all (others setup) (Decide c.transaction false) ++ Effect.Timer 1 ∷ [],
+      forced_by_coordinator new ++ Effect.Send client (Answer false number) ∷ to_all (others setup) (Decide false c.transaction) ++ Effect.Timer 1 ∷ [],
     )
 
 abbrev pub voted : ℕ → Bool → Phase → Setup → Conduct → Reaction Conduct CommitMsg
-voted from true (phase.Voting client number votes) setup c = voted_yes from client number votes setup c
-voted from false (phase.Voting client number votes) setup c = voted_no client number setup c
+voted from true (phase.Voting client votes number) setup c = voted_yes from client number votes setup c
+voted from false (phase.Voting client votes number) setup c = voted_no client number setup c
 voted from agrees _ setup c = (c, [])
 
 -- a participant has seen the commit; after the last the coordinator rests
@@ -131,20 +131,20 @@ seen from _ setup c = (c, [])
 -- It tells what became of its transaction when the votes are in, and a commit not before it is stable.
 abbrev pub may_tell : Phase → ℕ → Bool
 may_tell phase.Resting unsure = true
-may_tell (phase.Voting client number votes) unsure = false
+may_tell (phase.Voting client votes number) unsure = false
 may_tell (phase.Telling told) unsure = is_settled unsure
 
 abbrev pub inquired : ℕ → ℕ → Conduct → Reaction Conduct CommitMsg
 inquired from u c =
-    if nat_lt u c.transaction then (c, Effect.Send from (Decide u false) ∷ [])
-    else if (u == c.transaction) && may_tell c.phase c.unsure then (c, Effect.Send from (Decide u c.commits) ∷ [])
+    if nat_lt u c.transaction then (c, Effect.Send from (Decide false u) ∷ [])
+    else if (u == c.transaction) && may_tell c.phase c.unsure then (c, Effect.Send from (Decide c.commits u) ∷ [])
     else (c, [])
 
 -- what a settled coordinator sends to the participants that have not answered yet
 abbrev pub asked_again : Phase → Setup → Conduct → List (Effect CommitMsg)
 asked_again phase.Resting setup c = []
-asked_again (phase.Voting client number votes) setup c = to_all (not_in (others setup) votes) (Prepare c.transaction)
-asked_again (phase.Telling told) setup c = to_all (not_in (others setup) told) (Decide c.transaction true)
+asked_again (phase.Voting client votes number) setup c = to_all (not_in (others setup) votes) (Prepare c.transaction)
+asked_again (phase.Telling told) setup c = to_all (not_in (others setup) told) (Decide true c.transaction)
 
 -- its timer, while a transaction is under way
 abbrev pub timed_out : Setup → Conduct → Reaction Conduct CommitMsg
@@ -152,8 +152,8 @@ timed_out setup c = (c, (if is_settled c.unsure then asked_again c.phase setup c
 
 -- a sync has come; when it is settled it asks for votes, or answers what it owes and tells
 abbrev pub settled : Phase → Option Owed → Setup → Conduct → Reaction Conduct CommitMsg
-settled (phase.Voting client number votes) owed setup c = (c, asked_again c.phase setup c ++ Effect.Timer 100 ∷ [])
-settled (phase.Telling told) (Some o) setup c = (record c { owed = None }, Effect.Send o.client (Answer o.number true) ∷ telling setup c)
+settled (phase.Voting client votes number) owed setup c = (c, asked_again c.phase setup c ++ Effect.Timer 100 ∷ [])
+settled (phase.Telling told) (Some o) setup c = (record c { owed = None }, Effect.Send o.client (Answer true o.number) ∷ telling setup c)
 settled _ owed setup c = (c, [])
 
 abbrev pub coordinator_synced : Setup → Conduct → Reaction Conduct CommitMsg
@@ -170,7 +170,7 @@ begun_for w c =
     let new = record c.conduct {
       transaction = raised c.conduct.transaction;
       commits = false;
-      phase = phase.Voting w.0 w.1 nobody;
+      phase = phase.Voting w.0 nobody w.1;
       unsure = raised c.conduct.unsure;
     } in (
       record { conduct = new; waiting = slice_set c.waiting w.0 None },
@@ -181,7 +181,7 @@ abbrev pub begun : Setup → Coordinator → Reaction Coordinator CommitMsg
 begun setup c = elim (lowest_waiting setup c.waiting) [ None ↦ (c, []) | Some w ↦ begun_for w c ]
 
 abbrev pub is_voting_for : ℕ → Phase → Bool
-is_voting_for host (phase.Voting client number votes) = client == host
+is_voting_for host (phase.Voting client votes number) = client == host
 is_voting_for host _ = false
 
 abbrev pub begun_if_resting : Phase → Setup → Coordinator → Reaction Coordinator CommitMsg
@@ -204,7 +204,7 @@ coordinator_timer _ setup c = conducted c (timed_out setup c.conduct)
 
 -- a message that does not change who waits
 abbrev pub heard : ℕ → CommitMsg → Setup → Coordinator → Reaction Coordinator CommitMsg
-heard from (Vote u agrees) setup c =
+heard from (Vote agrees u) setup c =
     if is_of_this from u setup c.conduct then conducted c (voted from agrees c.conduct.phase setup c.conduct) else (c, [])
 heard from (Seen u) setup c = if is_of_this from u setup c.conduct then conducted c (seen from c.conduct.phase setup c.conduct) else (c, [])
 heard from (Inquire u) setup c = conducted c (inquired from u c.conduct)
@@ -258,7 +258,7 @@ votes_yes u p =
 abbrev pub votes_no : ℕ → Participant → Reaction Participant CommitMsg
 votes_no u p =
     let new : Participant = record { transaction = u; status = status.Aborted; first = noted u first.Aborted (passed_over p); unsure = raised p.unsure } in
-    (new, forced_by_participant new ++ Effect.Send 0 (Vote u false) ∷ [])
+    (new, forced_by_participant new ++ Effect.Send 0 (Vote false u) ∷ [])
 
 -- It is asked to prepare: one time in eight it is against. It repeats a vote that is stable.
 abbrev pub has_stable_vote : ℕ → Participant → Bool
@@ -267,7 +267,7 @@ has_stable_vote u p = (u == p.transaction) && ((is_prepared p.status || is_abort
 abbrev pub prepares : ℕ → ℕ → Participant → Reaction Participant CommitMsg
 prepares u word p =
     if nat_lt p.transaction u then (if word % 8 == 0 then votes_no u p else votes_yes u p)
-    else if has_stable_vote u p then (p, Effect.Send 0 (Vote u (is_prepared p.status)) ∷ [])
+    else if has_stable_vote u p then (p, Effect.Send 0 (Vote (is_prepared p.status) u) ∷ [])
     else (p, [])
 
 abbrev pub status_of : Bool → Status
@@ -295,7 +295,7 @@ decided u commit p =
 
 -- what a settled participant says when its sync has come
 abbrev pub says : Status → ℕ → List (Effect CommitMsg)
-says status.Prepared t = Effect.Send 0 (Vote t true) ∷ []
+says status.Prepared t = Effect.Send 0 (Vote true t) ∷ []
 says status.Committed t = Effect.Send 0 (Seen t) ∷ []
 says _ t = []
 
@@ -308,7 +308,7 @@ react_participant p input.Start word = inquires p
 react_participant p input.Timer word = inquires p
 react_participant p input.Synced word = participant_synced p
 react_participant p (input.Message from (Prepare u)) word = prepares u word p
-react_participant p (input.Message from (Decide u commit)) word = decided u commit p
+react_participant p (input.Message from (Decide commit u)) word = decided u commit p
 react_participant p _ word = (p, [])
 
 -- A client: what it counts from 1 is the operation that it waits for.
@@ -323,7 +323,7 @@ client_answered ops next = if next == ops then (raised next, Effect.Done ∷ [])
 abbrev pub react_client : ℕ → ℕ → Input CommitMsg → Reaction ℕ CommitMsg
 react_client ops next input.Start = client_asks 1
 react_client ops next input.Timer = if nat_le 1 next && nat_le next ops then client_asks next else (next, [])
-react_client ops next (input.Message from (Answer i ok)) = if i == next then client_answered ops next else (next, [])
+react_client ops next (input.Message from (Answer ok i)) = if i == next then client_answered ops next else (next, [])
 react_client ops next _ = (next, [])
 
 -- A host.

@@ -15,7 +15,7 @@ use Rattle.sim_two_phase.specs.declared.roles.CommitUndo.TheVariants as undo
 
 -- the clients that the coordinator answers are hosts
 abbrev pub IsPlacedPhase : ℕ → Phase → Type 0
-IsPlacedPhase hosts (phase.Voting client number votes) = client < hosts
+IsPlacedPhase hosts (phase.Voting client votes number) = client < hosts
 IsPlacedPhase hosts _ = Unit {0}
 
 pub record IsPlacedConduct (hosts : ℕ) (c : Conduct) : Type 0 where

@@ -53,7 +53,7 @@ pub fn react(
         Input::Start => ask(setup, 1, effects),
         Input::Timer if 1 <= next && next <= ops => ask(setup, next, effects),
         Input::Message {
-            msg: CommitMsg::Answer(i, _),
+            msg: CommitMsg::Answer(_, i),
             ..
         } if *i == next => { answered(setup, ops, next, effects) }
         _ => next,

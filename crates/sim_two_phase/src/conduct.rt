@@ -31,7 +31,7 @@ impl Conduct {
         requires hosts { effects.old.hosts ≡ setup.now.hosts }
         ensures { effects.new ≡ record effects.old { list = effects.old.list ++ telling setup.now self.now } }
     {
-        send_to_all(1, setup, CommitMsg::Decide(self.transaction, true), effects);
+        send_to_all(1, setup, CommitMsg::Decide(true, self.transaction), effects);
         effects.timer(PATIENCE);
     }
 
@@ -123,11 +123,11 @@ impl Conduct {
         self.phase = Phase::Resting;
         self.unsure = self.unsure.saturating_add(1);
         self.force(effects);
-        effects.send(client, CommitMsg::Answer(number, false));
+        effects.send(client, CommitMsg::Answer(false, number));
         send_to_all(
             1,
             setup,
-            CommitMsg::Decide(self.transaction, false),
+            CommitMsg::Decide(false, self.transaction),
             effects,
         );
         effects.timer(PAUSE);
@@ -202,9 +202,9 @@ impl Conduct {
         ensures { effects.new ≡ asked_for setup.now (inquired from u self.now).1 }
     {
         if u < self.transaction {
-            effects.send(from, CommitMsg::Decide(u, false));
+            effects.send(from, CommitMsg::Decide(false, u));
         } else if u == self.transaction && self.may_tell() {
-            effects.send(from, CommitMsg::Decide(u, self.commits));
+            effects.send(from, CommitMsg::Decide(self.commits, u));
         }
     }
 
@@ -227,7 +227,7 @@ impl Conduct {
                 );
             }
             Phase::Telling { told } => {
-                let decide = CommitMsg::Decide(self.transaction, true);
+                let decide = CommitMsg::Decide(true, self.transaction);
                 send_to_missing(1, setup, told, decide, effects);
             }
         }
@@ -261,7 +261,7 @@ impl Conduct {
             }
             (Phase::Telling { .. }, Some(owed)) => {
                 self.owed = None;
-                effects.send(owed.client, CommitMsg::Answer(owed.number, true));
+                effects.send(owed.client, CommitMsg::Answer(true, owed.number));
                 self.tell(setup, effects);
             }
             _ => {}

@@ -185,7 +185,7 @@ impl Coordinator {
         ensures waiting { self.new.waiting ≡ self.old.waiting }
     {
         match msg {
-            CommitMsg::Vote(u, agrees) if self.is_of_this(from, *u, setup) => {
+            CommitMsg::Vote(agrees, u) if self.is_of_this(from, *u, setup) => {
                 self.conduct.voted(from, *agrees, setup, effects)
             }
             CommitMsg::Seen(u) if self.is_of_this(from, *u, setup) => {

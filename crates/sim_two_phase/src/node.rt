@@ -1,5 +1,7 @@
 use crate::disk::byte_of_first;
-use crate::{CommitMsg, CommitUndo, Coordinator, Participant, Role, State, client};
+use crate::{
+    BoxedCoordinator, CommitMsg, CommitUndo, Coordinator, Participant, Role, State, client,
+};
 use sim_node::{Effects, Input, Meter, NoMemory, Node, Setup};
 use std::alloc::Global;
 use std::marker::{Model, PhantomData};
@@ -45,7 +47,7 @@ impl<T: Meter> Node for TwoPhase<T> {
     ghost records = { commit_records };
 
     fn boot(
-        _alloc: Global,
+        alloc: Global,
         setup: &Setup,
         me: u16,
         disk: &[u8],
@@ -55,7 +57,7 @@ impl<T: Meter> Node for TwoPhase<T> {
         let role = if me >= setup.servers {
             Role::Client { next: 0 }
         } else if me == 0 {
-            Role::Coordinator(Coordinator::at_boot(disk))
+            Role::Coordinator(BoxedCoordinator::new(alloc, Coordinator::at_boot(disk))?)
         } else {
             Role::Participant(Participant::at_boot(disk))
         };
@@ -87,7 +89,8 @@ impl<T: Meter> Node for TwoPhase<T> {
                 *next = client::react(setup, ops, before, input, effects);
                 CommitUndo::Client { next: before }
             }
-            Role::Coordinator(coordinator) => {
+            Role::Coordinator(boxed) => {
+                let coordinator = boxed.get_mut();
                 let conduct = coordinator.conduct;
                 let slots = coordinator.react(setup, input, effects);
                 CommitUndo::Coordinator { conduct, slots }
@@ -106,18 +109,30 @@ impl<T: Meter> Node for TwoPhase<T> {
         match (undo, &mut self.state.role) {
             (CommitUndo::Client { next }, Role::Client { next: now }) => *now = next,
             (CommitUndo::Participant(before), Role::Participant(now)) => *now = before,
-            (CommitUndo::Coordinator { conduct, slots }, Role::Coordinator(coordinator)) => {
-                coordinator.take_back(conduct, slots)
+            (CommitUndo::Coordinator { conduct, slots }, Role::Coordinator(boxed)) => {
+                boxed.get_mut().take_back(conduct, slots)
             }
             _ => {}
         }
         Ok(())
     }
 
-    fn copy(&self, _alloc: Global, meter: &mut T) -> Result<Self, NoMemory> {
+    fn copy(&self, alloc: Global, meter: &mut T) -> Result<Self, NoMemory> {
         meter.copied();
+        let role = match &self.state.role {
+            Role::Client { next } => Role::Client { next: *next },
+            Role::Coordinator(coordinator) => Role::Coordinator(BoxedCoordinator::new(
+                alloc,
+                *coordinator.get(),
+            )?),
+            Role::Participant(participant) => Role::Participant(*participant),
+        };
         Ok(TwoPhase {
-            state: self.state,
+            state: State {
+                setup: self.state.setup,
+                me: self.state.me,
+                role,
+            },
             meter: PhantomData,
         })
     }
@@ -125,7 +140,7 @@ impl<T: Meter> Node for TwoPhase<T> {
     fn probe(&self, k: u8) -> u64 {
         match (&self.state.role, k) {
             (Role::Client { next }, 0) => *next,
-            (Role::Coordinator(coordinator), 1) => byte_of_first(coordinator.conduct.first) as u64,
+            (Role::Coordinator(boxed), 1) => byte_of_first(boxed.get().conduct.first) as u64,
             (Role::Participant(participant), 1) => byte_of_first(participant.first) as u64,
             _ => 0,
         }

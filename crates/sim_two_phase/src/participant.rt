@@ -115,7 +115,7 @@ impl Participant {
     {
         let first = noted(u, First::Aborted, self.passed_over());
         self.force(u, Status::Aborted, first, effects);
-        effects.send(0, CommitMsg::Vote(u, false));
+        effects.send(0, CommitMsg::Vote(false, u));
     }
 
     /// It has voted on this transaction, and its vote is stable.
@@ -141,7 +141,7 @@ impl Participant {
                 self.vote_yes(u, setup, effects);
             }
         } else if self.has_stable_vote(u) {
-            effects.send(0, CommitMsg::Vote(u, self.is_prepared()));
+            effects.send(0, CommitMsg::Vote(self.is_prepared(), u));
         }
     }
 
@@ -191,7 +191,7 @@ impl Participant {
         self.unsure = self.unsure.saturating_sub(1);
         if self.unsure == 0 {
             match self.status {
-                Status::Prepared => effects.send(0, CommitMsg::Vote(self.transaction, true)),
+                Status::Prepared => effects.send(0, CommitMsg::Vote(true, self.transaction)),
                 Status::Committed => effects.send(0, CommitMsg::Seen(self.transaction)),
                 Status::Idle | Status::Aborted => {}
             }
@@ -216,7 +216,7 @@ impl Participant {
             Input::Synced => self.synced(setup, effects),
             Input::Message { msg, .. } => match msg {
                 CommitMsg::Prepare(u) => self.prepare(*u, word, setup, effects),
-                CommitMsg::Decide(u, commit) => self.decided(*u, *commit, setup, effects),
+                CommitMsg::Decide(commit, u) => self.decided(*u, *commit, setup, effects),
                 _ => {}
             },
         }

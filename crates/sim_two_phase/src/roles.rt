@@ -1,19 +1,21 @@
+use crate::BoxedCoordinator;
 use sim_hosts::HostSet;
 use sim_node::Setup;
 
 /// A message. A transaction is counted from 1 by the coordinator, an operation from 1 by its client.
+/// A flag stands first, beside the tag, to save bytes.
 #[derive(Clone, Copy, Debug, PartialEq, Eq)]
 pub enum CommitMsg {
     /// A client asks for a transaction, for its operation of this number.
     Begin(u64),
-    /// The transaction for this operation of the client is committed, or aborted.
-    Answer(u64, bool),
+    /// It is committed, or aborted: the transaction for this operation of the client.
+    Answer(bool, u64),
     /// The coordinator asks for a vote on this transaction.
     Prepare(u64),
-    /// A participant is for this transaction, or against it.
-    Vote(u64, bool),
-    /// This transaction is committed, or aborted.
-    Decide(u64, bool),
+    /// A participant is for it, or against it: this transaction.
+    Vote(bool, u64),
+    /// It is committed, or aborted: this transaction.
+    Decide(bool, u64),
     /// A participant has seen that this transaction is committed.
     Seen(u64),
     /// A participant asks what became of this transaction.
@@ -36,8 +38,8 @@ pub enum Phase {
     /// It asks for votes on the transaction for this operation of a client; those in the set are for it.
     Voting {
         client: u16,
-        number: u64,
         votes: HostSet,
+        number: u64,
     },
     /// It tells that the transaction is committed; those in the set have seen it.
     Telling {
@@ -94,16 +96,16 @@ pub struct Participant {
 }
 
 /// What a host is.
-#[derive(Clone, Copy, Debug)]
+#[derive(Drop)]
 pub enum Role {
     /// A client waits for the answer to this operation, counted from 1.
     Client { next: u64 },
-    Coordinator(Coordinator),
+    Coordinator(BoxedCoordinator),
     Participant(Participant),
 }
 
 /// The state of a host.
-#[derive(Clone, Copy, Debug)]
+#[derive(Drop)]
 pub struct State {
     pub setup: Setup,
     pub me: u16,
