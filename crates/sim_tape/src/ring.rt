@@ -175,12 +175,13 @@ impl<N: Node> Ring<N> {
     pub fn take_over(&mut self, spent: Ring<N>)
         ensures { self.new ≡ buffer [] self.old.capacity }
     {
-        self.free = 0;
-        self.len = 0;
         if self.capacity == spent.capacity {
             let Ring { slots, .. } = spent;
+            self.free = 0;
+            self.len = 0;
             self.slots = slots;
         }
+        self.clear();
     }
 
     /// Lets the records go.
