@@ -9,8 +9,10 @@ use Rattle.sim_primary_backup.specs.declared.roles.Primary.{Primary}
 use Rattle.sim_primary_backup.specs.declared.roles.Role.{Role}
 use Rattle.sim_primary_backup.specs.declared.roles.Role.TheVariants as role
 use Rattle.sim_primary_backup.specs.declared.roles.State.{State}
-use Rattle.sim_primary_backup.specs.declared.roles.Cell.{Cell}
-use Rattle.sim_primary_backup.specs.declared.roles.Slot.{Slot}
+use Rattle.sim_primary_backup.specs.declared.roles.CellBefore.{CellBefore}
+use Rattle.sim_primary_backup.specs.declared.roles.CellBefore.TheVariants as cell
+use Rattle.sim_primary_backup.specs.declared.roles.SlotBefore.{SlotBefore}
+use Rattle.sim_primary_backup.specs.declared.roles.SlotBefore.TheVariants as slot
 use Rattle.sim_primary_backup.specs.declared.roles.Changes.{Changes}
 use Rattle.sim_primary_backup.specs.declared.roles.BackupUndo.{BackupUndo}
 use Rattle.sim_primary_backup.specs.declared.roles.BackupUndo.TheVariants as undo
@@ -32,16 +34,17 @@ IsPlaced hosts (role.Primary p) = IsPlacedPrimary hosts p.store.progress p.curre
 IsPlaced hosts (role.Backup store) = IsPlacedStore store.progress
 
 -- a cell has its value again, and a host waits again with what it waited with
-abbrev pub restored_cell : Option Cell → List ℕ → List ℕ
-restored_cell None cells = cells
-restored_cell (Some cell) cells = slice_set cells cell.place cell.val
+abbrev pub restored_cell : CellBefore → List ℕ → List ℕ
+restored_cell cell.Same cells = cells
+restored_cell (cell.Held place val) cells = slice_set cells place val
 
-abbrev pub restored_slot : Option Slot → List (Option Waiter) → List (Option Waiter)
-restored_slot None waiting = waiting
-restored_slot (Some slot) waiting = slice_set waiting slot.host slot.waiter
+abbrev pub restored_slot : SlotBefore → List (Option Waiter) → List (Option Waiter)
+restored_slot slot.Same waiting = waiting
+restored_slot (slot.Empty host) waiting = slice_set waiting host None
+restored_slot (slot.Waited host waiter) waiting = slice_set waiting host (Some waiter)
 
-abbrev pub store_before : Progress → Option Cell → Store → Store
-store_before progress cell store = record { cells = restored_cell cell store.cells; progress = progress }
+abbrev pub store_before : Progress → CellBefore → Store → Store
+store_before progress before store = record { cells = restored_cell before store.cells; progress = progress }
 
 abbrev pub primary_before : Progress → Option Request → Changes → Primary → Primary
 primary_before progress current changes p = record {
@@ -51,23 +54,29 @@ primary_before progress current changes p = record {
 }
 
 -- What has changed is one of the 16 cells, and what one of the 32 hosts waits with.
-abbrev pub IsPlacedCell : Option Cell → Type 0
-IsPlacedCell cell = IfSome cell (λ c. c.place < 16)
+abbrev pub IsPlacedCell : CellBefore → Type 0
+IsPlacedCell cell.Same = Unit {0}
+IsPlacedCell (cell.Held place val) = place < 16
+
+abbrev pub IsPlacedSlot : SlotBefore → Type 0
+IsPlacedSlot slot.Same = Unit {0}
+IsPlacedSlot (slot.Empty host) = host < 32
+IsPlacedSlot (slot.Waited host waiter) = host < 32
 
 abbrev pub IsPlacedChanges : Changes → Type 0
-IsPlacedChanges changes = IsPlacedCell changes.cell × IfSome changes.slot (λ s. s.host < 32)
+IsPlacedChanges changes = IsPlacedCell changes.cell × IsPlacedSlot changes.slot
 
 -- a record fits a host of its kind
 abbrev pub fits_role : ℕ → BackupUndo → Role → Type 0
 fits_role hosts (undo.Client next) (role.Client now) = Unit {0}
 fits_role hosts (undo.Primary progress current changes) (role.Primary p) = IsPlacedPrimary hosts progress current × IsPlacedChanges changes
-fits_role hosts (undo.Backup progress cell) (role.Backup store) = IsPlacedStore progress × IsPlacedCell cell
+fits_role hosts (undo.Backup progress before) (role.Backup store) = IsPlacedStore progress × IsPlacedCell before
 fits_role hosts _ r = ⊥
 
 abbrev pub role_before : BackupUndo → Role → Role
 role_before (undo.Client next) r = role.Client next
 role_before (undo.Primary progress current changes) (role.Primary p) = role.Primary (primary_before progress current changes p)
-role_before (undo.Backup progress cell) (role.Backup store) = role.Backup (store_before progress cell store)
+role_before (undo.Backup progress before) (role.Backup store) = role.Backup (store_before progress before store)
 role_before _ r = r
 
 abbrev pub backup_records : NodeRecords State BackupUndo

@@ -4,11 +4,11 @@ ghost use Rattle.sim_hosts.specs.Reactions.{asked_for};
 ghost use Rattle.sim_primary_backup.specs.PrimaryBackup.{told, backup_synced, react_backup};
 ghost use Rattle.sim_primary_backup.specs.PrimaryBackupRecords.{IsPlacedStore, IsPlacedCell, restored_cell};
 
-use crate::{BackupMsg, Cell, Store};
+use crate::{BackupMsg, CellBefore, Store};
 use sim_node::{Effects, Input, Setup};
 
 impl Store {
-    /// The primary tells of a put: the answer is what the cell held, where it is applied.
+    /// The primary tells of a put: the answer is what the cell held, where the put is applied.
     fn told(
         &mut self,
         from: u16,
@@ -17,7 +17,7 @@ impl Store {
         val: u64,
         setup: &Setup,
         effects: &mut Effects<BackupMsg>,
-    ) -> Option<Cell>
+    ) -> CellBefore
         requires from { from < setup.now.hosts }
         requires placed { IsPlacedStore self.old.progress }
         requires empty { effects.old ≡ asked_for setup.now [] }
@@ -28,12 +28,12 @@ impl Store {
         ensures back { restored_cell result self.new.cells ≡ self.old.cells }
     {
         if m as u128 == self.progress.applied as u128 + 1 {
-            return Some(self.apply(m, cell % 16, val, effects));
+            return self.apply(m, cell % 16, val, effects);
         }
         if m <= self.progress.applied && self.progress.unsure == 0 {
             effects.send(from, BackupMsg::Ack(m));
         }
-        None
+        CellBefore::Same
     }
 
     /// A sync has come: where it is settled, it acknowledges what it has applied.
@@ -54,7 +54,7 @@ impl Store {
         setup: &Setup,
         input: &Input<BackupMsg>,
         effects: &mut Effects<BackupMsg>,
-    ) -> Option<Cell>
+    ) -> CellBefore
         requires hosts { 0 < setup.now.hosts }
         requires sender { IsFrom setup.now.hosts input.now }
         requires placed { IsPlacedStore self.old.progress }
@@ -68,13 +68,13 @@ impl Store {
         match input {
             Input::Synced => {
                 self.backup_synced(setup, effects);
-                None
+                CellBefore::Same
             }
             Input::Message {
                 sender,
                 msg: BackupMsg::Apply(cell, m, val),
             } => self.told(*sender, *m, *cell, *val, setup, effects),
-            _ => None,
+            _ => CellBefore::Same,
         }
     }
 }

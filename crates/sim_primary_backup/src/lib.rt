@@ -12,6 +12,6 @@ mod store;
 pub use boxed::BoxedPrimary;
 pub use node::PrimaryBackup;
 pub use roles::{
-    BackupMsg, BackupUndo, Cell, Changes, Primary, Progress, Request, Role, Slot, State, Store,
-    Waiter,
+    BackupMsg, BackupUndo, CellBefore, Changes, Primary, Progress, Request, Role, SlotBefore,
+    State, Store, Waiter,
 };

@@ -1,10 +1,12 @@
-ghost use Rattle.std.specs.Prelude.{ℕ, ◌≡◌, ◌+◌, ◌<◌, ◌≤◌, ◌++◌, [], length, Some, IfSome, slice_set};
+ghost use Rattle.std.specs.Prelude.{ℕ, List, Option, ◌≡◌, ◌+◌, ◌<◌, ◌≤◌, ◌++◌, [], length, Some, IfSome, slice_set};
 ghost use Rattle.sim_node.specs.Node.{IsSetup, IsFrom};
 ghost use Rattle.sim_hosts.specs.Reactions.{asked_for};
 ghost use Rattle.sim_primary_backup.specs.PrimaryBackup.{primary_at_boot, started, begun, begun_lowest, is_of_another, put_by, fin_of, acknowledged, acked, spread, primary_timer, settled, primary_synced, react_primary};
-ghost use Rattle.sim_primary_backup.specs.PrimaryBackupRecords.{IsPlacedPrimary, IsPlacedChanges, restored_cell, restored_slot, primary_before};
+ghost use Rattle.sim_primary_backup.specs.PrimaryBackupRecords.{IsPlacedPrimary, IsPlacedCell, IsPlacedSlot, IsPlacedChanges, restored_cell, restored_slot, primary_before};
 
-use crate::{BackupMsg, Cell, Changes, Primary, Progress, Request, Slot, Store, Waiter};
+use crate::{
+    BackupMsg, CellBefore, Changes, Primary, Progress, Request, SlotBefore, Store, Waiter,
+};
 use sim_hosts::{HostSet, is_other, lowest_waiting, send_to_all, send_to_missing};
 use sim_node::{Effects, Input, Setup};
 
@@ -13,8 +15,8 @@ const PATIENCE: u32 = 100;
 
 /// Nothing has changed.
 const UNCHANGED: Changes = Changes {
-    cell: None,
-    slot: None,
+    cell: CellBefore::Same,
+    slot: SlotBefore::Same,
 };
 
 impl Request {
@@ -36,6 +38,20 @@ impl Request {
     {
         if let Some(client) = self.client {
             effects.send(client, BackupMsg::Fin(self.number));
+        }
+    }
+}
+
+impl SlotBefore {
+    /// The host waited with this.
+    fn of(host: u16, waiter: Option<Waiter>) -> SlotBefore
+        requires { host < 32 }
+        ensures slot { IsPlacedSlot result }
+        ensures back { (waiting : List (Option Waiter)) → restored_slot result waiting ≡ slice_set waiting host waiter }
+    {
+        match waiter {
+            None => SlotBefore::Empty(host),
+            Some(waiter) => SlotBefore::Waited(host, waiter),
         }
     }
 }
@@ -80,14 +96,14 @@ impl Primary {
         put: Waiter,
         setup: &Setup,
         effects: &mut Effects<BackupMsg>,
-    ) -> Cell
+    ) -> CellBefore
         requires client { client < setup.now.hosts }
         requires room { length effects.old.list < 8 }
         ensures state { self.new ≡ (begun client put.number put.val self.old).0 }
         ensures placed { IsPlacedPrimary setup.now.hosts self.new.store.progress self.new.current }
         ensures effects { effects.new ≡ record effects.old { list = effects.old.list ++ (begun client put.number put.val self.old).1 } }
-        ensures cell { result.place < 16 }
-        ensures back { restored_cell (Some result) self.new.store.cells ≡ self.old.store.cells }
+        ensures cell { IsPlacedCell result }
+        ensures back { restored_cell result self.new.store.cells ≡ self.old.store.cells }
     {
         self.current = Some(Request {
             client: Some(client),
@@ -103,16 +119,13 @@ impl Primary {
     }
 
     /// A host waits with this from now on; the answer is what it waited with.
-    fn put_waiter(&mut self, host: u16, waiter: Option<Waiter>) -> Slot
+    fn put_waiter(&mut self, host: u16, waiter: Option<Waiter>) -> SlotBefore
         requires { host < 32 }
         ensures state { self.new ≡ record self.old { waiting = slice_set self.old.waiting host waiter } }
-        ensures back { restored_slot (Some result) self.new.waiting ≡ self.old.waiting }
-        ensures host { result.host < 32 }
+        ensures back { restored_slot result self.new.waiting ≡ self.old.waiting }
+        ensures slot { IsPlacedSlot result }
     {
-        let before = Slot {
-            host,
-            waiter: self.waiting[host as usize],
-        };
+        let before = SlotBefore::of(host, self.waiting[host as usize]);
         self.waiting[host as usize] = waiter;
         before
     }
@@ -134,8 +147,8 @@ impl Primary {
                 UNCHANGED
             }
             Some((client, put)) => {
-                let slot = Some(self.put_waiter(client, None));
-                let cell = Some(self.begin(client, put, setup, effects));
+                let slot = self.put_waiter(client, None);
+                let cell = self.begin(client, put, setup, effects);
                 Changes { cell, slot }
             }
         }
@@ -161,16 +174,19 @@ impl Primary {
     {
         let Some(current) = self.current else {
             return Changes {
-                cell: Some(self.begin(from, put, setup, effects)),
-                slot: None,
+                cell: self.begin(from, put, setup, effects),
+                slot: SlotBefore::Same,
             };
         };
         let slot = if current.is_of_another(from) {
-            Some(self.put_waiter(from, Some(put)))
+            self.put_waiter(from, Some(put))
         } else {
-            None
+            SlotBefore::Same
         };
-        Changes { cell: None, slot }
+        Changes {
+            cell: CellBefore::Same,
+            slot,
+        }
     }
 
     /// A backup has the current put.
@@ -317,8 +333,10 @@ impl Primary {
     {
         self.store.take_back(progress, changes.cell);
         self.current = current;
-        if let Some(before) = changes.slot {
-            self.waiting[before.host as usize] = before.waiter;
+        match changes.slot {
+            SlotBefore::Same => {}
+            SlotBefore::Empty(host) => self.waiting[host as usize] = None,
+            SlotBefore::Waited(host, waiter) => self.waiting[host as usize] = Some(waiter),
         }
     }
 }

@@ -76,23 +76,29 @@ pub struct State {
 
 /// What a cell held before a reaction.
 #[derive(Clone, Copy, Debug, PartialEq, Eq)]
-pub struct Cell {
-    pub place: u8,
-    pub val: u64,
+pub enum CellBefore {
+    /// The same: the reaction has changed no cell.
+    Same,
+    /// This cell held this value.
+    Held(u8, u64),
 }
 
 /// What a host waited with before a reaction.
 #[derive(Clone, Copy, Debug, PartialEq, Eq)]
-pub struct Slot {
-    pub host: u16,
-    pub waiter: Option<Waiter>,
+pub enum SlotBefore {
+    /// The same: the reaction has changed nobody's waiting.
+    Same,
+    /// This host did not wait.
+    Empty(u16),
+    /// This host waited with this put.
+    Waited(u16, Waiter),
 }
 
-/// What a cell held and what a host waited with, where a reaction of the primary has changed that.
+/// What a cell held and what a host waited with before a reaction of the primary.
 #[derive(Clone, Copy, Debug, PartialEq, Eq)]
 pub struct Changes {
-    pub cell: Option<Cell>,
-    pub slot: Option<Slot>,
+    pub cell: CellBefore,
+    pub slot: SlotBefore,
 }
 
 /// The record of a reaction: what the host was before it, as far as that may have changed.
@@ -111,6 +117,6 @@ pub enum BackupUndo {
     /// A backup had come so far, and a cell held this.
     Backup {
         progress: Progress,
-        cell: Option<Cell>,
+        cell: CellBefore,
     },
 }

@@ -1,10 +1,10 @@
-ghost use Rattle.std.specs.Prelude.{◌≡◌, ◌+◌, ◌<◌, ◌++◌, [], ◌∷◌, length, Some};
+ghost use Rattle.std.specs.Prelude.{◌≡◌, ◌+◌, ◌<◌, ◌++◌, [], ◌∷◌, length};
 ghost use Rattle.sim_hosts.specs.Bytes.{bytes_of};
 ghost use Rattle.sim_hosts.specs.Numbers.{is_settled};
 ghost use Rattle.sim_primary_backup.specs.PrimaryBackup.{cells_on, store_on, with_put, saved, apply_of, after_sync};
 ghost use Rattle.sim_primary_backup.specs.PrimaryBackupRecords.{IsPlacedStore, IsPlacedCell, restored_cell, store_before};
 
-use crate::{BackupMsg, Cell, Progress, Store};
+use crate::{BackupMsg, CellBefore, Progress, Store};
 use sim_hosts::{byte_at, number_at, put_number};
 use sim_node::Effects;
 
@@ -61,17 +61,14 @@ impl Store {
     }
 
     /// Puts a value into a cell, as put number n; the answer is what the cell held.
-    fn put(&mut self, n: u64, place: u8, val: u64) -> Cell
+    fn put(&mut self, n: u64, place: u8, val: u64) -> CellBefore
         requires { place < 16 }
         ensures state { self.new ≡ with_put n place val self.old }
         ensures placed { IsPlacedStore self.new.progress }
-        ensures cell { result.place < 16 }
-        ensures back { restored_cell (Some result) self.new.cells ≡ self.old.cells }
+        ensures cell { IsPlacedCell result }
+        ensures back { restored_cell result self.new.cells ≡ self.old.cells }
     {
-        let before = Cell {
-            place,
-            val: self.cells[place as usize],
-        };
+        let before = CellBefore::Held(place, self.cells[place as usize]);
         self.cells[place as usize] = val;
         self.progress = Progress {
             applied: n,
@@ -94,14 +91,20 @@ impl Store {
     }
 
     /// Puts a value into a cell, and writes that to the disk; the answer is what the cell held.
-    pub fn apply(&mut self, n: u64, place: u8, val: u64, effects: &mut Effects<BackupMsg>) -> Cell
+    pub fn apply(
+        &mut self,
+        n: u64,
+        place: u8,
+        val: u64,
+        effects: &mut Effects<BackupMsg>,
+    ) -> CellBefore
         requires place { place < 16 }
         requires room { length effects.old.list < 36 }
         ensures state { self.new ≡ with_put n place val self.old }
         ensures placed { IsPlacedStore self.new.progress }
         ensures effects { effects.new ≡ record effects.old { list = effects.old.list ++ saved self.new } }
-        ensures cell { result.place < 16 }
-        ensures back { restored_cell (Some result) self.new.cells ≡ self.old.cells }
+        ensures cell { IsPlacedCell result }
+        ensures back { restored_cell result self.new.cells ≡ self.old.cells }
     {
         let before = self.put(n, place, val);
         self.save(effects);
@@ -131,13 +134,13 @@ impl Store {
     }
 
     /// Takes a reaction back.
-    pub fn take_back(&mut self, progress: Progress, cell: Option<Cell>)
+    pub fn take_back(&mut self, progress: Progress, cell: CellBefore)
         requires { IsPlacedCell cell }
         ensures { self.new ≡ store_before progress cell self.old }
     {
         self.progress = progress;
-        if let Some(before) = cell {
-            self.cells[before.place as usize] = before.val;
+        if let CellBefore::Held(place, val) = cell {
+            self.cells[place as usize] = val;
         }
     }
 }
