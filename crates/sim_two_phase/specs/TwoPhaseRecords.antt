@@ -8,7 +8,8 @@ use Rattle.sim_two_phase.specs.declared.roles.Coordinator.{Coordinator}
 use Rattle.sim_two_phase.specs.declared.roles.Role.{Role}
 use Rattle.sim_two_phase.specs.declared.roles.Role.TheVariants as role
 use Rattle.sim_two_phase.specs.declared.roles.State.{State}
-use Rattle.sim_two_phase.specs.declared.roles.Slot.{Slot}
+use Rattle.sim_two_phase.specs.declared.roles.SlotBefore.{SlotBefore}
+use Rattle.sim_two_phase.specs.declared.roles.SlotBefore.TheVariants as slot
 use Rattle.sim_two_phase.specs.declared.roles.Slots.{Slots}
 use Rattle.sim_two_phase.specs.declared.roles.CommitUndo.{CommitUndo}
 use Rattle.sim_two_phase.specs.declared.roles.CommitUndo.TheVariants as undo
@@ -27,16 +28,22 @@ IsPlaced hosts (role.Coordinator c) = IsPlacedConduct hosts c.conduct
 IsPlaced hosts _ = Unit {0}
 
 -- what a host waited with stands in its slot again
-abbrev pub restored : Option Slot → List (Option ℕ) → List (Option ℕ)
-restored None waiting = waiting
-restored (Some slot) waiting = slice_set waiting slot.host slot.number
+abbrev pub restored : SlotBefore → List (Option ℕ) → List (Option ℕ)
+restored slot.Same waiting = waiting
+restored (slot.Empty host) waiting = slice_set waiting host None
+restored (slot.Waited host number) waiting = slice_set waiting host (Some number)
 
 abbrev pub coordinator_before : Conduct → Slots → Coordinator → Coordinator
 coordinator_before conduct slots c = record { conduct = conduct; waiting = restored slots.asked (restored slots.begun c.waiting) }
 
 -- A slot names one of the 32 hosts.
+abbrev pub IsPlacedSlot : SlotBefore → Type 0
+IsPlacedSlot slot.Same = Unit {0}
+IsPlacedSlot (slot.Empty host) = host < 32
+IsPlacedSlot (slot.Waited host number) = host < 32
+
 abbrev pub IsPlacedSlots : Slots → Type 0
-IsPlacedSlots slots = IfSome slots.asked (λ s. s.host < 32) × IfSome slots.begun (λ s. s.host < 32)
+IsPlacedSlots slots = IsPlacedSlot slots.asked × IsPlacedSlot slots.begun
 
 -- a record fits a host of its kind
 abbrev pub fits_role : ℕ → CommitUndo → Role → Type 0

@@ -1,19 +1,19 @@
-ghost use Rattle.std.specs.Prelude.{◌≡◌, ◌<◌, [], Some, IfSome, slice_set};
+ghost use Rattle.std.specs.Prelude.{◌≡◌, ◌<◌, [], ℕ, List, Option, slice_set};
 ghost use Rattle.sim_node.specs.Node.{IsSetup, IsFrom};
 ghost use Rattle.sim_hosts.specs.Reactions.{asked_for};
 ghost use Rattle.sim_two_phase.specs.TwoPhase.{presumed, coordinator_at_boot, is_of_this, begun_for, begun, is_voting_for, asked_by, coordinator_timer, heard, react_coordinator};
-ghost use Rattle.sim_two_phase.specs.TwoPhaseRecords.{IsPlacedConduct, IsPlacedSlots, restored, coordinator_before};
+ghost use Rattle.sim_two_phase.specs.TwoPhaseRecords.{IsPlacedConduct, IsPlacedSlot, IsPlacedSlots, restored, coordinator_before};
 
 use crate::conduct::PATIENCE;
 use crate::disk::first_of_byte;
-use crate::{CommitMsg, Conduct, Coordinator, First, Phase, Slot, Slots};
+use crate::{CommitMsg, Conduct, Coordinator, First, Phase, SlotBefore, Slots};
 use sim_hosts::{HostSet, byte_at, is_other, lowest_waiting, number_at};
 use sim_node::{Effects, Input, Setup};
 
 /// Nobody's waiting has changed.
 const UNCHANGED: Slots = Slots {
-    asked: None,
-    begun: None,
+    asked: SlotBefore::Same,
+    begun: SlotBefore::Same,
 };
 
 /// What became of transaction 1, at a boot: where it has begun and is open, it is presumed to be aborted.
@@ -24,6 +24,20 @@ fn presumed(transaction: u64, first: First) -> First
         First::Aborted
     } else {
         first
+    }
+}
+
+impl SlotBefore {
+    /// The host waited with this.
+    fn of(host: u16, number: Option<u64>) -> SlotBefore
+        requires { host < 32 }
+        ensures host { IsPlacedSlot result }
+        ensures back { (waiting : List (Option ℕ)) → restored result waiting ≡ slice_set waiting host number }
+    {
+        match number {
+            None => SlotBefore::Empty(host),
+            Some(number) => SlotBefore::Waited(host, number),
+        }
     }
 }
 
@@ -47,16 +61,13 @@ impl Coordinator {
     }
 
     /// The host waits with this from now on; the answer is what it waited with.
-    fn put(&mut self, host: u16, number: Option<u64>) -> Slot
+    fn put(&mut self, host: u16, number: Option<u64>) -> SlotBefore
         requires { host < 32 }
         ensures state { self.new ≡ record self.old { waiting = slice_set self.old.waiting host number } }
-        ensures back { restored (Some result) self.new.waiting ≡ self.old.waiting }
-        ensures host { result.host < 32 }
+        ensures back { restored result self.new.waiting ≡ self.old.waiting }
+        ensures host { IsPlacedSlot result }
     {
-        let before = Slot {
-            host,
-            number: self.waiting[host as usize],
-        };
+        let before = SlotBefore::of(host, self.waiting[host as usize]);
         self.waiting[host as usize] = number;
         before
     }
@@ -68,7 +79,7 @@ impl Coordinator {
         number: u64,
         setup: &Setup,
         effects: &mut Effects<CommitMsg>,
-    ) -> Slot
+    ) -> SlotBefore
         requires setup { IsSetup setup.now }
         requires client { client < setup.now.hosts }
         requires placed { IsPlacedConduct setup.now.hosts self.old.conduct }
@@ -76,8 +87,8 @@ impl Coordinator {
         ensures state { self.new ≡ (begun_for (client, number) self.old).0 }
         ensures placed { IsPlacedConduct setup.now.hosts self.new.conduct }
         ensures effects { effects.new ≡ asked_for setup.now (begun_for (client, number) self.old).1 }
-        ensures back { restored (Some result) self.new.waiting ≡ self.old.waiting }
-        ensures host { result.host < 32 }
+        ensures back { restored result self.new.waiting ≡ self.old.waiting }
+        ensures host { IsPlacedSlot result }
     {
         let before = self.put(client, None);
         self.conduct.transaction = self.conduct.transaction.saturating_add(1);
@@ -94,7 +105,7 @@ impl Coordinator {
     }
 
     /// Begins a transaction for the lowest host that waits, where one does.
-    fn begin(&mut self, setup: &Setup, effects: &mut Effects<CommitMsg>) -> Option<Slot>
+    fn begin(&mut self, setup: &Setup, effects: &mut Effects<CommitMsg>) -> SlotBefore
         requires setup { IsSetup setup.now }
         requires placed { IsPlacedConduct setup.now.hosts self.old.conduct }
         requires empty { effects.old ≡ asked_for setup.now [] }
@@ -102,11 +113,11 @@ impl Coordinator {
         ensures placed { IsPlacedConduct setup.now.hosts self.new.conduct }
         ensures effects { effects.new ≡ asked_for setup.now (begun setup.now self.old).1 }
         ensures back { restored result self.new.waiting ≡ self.old.waiting }
-        ensures host { IfSome result (λ s. s.host < 32) }
+        ensures host { IsPlacedSlot result }
     {
         match lowest_waiting(setup, &self.waiting) {
-            None => None,
-            Some((client, number)) => Some(self.begin_for(client, number, setup, effects)),
+            None => SlotBefore::Same,
+            Some((client, number)) => self.begin_for(client, number, setup, effects),
         }
     }
 
@@ -140,16 +151,16 @@ impl Coordinator {
         if self.is_voting_for(from) {
             return UNCHANGED;
         }
-        let asked = Some(self.put(from, Some(number)));
+        let asked = self.put(from, Some(number));
         let begun = match self.conduct.phase {
             Phase::Resting => self.begin(setup, effects),
-            _ => None,
+            _ => SlotBefore::Same,
         };
         Slots { asked, begun }
     }
 
     /// The timer.
-    fn timed_out(&mut self, setup: &Setup, effects: &mut Effects<CommitMsg>) -> Option<Slot>
+    fn timed_out(&mut self, setup: &Setup, effects: &mut Effects<CommitMsg>) -> SlotBefore
         requires setup { IsSetup setup.now }
         requires placed { IsPlacedConduct setup.now.hosts self.old.conduct }
         requires empty { effects.old ≡ asked_for setup.now [] }
@@ -157,13 +168,13 @@ impl Coordinator {
         ensures placed { IsPlacedConduct setup.now.hosts self.new.conduct }
         ensures effects { effects.new ≡ asked_for setup.now (coordinator_timer self.old.conduct.phase setup.now self.old).1 }
         ensures back { restored result self.new.waiting ≡ self.old.waiting }
-        ensures host { IfSome result (λ s. s.host < 32) }
+        ensures host { IsPlacedSlot result }
     {
         if self.conduct.phase == Phase::Resting {
             return self.begin(setup, effects);
         }
         self.conduct.timed_out(setup, effects);
-        None
+        SlotBefore::Same
     }
 
     /// Whether the message is one of a participant about the transaction that is under way.
@@ -238,12 +249,14 @@ impl Coordinator {
     }
 
     /// A host waits again with what it waited with.
-    fn put_back(&mut self, slot: Option<Slot>)
-        requires { IfSome slot (λ s. s.host < 32) }
+    fn put_back(&mut self, slot: SlotBefore)
+        requires { IsPlacedSlot slot }
         ensures { self.new ≡ record self.old { waiting = restored slot self.old.waiting } }
     {
-        if let Some(before) = slot {
-            self.waiting[before.host as usize] = before.number;
+        match slot {
+            SlotBefore::Same => {}
+            SlotBefore::Empty(host) => self.waiting[host as usize] = None,
+            SlotBefore::Waited(host, number) => self.waiting[host as usize] = Some(number),
         }
     }
 }

@@ -13,6 +13,6 @@ mod roles;
 pub use boxed::BoxedCoordinator;
 pub use node::TwoPhase;
 pub use roles::{
-    CommitMsg, CommitUndo, Conduct, Coordinator, First, Owed, Participant, Phase, Role, Slot,
+    CommitMsg, CommitUndo, Conduct, Coordinator, First, Owed, Participant, Phase, Role, SlotBefore,
     Slots, State, Status,
 };

@@ -114,17 +114,21 @@ pub struct State {
 
 /// What a host waited with before a reaction.
 #[derive(Clone, Copy, Debug, PartialEq, Eq)]
-pub struct Slot {
-    pub host: u16,
-    pub number: Option<u64>,
+pub enum SlotBefore {
+    /// The same: the reaction has changed nobody's waiting.
+    Same,
+    /// This host did not wait.
+    Empty(u16),
+    /// This host waited with this operation.
+    Waited(u16, u64),
 }
 
 /// What those hosts waited with whose waiting a reaction has changed: the one that asked, and the one for which a
 /// transaction was begun after that.
 #[derive(Clone, Copy, Debug, PartialEq, Eq)]
 pub struct Slots {
-    pub asked: Option<Slot>,
-    pub begun: Option<Slot>,
+    pub asked: SlotBefore,
+    pub begun: SlotBefore,
 }
 
 /// The record of a reaction: what the host was before it.
