@@ -43,9 +43,9 @@ struct Scanner<N: Node> {
 fn scanners<N: Node>(alloc: Global, meters: Vec<N::Meter>) -> Result<Vec<Scanner<N>>, NoMemory>
     ensures { IfOk result (λ made. length made.items ≡ length meters.items) }
 {
-    let mut made = Vec::with_capacity(alloc, meters.len())?;
+    let mut made = Vec::new(alloc);
     for meter in meters {
-        made.push_reserved(Scanner { meter, last: None });
+        made.push(Scanner { meter, last: None })?;
     }
     Ok(made)
 }
