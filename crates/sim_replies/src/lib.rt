@@ -1,6 +1,7 @@
 //! The lines that tell replies.
 #![tactic(auto)]
 
+mod ending;
 mod event;
 mod lines;
 mod named;

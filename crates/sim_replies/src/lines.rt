@@ -1,41 +1,42 @@
 //! The lines that tell replies.
-ghost use Rattle.std.specs.Prelude.{◌≡◌, ◌++◌, Some, OnOk, string_bytes};
-ghost use Rattle.sim_replies.specs.Lines.{move_words, reply_words, turn_line};
+ghost use Rattle.std.specs.Prelude.{◌≡◌, ℕ, ◌+◌, ◌≤◌, List, ◌∷◌, ◌++◌, OnOk, string_bytes};
+ghost use Rattle.sim_replies.specs.Lines.{line, move_words, reply_words, spaced, stop_words, turn_line};
 
+use crate::ending::Ending;
 use crate::named::{branch_of, not_taken_name, refusal_name};
 use crate::trace::tell_trace;
-use crate::view::ShownView;
+use crate::view::tell_view;
 use sim_book::{Entry, NotTaken, Reply, Stop};
 use sim_script::Names;
 use std::alloc::{AllocError, Global};
-use std::fmt;
 
-/// The place and the clock after a command, and why it stopped there.
-#[derive(Clone, Copy)]
-struct ShownMove {
-    place: u32,
-    clock: u64,
-    stop: Stop,
-}
-
-impl fmt::Display for ShownMove {
-    ghost output = { λ s. Some (move_words s.place s.clock s.stop) };
-
-    fn fmt<W: fmt::Write>(&self, f: &mut fmt::Formatter<W>) -> fmt::Result {
-        let place = self.place;
-        let clock = self.clock;
-        match self.stop {
-            Stop::Asked => write!(f, "place {place} clock {clock}"),
-            Stop::AllDone => write!(f, "place {place} clock {clock} all done"),
-            Stop::Idle => write!(f, "place {place} clock {clock} idle"),
-            Stop::Watch(watch) => write!(f, "place {place} clock {clock} watch {watch}"),
-            Stop::Full => write!(f, "place {place} clock {clock} full"),
-            Stop::Long => write!(f, "place {place} clock {clock} long"),
-        }
+/// Puts, before the end of a line, why a branch stopped.
+fn put_stop(end: &mut Ending, stop: Stop)
+    requires { 40 ≤ end.old.room }
+    ensures text { (word : List ℕ) → word ++ end.new.text ≡ spaced (word ∷ stop_words stop) ++ end.old.text }
+    ensures room { end.old.room ≤ end.new.room + 40 }
+{
+    match stop {
+        Stop::Asked => {}
+        Stop::AllDone => end.put(" all done"),
+        Stop::Idle => end.put(" idle"),
+        Stop::Watch(watch) => end.put_field(" watch ", u64::from(watch)),
+        Stop::Full => end.put(" full"),
+        Stop::Long => end.put(" long"),
     }
 }
 
-/// Adds the words of a reply to a command on a branch.
+/// Puts, before the end of a line, the place and the clock after a command, and why it stopped there.
+fn put_move(end: &mut Ending, place: u32, clock: u64, stop: Stop)
+    requires { 100 ≤ end.old.room }
+    ensures { end.new.text ≡ move_words place clock stop ++ end.old.text }
+{
+    put_stop(end, stop);
+    end.put_field(" clock ", clock);
+    end.put_field("place ", u64::from(place));
+}
+
+/// Adds the line of a reply to a command on a branch.
 fn tell_reply(
     alloc: Global,
     text: &mut String,
@@ -43,33 +44,21 @@ fn tell_reply(
     branch: u32,
     reply: &Reply,
 ) -> Result<(), AllocError>
-    ensures { OnOk result (string_bytes text.new ≡ string_bytes text.old ++ reply_words names.now branch reply.now) }
+    ensures { OnOk result (string_bytes text.new ≡ string_bytes text.old ++ line (reply_words names.now branch reply.now)) }
 {
+    let mut end = Ending::of("\n");
     match reply {
-        Reply::Moved { place, clock, stop } => {
-            let shown = ShownMove {
-                place: *place,
-                clock: *clock,
-                stop: *stop,
-            };
-            write!(text, "{shown}")
-        }
-        Reply::Made(number) => write!(text, "made {number}"),
-        Reply::Dropped(watch) => write!(text, "dropped {watch}"),
-        Reply::Seen { place, view } => {
-            let shown = ShownView {
-                names,
-                place: *place,
-                view: *view,
-            };
-            write!(text, "{shown}")
-        }
-        Reply::Frozen(events) => tell_trace(alloc, text, names, branch, events),
+        Reply::Moved { place, clock, stop } => put_move(&mut end, *place, *clock, *stop),
+        Reply::Made(number) => end.put_field("made ", u64::from(*number)),
+        Reply::Dropped(watch) => end.put_field("dropped ", u64::from(*watch)),
+        Reply::Seen { place, view } => tell_view(text, &mut end, names, *place, *view)?,
+        Reply::Frozen(events) => tell_trace(alloc, text, names, branch, events)?,
         Reply::Refused(refusal) => {
-            let refusal = refusal_name(*refusal);
-            write!(text, "refused {refusal}")
+            end.put(refusal_name(*refusal));
+            end.put("refused ");
         }
     }
+    text.push_str(end.as_str())
 }
 
 /// Writes the line that tells a turn in place of the text. Memory is taken where the text has no room for the line, and for the
@@ -84,8 +73,10 @@ pub fn tell_turn(
 {
     text.clear();
     match turn {
-        Ok(entry) => tell_reply(alloc, text, names, branch_of(&entry.command), &entry.reply)?,
-        Err(why) => text.push_str(not_taken_name(*why))?,
+        Ok(entry) => tell_reply(alloc, text, names, branch_of(&entry.command), &entry.reply),
+        Err(why) => {
+            text.push_str(not_taken_name(*why))?;
+            text.push('\n')
+        }
     }
-    text.push('\n')
 }

@@ -1,103 +1,150 @@
 //! What is seen at a place, in words.
-ghost use Rattle.std.specs.Prelude.{◌≡◌, Some};
-ghost use Rattle.sim_replies.specs.Lines.{next_words, view_words};
+ghost use Rattle.std.specs.Prelude.{◌≡◌, ℕ, ◌+◌, ◌≤◌, List, [], ◌∷◌, ◌++◌, codes, OnOk, string_bytes};
+ghost use Rattle.sim_replies.specs.Lines.{field, next_words, spaced, up_word, value_word, view_words, yes_word};
 
+use crate::ending::Ending;
 use crate::named::{kind_name, state_name, up_name, yes_name};
 use sim_script::Names;
 use sim_world::{Coming, View};
-use std::fmt;
+use std::alloc::AllocError;
 
-/// The first pending occurrence, or none, with the names of the hosts.
-#[derive(Clone, Copy)]
-struct ShownNext<'a> {
-    names: &'a Names,
+/// Tells the first pending occurrence, or none: names are added to the text, and what follows them is put before the end.
+fn tell_next(
+    text: &mut String,
+    end: &mut Ending,
+    names: &Names,
     next: Option<Coming>,
-}
-
-impl fmt::Display for ShownNext<'_> {
-    ghost output = { λ s. Some (next_words s.names.now s.next) };
-
-    fn fmt<W: fmt::Write>(&self, f: &mut fmt::Formatter<W>) -> fmt::Result {
-        match self.next {
-            None => write!(f, "none"),
-            Some(coming) => {
-                let host = self.names.host_name(coming.host);
-                let kind = kind_name(coming.kind);
-                write!(
-                    f,
-                    "due {} serial {} host {host} {kind}",
-                    coming.due, coming.serial
-                )
-            }
+) -> Result<(), AllocError>
+    requires { 191 ≤ end.old.room }
+    ensures { OnOk result (string_bytes text.new ++ end.new.text ≡ string_bytes text.old ++ (next_words names.now next ++ end.old.text)) }
+{
+    match next {
+        None => {
+            end.put("none");
+            Ok(())
+        }
+        Some(coming) => {
+            let mut front = Ending::of(" host ");
+            front.put_field(" serial ", coming.serial);
+            front.put_field("due ", coming.due);
+            text.push_str(front.as_str())?;
+            end.put(kind_name(coming.kind));
+            end.put(" ");
+            text.push_str(names.host_name(coming.host))
         }
     }
 }
 
-/// What is seen at a place, with the names of the hosts and probes.
-#[derive(Clone, Copy)]
-pub struct ShownView<'a> {
-    pub names: &'a Names,
-    pub place: u32,
-    pub view: View,
+/// Puts, before the end, the value of a probe, or that its host is down.
+fn put_value(end: &mut Ending, value: Option<u64>)
+    requires { 20 ≤ end.old.room }
+    ensures text { end.new.text ≡ value_word value ++ end.old.text }
+    ensures room { end.old.room ≤ end.new.room + 20 }
+{
+    match value {
+        None => end.put("down"),
+        Some(value) => end.put_number(value),
+    }
 }
 
-impl fmt::Display for ShownView<'_> {
-    ghost output = { λ s. Some (view_words s.names.now s.place s.view) };
+/// Puts, before the end, the place and what is counted there.
+fn put_summary(
+    end: &mut Ending,
+    place: u32,
+    clock: u64,
+    serial: u64,
+    net: u64,
+    torn: u64,
+    pending: u32,
+    held: u32,
+)
+    requires { 191 ≤ end.old.room }
+    ensures { end.new.text ≡ spaced (field (codes "place") place ∷ field (codes "clock") clock ∷ field (codes "serial") serial ∷ field (codes "net") net
+        ∷ field (codes "torn") torn ∷ field (codes "pending") pending ∷ field (codes "held") held ∷ []) ++ end.old.text }
+{
+    end.put_field(" held ", u64::from(held));
+    end.put_field(" pending ", u64::from(pending));
+    end.put_field(" torn ", torn);
+    end.put_field(" net ", net);
+    end.put_field(" serial ", serial);
+    end.put_field(" clock ", clock);
+    end.put_field("place ", u64::from(place));
+}
 
-    fn fmt<W: fmt::Write>(&self, f: &mut fmt::Formatter<W>) -> fmt::Result {
-        let names = self.names;
-        let place = self.place;
-        match self.view {
-            View::Summary {
-                clock,
-                serial,
-                net,
-                torn,
-                pending,
-                held,
-            } => write!(
-                f,
-                "place {place} clock {clock} serial {serial} net {net} torn {torn} pending {pending} held {held}"
-            ),
-            View::Next(next) => {
-                let shown = ShownNext { names, next };
-                write!(f, "{shown}")
-            }
-            View::HostView {
-                host,
-                up,
-                done,
-                draws,
-                stable,
-                unsynced,
-            } => {
-                let name = names.host_name(host);
-                let up = up_name(up);
-                let done = yes_name(done);
-                write!(
-                    f,
-                    "{name} {up} done {done} draws {draws} stable {stable} unsynced {unsynced}"
-                )
-            }
-            View::Link {
-                a,
-                b,
-                state,
-                messages,
-            } => {
-                let from = names.host_name(a);
-                let to = names.host_name(b);
-                let state = state_name(state);
-                write!(f, "{from} {to} {state} messages {messages}")
-            }
-            View::Probe { host, probe, value } => {
-                let host = names.host_name(host);
-                let probe = names.probe_name(probe);
-                match value {
-                    Some(value) => write!(f, "{host} {probe} {value}"),
-                    None => write!(f, "{host} {probe} down"),
-                }
-            }
+/// Puts, before the end, what is seen of a host: all that follows its name.
+fn put_host(end: &mut Ending, up: bool, done: bool, draws: u64, stable: u32, unsynced: u32)
+    requires { 191 ≤ end.old.room }
+    ensures { (name : List ℕ) → name ++ end.new.text ≡ spaced (name ∷ up_word up ∷ codes "done" ∷ yes_word done ∷ field (codes "draws") draws
+        ∷ field (codes "stable") stable ∷ field (codes "unsynced") unsynced ∷ []) ++ end.old.text }
+{
+    end.put_field(" unsynced ", u64::from(unsynced));
+    end.put_field(" stable ", u64::from(stable));
+    end.put_field(" draws ", draws);
+    end.put(yes_name(done));
+    end.put(" done ");
+    end.put(up_name(up));
+    end.put(" ");
+}
+
+/// Adds two names to a text, with a space after the first.
+fn add_names(text: &mut String, first: &str, second: &str) -> Result<(), AllocError>
+    ensures { OnOk result (string_bytes text.new ≡ string_bytes text.old ++ spaced (first.now ∷ second.now ∷ [])) }
+{
+    text.push_str(first)?;
+    text.push(' ')?;
+    text.push_str(second)
+}
+
+/// Tells what is seen at a place: names are added to the text, and what follows them is put before the end.
+pub fn tell_view(
+    text: &mut String,
+    end: &mut Ending,
+    names: &Names,
+    place: u32,
+    view: View,
+) -> Result<(), AllocError>
+    requires { 191 ≤ end.old.room }
+    ensures { OnOk result (string_bytes text.new ++ end.new.text ≡ string_bytes text.old ++ (view_words names.now place view ++ end.old.text)) }
+{
+    match view {
+        View::Summary {
+            clock,
+            serial,
+            net,
+            torn,
+            pending,
+            held,
+        } => {
+            put_summary(end, place, clock, serial, net, torn, pending, held);
+            Ok(())
+        }
+        View::Next(next) => tell_next(text, end, names, next),
+        View::HostView {
+            host,
+            up,
+            done,
+            draws,
+            stable,
+            unsynced,
+        } => {
+            put_host(end, up, done, draws, stable, unsynced);
+            text.push_str(names.host_name(host))
+        }
+        View::Link {
+            a,
+            b,
+            state,
+            messages,
+        } => {
+            end.put_field(" messages ", u64::from(messages));
+            end.put(state_name(state));
+            end.put(" ");
+            add_names(text, names.host_name(a), names.host_name(b))
+        }
+        View::Probe { host, probe, value } => {
+            put_value(end, value);
+            end.put(" ");
+            add_names(text, names.host_name(host), names.probe_name(probe))
         }
     }
 }
