@@ -1,6 +1,7 @@
-ghost use Rattle.std.specs.Prelude.{◌≡◌, ◌+◌, ◌<◌, ◌++◌, [], ◌∷◌, length};
+ghost use Rattle.std.specs.Prelude.{◌≡◌, ◌+◌, ◌<◌, ◌++◌, [], ◌∷◌, length, slice_index};
 ghost use Rattle.sim_hosts.specs.Bytes.{bytes_of};
 ghost use Rattle.sim_hosts.specs.Numbers.{is_settled};
+ghost use Rattle.sim_primary_backup.specs.declared.roles.CellBefore.TheVariants as before;
 ghost use Rattle.sim_primary_backup.specs.PrimaryBackup.{cells_on, store_on, with_put, saved, apply_of, after_sync};
 ghost use Rattle.sim_primary_backup.specs.PrimaryBackupRecords.{IsPlacedStore, IsPlacedCell, restored_cell, store_before};
 
@@ -65,6 +66,7 @@ impl Store {
         requires { place < 16 }
         ensures state { self.new ≡ with_put n place val self.old }
         ensures placed { IsPlacedStore self.new.progress }
+        ensures held { result ≡ before.Held place (slice_index self.old.cells place) }
         ensures cell { IsPlacedCell result }
         ensures back { restored_cell result self.new.cells ≡ self.old.cells }
     {
@@ -103,6 +105,7 @@ impl Store {
         ensures state { self.new ≡ with_put n place val self.old }
         ensures placed { IsPlacedStore self.new.progress }
         ensures effects { effects.new ≡ record effects.old { list = effects.old.list ++ saved self.new } }
+        ensures held { result ≡ before.Held place (slice_index self.old.cells place) }
         ensures cell { IsPlacedCell result }
         ensures back { restored_cell result self.new.cells ≡ self.old.cells }
     {
