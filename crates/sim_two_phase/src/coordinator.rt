@@ -1,4 +1,4 @@
-ghost use Rattle.std.specs.Prelude.{◌≡◌, ◌<◌, [], ℕ, List, Option, slice_set};
+ghost use Rattle.std.specs.Prelude.{ℕ, List, Option, ◌≡◌, ◌<◌, [], slice_set};
 ghost use Rattle.sim_node.specs.Node.{IsSetup, IsFrom};
 ghost use Rattle.sim_hosts.specs.Reactions.{asked_for};
 ghost use Rattle.sim_two_phase.specs.TwoPhase.{presumed, coordinator_at_boot, is_of_this, begun_for, begun, is_voting_for, asked_by, coordinator_timer, heard, react_coordinator};
