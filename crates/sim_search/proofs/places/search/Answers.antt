@@ -4,7 +4,7 @@ use Rattle.sim_watch.specs.Search.{pieces, fails_at}
 use Rattle.sim_claims.specs.Best.{IsFirst}
 use Rattle.sim_search.specs.Faults.{is_bad_search}
 use Rattle.sim_search.proofs.Cutting.{place_none, place_some, found_in}
-use Rattle.sim_search.proofs.Refusing.{bad_condition, good_condition}
+use Rattle.sim_search.proofs.Refusing.{bad_condition, good_condition, no_fault}
 use Rattle.sim_search.proofs.places.search.Goals as goal
 
 pub returns-in-Err-clause-refused : goal.returns-in-Err-clause-refused
@@ -12,6 +12,14 @@ returns-in-Err-clause-refused g c =
     let end : c.len.result ≡ length c.args.frozen.now.events = c.len.ensures.value ∙ ap length c.events.ensures in
     bad_condition (is_bad_search c.args.lo c.args.hi (length c.args.frozen.now.events)) _ _ c.hosts.result c.PROBES.result c.args.cond.now _
     (sym (ap (is_bad_search c.args.lo c.args.hi) end) ∙ (sym c.is_bad.ensures.value ∙ c.if-is_bad.false)) c.hosts.ensures c.PROBES.ensures c.in-Err.ensures
+
+pub returns-in-Err-scanners-clause-refused : goal.returns-in-Err-scanners-clause-refused
+returns-in-Err-scanners-clause-refused g c =
+    let f = c.args.frozen.now in
+    let end : c.len.result ≡ length f.events = c.len.ensures.value ∙ ap length c.events.ensures in
+    no_fault (is_bad_search c.args.lo c.args.hi (length f.events)) f.scenario.setup.hosts g.N.Node.PROBES c.args.cond.now
+    (sym (ap (is_bad_search c.args.lo c.args.hi) end) ∙ (sym c.is_bad.ensures.value ∙ c.if-is_bad.false))
+    (good_condition f.scenario.setup.hosts g.N.Node.PROBES c.hosts.result c.PROBES.result c.args.cond.now c.hosts.ensures c.PROBES.ensures c.in-Ok.ensures)
 
 pub returns-in-Ok-Some-clause-found : goal.returns-in-Ok-Some-clause-found
 returns-in-Ok-Some-clause-found g c =
