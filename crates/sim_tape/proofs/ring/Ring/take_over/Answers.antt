@@ -9,7 +9,7 @@ returns g c =
     let K = Kept g.row.N.Denot g.row.N-Msg.Denot g.row.N-Undo.Denot in
     let whole = ap (λ (b : Buffer K). b.capacity) c.self.view_is in
     let same : c.if-self-spent.self.capacity ≡ c.args.self.now.capacity = elim c.if-self-spent.branch [
-      then-self-spent w ↦ omega (arith, whole, ap (λ (b : Buffer K). b.capacity) w.self-is)
+      | then-self-spent w ↦ omega (arith, whole, ap (λ (b : Buffer K). b.capacity) w.self-is)
       | else-self-spent w ↦ omega (arith, whole, ap (λ (b : Buffer K). b.capacity) w.self-is)
     ] in
     c.clear.ensures ∙ ap (λ n. buffer {X = K} [] n) same
