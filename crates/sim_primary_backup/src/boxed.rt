@@ -23,6 +23,7 @@ impl Model for BoxedPrimary {
 }
 
 impl BoxedPrimary {
+    /// The primary, in memory of its own. The only error is want of memory.
     pub fn new(alloc: Global, primary: Primary) -> Result<BoxedPrimary, NoMemory>
         ensures { IfOk result (λ boxed. boxed ≡ primary) }
     {

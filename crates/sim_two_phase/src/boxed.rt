@@ -23,6 +23,7 @@ impl Model for BoxedCoordinator {
 }
 
 impl BoxedCoordinator {
+    /// The coordinator, in memory of its own. The only error is want of memory.
     pub fn new(alloc: Global, coordinator: Coordinator) -> Result<BoxedCoordinator, NoMemory>
         ensures { IfOk result (λ boxed. boxed ≡ coordinator) }
     {
