@@ -18,7 +18,7 @@ in_none slot = cond (slot == 0) 1 0
 pub below_at : (slots : List ℕ) (n p : ℕ) → AreSlots slots n → p < length slots → get_or slots p 0 < n
 below_at slots n p are inside = All-get_or (λ slot. slot < n) slots p 0 inside are.below
 
--- at first all directions are in slot 0
+-- slots that are all 0
 pub slots_new : (n : ℕ) → AreSlots (replicate n 0) 1
 slots_new n = record {
   below = All-replicate (λ slot. slot < 1) n 0 (omega arith);
@@ -93,6 +93,27 @@ module _ {M : Type 0} where
     at = here ∙ ap (λ k. slot_at k t) at;
     own = own;
   }
+
+  -- at first all directions are in slot 0
+  pub sound_new : (t : Table M) → t.slots.items ≡ replicate 1024 0 → t.touched.items ≡ open_link ∷ [] → IsSound t
+  sound_new t slots touched = record {
+    whole = ap (λ (ss : List ℕ). length ss) slots;
+    slots = rw (slots, touched) (slots_new 1024);
+    first = ap (λ (ls : List (Link M)). get_or ls 0 open_link) touched;
+  }
+
+  -- a direction that holds a message has a slot of its own
+  pub own_of_held : (t : Table M) (links : Links M) (place i : ℕ) → IsSound t → links_in t ≡ links → place < 1024 → place ≡ i
+      → 0 < length (get_or links i open_link).held → 0 < slot_at place t
+  own_of_held t links place i sound same inside at some = go (slot_at place t) here
+    where
+      here : get_or links i open_link ≡ get_or t.touched.items (slot_at place t) open_link
+      here = sym (ap (λ (ls : Links M). get_or ls i open_link) same) ∙ ap (λ k. get_or (links_in t) k open_link) (sym at)
+          ∙ get_or-map (λ s. get_or t.touched.items s open_link) t.slots.items place 0 open_link (omega (arith, inside, sound.whole))
+
+      go : (slot : ℕ) → get_or links i open_link ≡ get_or t.touched.items slot open_link → 0 < slot
+      go zero e = absurd (omega (arith, some, ap (λ (l : Link M). length l.held) (e ∙ sound.first)))
+      go (suc slot) e = omega arith
 
   pub inside : {t : Table M} {links : Links M} {i slot : ℕ} → IsTouched t links i slot → i < length links
   inside {t = t} touched = omega (arith, touched.within, touched.sound.whole, length-map t.slots.items (λ s. get_or t.touched.items s open_link), ap (λ (ls : Links M). length ls) touched.same)

@@ -9,28 +9,27 @@ use crate::NoMemory;
 use crate::direction::Direction;
 use std::alloc::Global;
 
-// Room for every direction, and for the one that stands for all untouched ones.
-const ROOM: usize = 1025;
-
 /// The directions by their slots. It has no invariant: each call says what it asks for and what it leaves.
 #[derive(Drop)]
 pub(crate) struct Table<M> {
     // The slot of each direction: 0 where it was never touched.
-    slots: Vec<u16>,
+    pub(crate) slots: Vec<u16>,
     // The touched directions, in the order in which they were first touched, behind an open one that stands for all others. No
-    // two have one slot. There is room for every direction, so that a touch takes no memory.
+    // two have one slot.
     pub(crate) touched: Vec<Direction<M>>,
 }
 
 impl<M> Table<M> {
     /// All directions open, and nothing held.
     pub(crate) fn new(alloc: Global) -> Result<Table<M>, NoMemory>
+    where
+        M: Drop,
         ensures links { IfOk result (λ table. links_in table ≡ all_open) }
         ensures sound { IfOk result IsSound }
     {
         let slots = Vec::from_slice(alloc, &[0; 1024])?;
-        let mut touched = Vec::with_capacity(alloc, ROOM)?;
-        touched.push_reserved(Direction::open(alloc));
+        let mut touched = Vec::new(alloc);
+        touched.push(Direction::open(alloc))?;
         Ok(Table { slots, touched })
     }
 
@@ -43,24 +42,26 @@ impl<M> Table<M> {
         &self.touched[self.slots[place] as usize]
     }
 
-    /// The slot of the direction of a place, which gets one of its own if it has none. Takes no memory.
-    pub(crate) fn touch(&mut self, place: usize) -> usize
+    /// The slot of the direction of a place, which gets one of its own if it has none. That takes memory once for each direction.
+    pub(crate) fn touch(&mut self, place: usize) -> Result<usize, NoMemory>
+    where
+        M: Drop,
         requires sound { IsSound self.old }
         requires within { place < 1024 }
-        ensures slot { result ≡ slot_at place self.new }
-        ensures own { 0 < result }
+        ensures slot { IfOk result (λ slot. slot ≡ slot_at place self.new) }
+        ensures own { IfOk result (λ slot. 0 < slot) }
         ensures links { links_in self.new ≡ links_in self.old }
         ensures sound { IsSound self.new }
     {
         let slot = self.slots[place] as usize;
         if slot > 0 {
-            return slot;
+            return Ok(slot);
         }
         let alloc = *self.touched.allocator();
         let free = self.touched.len();
-        self.touched.push_reserved(Direction::open(alloc));
+        self.touched.push(Direction::open(alloc))?;
         self.slots[place] = free as u16;
-        free
+        Ok(free)
     }
 
     /// An equal table.
@@ -78,7 +79,7 @@ impl<M> Table<M> {
         ensures sound { IfOk result IsSound }
     {
         let slots = Vec::from_slice(alloc, self.slots.as_slice())?;
-        let mut touched = Vec::with_capacity(alloc, ROOM)?;
+        let mut touched = Vec::with_capacity(alloc, self.touched.len())?;
         for direction in &self.touched {
             let copy = direction.copy(alloc, each)?;
             touched.push(copy)?;

@@ -8,7 +8,7 @@ use Rattle.sim_links.proofs.links.Links.keep.Goals as goal
 
 pub returns : goal.returns
 returns g c =
-    let e = c.touch-slot.ensures in
+    let e = c.in_ok-slot.ensures in
     let touched = is_touched _ _ _ _ _ _ e.sound e.links c.self.view_is c.place.ensures.within c.place.ensures.value e.slot e.own in
     let links = c.args.self.now in
     let i = direction c.args.a c.args.b in

@@ -1,9 +1,5 @@
-use Rattle.std.proofs.Common.{◌≡◌, ◌≤◌, take}
-use Rattle.std.specs.Vec.{vec_capacity}
+use Rattle.std.proofs.Common.{◌≡◌, take}
 use Rattle.sim_links.proofs.table.Table.copy.Given as goal
 
 abbrev pub invariant-loop-direction : goal.invariant-loop-direction
-invariant-loop-direction g l = record {
-  items : l.touched.items ≡ take l.direction-index l.direction-items;
-  room : 1025 ≤ vec_capacity l.touched;
-}
+invariant-loop-direction g l = l.touched.items ≡ take l.direction-index l.direction-items

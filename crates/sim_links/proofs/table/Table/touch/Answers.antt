@@ -11,5 +11,5 @@ returns-clause-links g c =
     let read : c.index.result.now ≡ get_or t.slots.items c.args.place 0 =
     get_or_read_under t.slots.items c.args.place 1024 c.index.result.now 0 c.index.ensures c.requires.within (sym c.requires.sound.whole) in
     let none : get_or t.slots.items c.args.place 0 ≡ 0 = omega (arith, read, c.if-slot-gt0.false) in
-    rw (c.push_reserved.ensures.items, c.open.ensures)
+    rw (c.in_ok-push.ensures.items, c.open.ensures)
     (taken t.slots.items t.touched.items c.args.place c.len-free.result open_link count c.requires.sound.first none)
