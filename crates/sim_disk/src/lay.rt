@@ -1,11 +1,10 @@
 //! How writes are laid over bytes.
-ghost use Rattle.std.specs.Prelude.{◌≡◌, ◌+◌, ◌<◌, ◌≤◌, ◌++◌, length, take, drop, IfOk, OnOk};
+ghost use Rattle.std.specs.Prelude.{◌≡◌, ◌+◌, ◌<◌, ◌≤◌, ◌++◌, length, take, drop, OnOk};
 ghost use Rattle.sim_disk.specs.Disk as disk;
 ghost use Rattle.sim_disk.specs.Disk.{filled_to, laid_at, kept_len};
 
 use crate::NoMemory;
 use crate::write::Write;
-use std::alloc::Global;
 
 // Fills bytes up with 0 so that they reach at least to a place.
 fn fill_to(bytes: &mut Vec<u8>, place: usize) -> Result<(), NoMemory>
@@ -52,44 +51,53 @@ fn kept(word: u32, len: usize) -> usize
     }
 }
 
-// The writes laid in order over bytes.
-pub(crate) fn all_laid(alloc: Global, over: &[u8], writes: &[Write]) -> Result<Vec<u8>, NoMemory>
-    ensures { IfOk result (λ bytes. bytes.items ≡ disk.all_laid over.now writes.now) }
+// Makes bytes equal to others.
+fn set_to(bytes: &mut Vec<u8>, others: &[u8]) -> Result<(), NoMemory>
+    ensures { OnOk result (bytes.new.items ≡ others.now) }
 {
-    let mut bytes = Vec::from_slice(alloc, over)?;
-    for write in writes {
-        lay(&mut bytes, write.offset(), write.bytes())?;
-    }
-    Ok(bytes)
+    bytes.clear();
+    bytes.extend_from_slice(others)?;
+    Ok(())
 }
 
-// What the words keep of the writes, laid in order over bytes.
+// Makes bytes what the writes are that are laid in order over others.
+pub(crate) fn all_laid(bytes: &mut Vec<u8>, over: &[u8], writes: &[Write]) -> Result<(), NoMemory>
+    ensures { OnOk result (bytes.new.items ≡ disk.all_laid over.now writes.now) }
+{
+    set_to(bytes, over)?;
+    for write in writes {
+        lay(bytes, write.offset(), write.bytes())?;
+    }
+    Ok(())
+}
+
+// Makes bytes what the words keep of the writes, laid in order over others.
 pub(crate) fn kept_laid(
-    alloc: Global,
+    bytes: &mut Vec<u8>,
     over: &[u8],
     writes: &[Write],
     words: &[u32],
-) -> Result<Vec<u8>, NoMemory>
+) -> Result<(), NoMemory>
     requires { length words.now ≡ length writes.now }
-    ensures { IfOk result (λ bytes. bytes.items ≡ disk.all_laid over.now (disk.all_kept words.now writes.now)) }
+    ensures { OnOk result (bytes.new.items ≡ disk.all_laid over.now (disk.all_kept words.now writes.now)) }
 {
-    let mut bytes = Vec::from_slice(alloc, over)?;
+    set_to(bytes, over)?;
     for i in 0..writes.len() {
         let write = &writes[i];
         let source = write.bytes();
         let len = kept(words[i], source.len());
-        lay(&mut bytes, write.offset(), &source[..len])?;
+        lay(bytes, write.offset(), &source[..len])?;
     }
-    Ok(bytes)
+    Ok(())
 }
 
-// Equal writes.
-pub(crate) fn copies(alloc: Global, writes: &[Write]) -> Result<Vec<Write>, NoMemory>
-    ensures { IfOk result (λ all. all.items ≡ writes.now) }
+// Makes writes equal to others.
+pub(crate) fn copy_all(all: &mut Vec<Write>, writes: &[Write]) -> Result<(), NoMemory>
+    ensures { OnOk result (all.new.items ≡ writes.now) }
 {
-    let mut all = Vec::with_capacity(alloc, writes.len())?;
+    all.clear();
     for write in writes {
         all.push(write.copy())?;
     }
-    Ok(all)
+    Ok(())
 }

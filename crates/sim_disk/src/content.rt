@@ -1,0 +1,60 @@
+//! What a disk is made of, and what it becomes by a sync and by a crash.
+ghost use Rattle.std.specs.Prelude.{◌≡◌, ◌≤◌, length, OnOk};
+ghost use Rattle.sim_disk.specs.Disk as disk;
+ghost use Rattle.sim_disk.specs.Change.{disk_in};
+
+use crate::NoMemory;
+use crate::lay::{all_laid, copy_all, kept_laid};
+use crate::write::Write;
+use std::alloc::Global;
+
+/// Stable bytes, and in order the writes that are not stable yet. It has no invariant: a record that is done with can have any.
+#[derive(Drop)]
+pub(crate) struct Content {
+    pub(crate) stable: Vec<u8>,
+    pub(crate) writes: Vec<Write>,
+    // How many writes the syncs in flight cover, from the first on.
+    pub(crate) asked: u32,
+}
+
+impl Content {
+    /// No bytes and no writes.
+    pub(crate) fn empty(alloc: Global) -> Content
+        ensures { disk_in result ≡ disk.empty_disk }
+    {
+        Content {
+            stable: Vec::new(alloc),
+            writes: Vec::new(alloc),
+            asked: 0,
+        }
+    }
+
+    /// Becomes what another content is once a sync of its first `count` writes came. After an error it can be anything.
+    pub(crate) fn become_synced(&mut self, was: &Content, count: u32) -> Result<(), NoMemory>
+        requires asked { count ≤ was.now.asked }
+        requires there { count ≤ length was.now.writes.items }
+        ensures { OnOk result (disk_in self.new ≡ disk.synced count (disk_in was.now)) }
+    {
+        let (covered, rest) = was.writes.as_slice().split_at(count as usize);
+        all_laid(&mut self.stable, was.stable.as_slice(), covered)?;
+        copy_all(&mut self.writes, rest)?;
+        self.asked = was.asked - count;
+        Ok(())
+    }
+
+    /// Becomes what another content is once it crashed, by a word for each of its writes. After an error it can be anything.
+    pub(crate) fn become_crashed(&mut self, was: &Content, words: &[u32]) -> Result<(), NoMemory>
+        requires { length words.now ≡ length was.now.writes.items }
+        ensures { OnOk result (disk_in self.new ≡ disk.crashed words.now (disk_in was.now)) }
+    {
+        kept_laid(
+            &mut self.stable,
+            was.stable.as_slice(),
+            was.writes.as_slice(),
+            words,
+        )?;
+        self.writes.clear();
+        self.asked = 0;
+        Ok(())
+    }
+}
