@@ -62,7 +62,7 @@ fn whole(place: u32, clock: u64, serial: u64, net: u64, pending: u32) -> Told {
 }
 
 // One server and one client of echo.
-fn scenario(interval: u32, window: u32, latency: u32, operations: u32) -> Result<Scenario, Fail> {
+fn scenario(interval: u32, window: u32, latency: u32, operations: u16) -> Result<Scenario, Fail> {
     let setup = Setup {
         servers: 1,
         hosts: 2,

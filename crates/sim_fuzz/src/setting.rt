@@ -29,7 +29,7 @@ pub struct Setting {
     disk_latency: u32,
     pub servers: u16,
     pub hosts: u16,
-    operations: [u32; 32],
+    operations: [u16; 32],
     interval: u32,
     window: u32,
 }
@@ -61,10 +61,10 @@ fn some_seed(dice: &mut Dice) -> [u8; 32] {
     seed
 }
 
-fn some_operations(dice: &mut Dice) -> [u32; 32] {
+fn some_operations(dice: &mut Dice) -> [u16; 32] {
     let mut operations = [1; 32];
     for count in operations.iter_mut() {
-        *count = 1 + dice.below(4);
+        *count = 1 + dice.below(4) as u16;
     }
     operations
 }

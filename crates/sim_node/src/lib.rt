@@ -52,7 +52,7 @@ pub struct Setup {
     /// The number of hosts, servers and clients together.
     pub hosts: u16,
     /// The operations of each host by its number. What stands at a server, or at no host, has no meaning.
-    pub ops: [u32; 32],
+    pub ops: [u16; 32],
 }
 
 /// What a node is given to react to.

@@ -1,5 +1,5 @@
 //! The values at the keys of a table.
-ghost use Rattle.std.specs.Prelude.{◌≡◌, ℕ, ℤ, Bool, List, map, IfOk, IfErr, Some};
+ghost use Rattle.std.specs.Prelude.{◌≡◌, ◌≤◌, ℕ, ℤ, Bool, List, map, IfOk, IfErr, Some};
 ghost use Rattle.std.specs.Option.{option_map, option_copied};
 ghost use Rattle.std.specs.List.{list_any};
 ghost use Rattle.std.specs.Str.{bytes_eq};
@@ -79,7 +79,8 @@ pub fn number_at(
     low: u32,
     high: u32,
 ) -> Result<u32, ScenarioFault>
-    ensures { faults.Gives (λ n. n) result (parts.number_of name.now (faults.key_text key) low high (table_view table.now)) }
+    ensures said { faults.Gives (λ n. n) result (parts.number_of name.now (faults.key_text key) low high (table_view table.now)) }
+    ensures most { IfOk result (λ n. n ≤ high) }
 {
     let number = integer_at(table, name, key)?;
     if number < i64::from(low) || number > i64::from(high) {

@@ -117,7 +117,7 @@ fn are_names(texts: &[String]) -> bool
 #[derive(Clone, Copy)]
 struct ClientText<'a> {
     name: &'a str,
-    operations: u32,
+    operations: u16,
 }
 
 /// A client has no key but its name and its operations.
@@ -152,14 +152,17 @@ fn client(table: &Table) -> Result<ClientText<'_>, ScenarioFault>
     known_client_keys(table)?;
     let name = client_name(table)?;
     let operations = number_at(table, "ops", Key::Client, 1, 1_000)?;
-    Ok(ClientText { name, operations })
+    Ok(ClientText {
+        name,
+        operations: operations as u16,
+    })
 }
 
 /// The names of all hosts, the servers first, and the operations of the clients.
 #[derive(Drop)]
 pub struct Hosts {
     pub names: Vec<String>,
-    pub operations: Vec<u32>,
+    pub operations: Vec<u16>,
 }
 
 /// The servers with the clients of a text, one or more.
@@ -225,7 +228,7 @@ pub fn number_hosts(
 }
 
 /// The operations of each host: none for a server, then those of the clients.
-pub fn host_operations(servers: usize, clients: &[u32]) -> [u32; 32]
+pub fn host_operations(servers: usize, clients: &[u16]) -> [u16; 32]
     requires { servers + length clients.now ≤ 32 }
     ensures { result ≡ scenario.first_32 (replicate servers 0 ++ clients.now) }
 {

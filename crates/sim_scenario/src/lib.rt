@@ -71,7 +71,7 @@ pub struct ScenarioText {
     /// How many servers there are.
     pub servers: u16,
     /// The operations of each host, 1 to 1,000 for a client and 0 for a server or no host.
-    pub ops: [u32; 32],
+    pub ops: [u16; 32],
     /// How many events lie between two checkpoints, 1 to 1,024.
     pub checkpoint: u32,
     /// How many events can be undone by their records, 1 to 4,096.

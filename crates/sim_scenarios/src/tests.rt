@@ -94,7 +94,7 @@ const SEED: [u8; 32] = [
 ];
 
 /// The operations of the hosts of `OTHER`.
-const OPS: [u32; 32] = [
+const OPS: [u16; 32] = [
     0, 0, 7, 1000, 1, 0, 0, 0, 0, 0, 0, 0, 0, 0, 0, 0, 0, 0, 0, 0, 0, 0, 0, 0, 0, 0, 0, 0, 0, 0, 0,
     0,
 ];

@@ -144,6 +144,13 @@ impl<N: Node> Parts<N> {
 }
 
 impl<N: Node> Cluster<N> {
+    // Takes over what a record that is no longer wanted keeps of a disk.
+    fn take_over(&mut self, done: &mut Undo<N>)
+        ensures { self.new ≡ self.old }
+    {
+        done.trail.leave_disk(&mut self.parts.spare_disks);
+    }
+
     // An event that can happen. The record becomes the one by which it is taken back.
     fn apply(
         &mut self,
@@ -255,6 +262,7 @@ impl<N: Node> World<N> {
         ensures work { OnOk result (N.Meter.work meter.new ≡ turned_by (turns_of self.world event) (N.Meter.work meter.old)) }
     {
         let World { mut cluster } = self;
+        cluster.take_over(undo);
         cluster.apply(alloc, event, undo, meter)?;
         Ok(World { cluster })
     }

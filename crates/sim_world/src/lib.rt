@@ -1,6 +1,7 @@
 //! A cluster in one world of discrete events.
 #![tactic(auto)]
 
+mod acted;
 mod apply;
 mod cluster;
 mod copy;

@@ -1,7 +1,7 @@
 //! What a disk holds after writes, syncs and crashes, and after these are undone.
 ghost use Rattle.std.specs.Prelude.{◌≡◌, ◌+◌, ◌≤◌, IfOk};
 
-use sim_disk::{Disk, NoMemory, WriteFault};
+use sim_disk::{Disk, NoMemory, SpareDisks, WriteFault};
 use std::alloc::Global;
 use std::process::Abort;
 use std::test::Fail;
@@ -42,7 +42,13 @@ fn write(disk: &mut Disk, offset: u32, bytes: &[u8]) -> Result<bool, NoMemory>
     }
 }
 
-fn write_and_back(disk: &mut Disk, offset: u32, bytes: &[u8], count: u32) -> bool {
+fn write_and_back(
+    disk: &mut Disk,
+    spare: &mut SpareDisks,
+    offset: u32,
+    bytes: &[u8],
+    count: u32,
+) -> bool {
     if bytes.is_empty() || bytes.len() > 64 || disk.unsynced() >= 1 << 24 {
         return false;
     }
@@ -50,59 +56,75 @@ fn write_and_back(disk: &mut Disk, offset: u32, bytes: &[u8], count: u32) -> boo
         return false;
     };
     let (first, asked) = disk.ask();
-    disk.undo(asked);
+    disk.undo(asked, spare);
     let (second, asked) = disk.ask();
-    disk.undo(asked);
-    disk.undo(added);
+    disk.undo(asked, spare);
+    disk.undo(added, spare);
     first == count && second == count
 }
 
-fn sync(alloc: Global, disk: &mut Disk) -> Result<u32, NoMemory> {
+// The record is done with.
+fn sync(alloc: Global, disk: &mut Disk, spare: &mut SpareDisks) -> Result<u32, NoMemory> {
     let (count, _asked) = disk.ask();
-    disk.sync(alloc, count)?;
+    let synced = disk.sync(alloc, count, spare)?;
+    synced.leave(spare);
     Ok(count)
 }
 
-fn crash(alloc: Global, disk: &mut Disk, words: &[u32]) -> Result<bool, NoMemory> {
+fn crash(
+    alloc: Global,
+    disk: &mut Disk,
+    spare: &mut SpareDisks,
+    words: &[u32],
+) -> Result<bool, NoMemory> {
     if words.len() != disk.unsynced() as usize {
         return Ok(false);
     }
-    disk.crash(alloc, words)?;
+    disk.crash(alloc, words, spare)?;
     Ok(true)
 }
 
 fn crash_and_back(
     alloc: Global,
     disk: &mut Disk,
+    spare: &mut SpareDisks,
     words: &[u32],
     stable: &[u8],
 ) -> Result<bool, NoMemory> {
     if words.len() != disk.unsynced() as usize {
         return Ok(false);
     }
-    let undo = disk.crash(alloc, words)?;
+    let undo = disk.crash(alloc, words, spare)?;
     let well = is(disk, stable, 0);
-    disk.undo(undo);
+    disk.undo(undo, spare);
     Ok(well)
 }
 
 // Does the act, and says whether the answer is the wanted one.
-fn goes(alloc: Global, disk: &mut Disk, act: Act) -> Result<bool, NoMemory> {
+fn goes(
+    alloc: Global,
+    disk: &mut Disk,
+    spare: &mut SpareDisks,
+    act: Act,
+) -> Result<bool, NoMemory> {
     match act {
         Act::Write(offset, bytes) => write(disk, offset, bytes),
-        Act::WriteAndBack(offset, bytes, count) => Ok(write_and_back(disk, offset, bytes, count)),
+        Act::WriteAndBack(offset, bytes, count) => {
+            Ok(write_and_back(disk, spare, offset, bytes, count))
+        }
         Act::OutOfDisk(offset, bytes) => Ok(!write(disk, offset, bytes)?),
-        Act::Sync(count) => Ok(sync(alloc, disk)? == count),
-        Act::Crash(words) => crash(alloc, disk, words),
-        Act::CrashAndBack(words, stable) => crash_and_back(alloc, disk, words, stable),
+        Act::Sync(count) => Ok(sync(alloc, disk, spare)? == count),
+        Act::Crash(words) => crash(alloc, disk, spare, words),
+        Act::CrashAndBack(words, stable) => crash_and_back(alloc, disk, spare, words, stable),
         Act::Is(stable, unsynced) => Ok(is(disk, stable, unsynced)),
         Act::Read(bytes) => Ok(disk.read(alloc)?.as_slice() == bytes),
     }
 }
 
 fn walk(rt: &impl Abort, alloc: Global, disk: &mut Disk, acts: &[Act]) -> Result<(), NoMemory> {
+    let mut spare = SpareDisks::new(alloc);
     for act in acts {
-        assert!(rt; goes(alloc, disk, *act)?);
+        assert!(rt; goes(alloc, disk, &mut spare, *act)?);
     }
     Ok(())
 }
@@ -163,14 +185,15 @@ fn syncs_in_flight(rt: HostRuntime) -> Result<(), Fail> {
     walk(&rt, alloc, &mut disk, &ZEROS)?;
     let (first, second) = ask_twice(&mut disk)?;
     assert_eq!(rt; (first, second), (1, 1));
-    let synced = disk.sync(alloc, first)?;
+    let mut spare = SpareDisks::new(alloc);
+    let synced = disk.sync(alloc, first, &mut spare)?;
     assert!(rt; is(&disk, &[1, 0, 0, 0], 1));
     let mut other = disk.copy(alloc)?;
-    disk.undo(synced);
+    disk.undo(synced, &mut spare);
     assert!(rt; is(&disk, &[0; 4], 2));
-    other.sync(alloc, second)?;
+    other.sync(alloc, second, &mut spare)?;
     assert!(rt; is(&other, &[1, 2, 0, 0], 0));
-    other.sync(alloc, 0)?;
+    other.sync(alloc, 0, &mut spare)?;
     assert!(rt; is(&other, &[1, 2, 0, 0], 0));
     Ok(())
 }

@@ -30,11 +30,11 @@ fn change_and_back(
     left: &[u32],
     state: LinkState,
     count: u32,
-) -> bool {
-    let (undo, messages) = links.change(alloc, 3, 5, change);
+) -> Result<bool, NoMemory> {
+    let (undo, messages) = links.change(alloc, 3, 5, change)?;
     let well = is_in(links, state, count) && messages.as_slice() == left;
-    links.undo(undo, messages);
-    well
+    links.undo(undo, messages)?;
+    Ok(well)
 }
 
 fn keep(links: &mut Links<u32>, message: u32) -> Result<bool, NoMemory> {
@@ -56,9 +56,9 @@ fn unkeep(links: &mut Links<u32>) -> Option<u32> {
 fn goes(alloc: Global, links: &mut Links<u32>, act: Act) -> Result<bool, NoMemory> {
     let well = match act {
         Act::Is(state, count) => is_in(links, state, count),
-        Act::Change(change, left) => links.change(alloc, 3, 5, change).1.as_slice() == left,
+        Act::Change(change, left) => links.change(alloc, 3, 5, change)?.1.as_slice() == left,
         Act::ChangeAndBack(change, left, state, count) => {
-            change_and_back(alloc, links, change, left, state, count)
+            change_and_back(alloc, links, change, left, state, count)?
         }
         Act::Keep(message) => keep(links, message)?,
         Act::Unkeep(message) => unkeep(links) == Some(message),
