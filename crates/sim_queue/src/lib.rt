@@ -4,6 +4,7 @@
 #![tactic(auto)]
 
 mod agenda;
+mod link;
 mod lists;
 mod slots;
 mod store;

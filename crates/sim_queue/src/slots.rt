@@ -7,6 +7,7 @@ ghost use Rattle.sim_queue.specs.Items.{item_of, items_from};
 ghost use Rattle.sim_queue.specs.Slots.{at, takes, Skips, IsFound};
 ghost use Rattle.sim_queue.specs.Sparse.{index_at, slot_of, slots_of};
 
+use crate::link::Link;
 use crate::{Item, NoMemory};
 use std::alloc::Global;
 use std::collections::VecDeque;
@@ -18,7 +19,7 @@ pub(crate) struct Slots<B> {
     // The items that are there, in any order.
     items: Vec<Item<B>>,
     // The index of each slot's item among the items.
-    places: VecDeque<Option<u32>>,
+    places: VecDeque<Link>,
     base: u64,
 }
 
@@ -68,7 +69,7 @@ impl<B> Slots<B> {
     pub(crate) fn get(&self, place: usize) -> Option<(u64, &B)>
         ensures { option_map (λ r. (r.0, r.1.now)) result ≡ at self.now.items place }
     {
-        let index = (*self.places.get(place)?)?;
+        let index = self.places.get(place)?.get()?;
         let item = &self.items[index as usize];
         Some((item.due, &item.body))
     }
@@ -89,7 +90,7 @@ impl<B> Slots<B> {
         self.places.reserve(1)?;
         self.items.reserve(1)?;
         self.items.push_reserved(Item { due, serial, body });
-        self.places.push_back_reserved(Some(index));
+        self.places.push_back_reserved(Link::to(index));
         Ok(serial)
     }
 
@@ -108,7 +109,7 @@ impl<B> Slots<B> {
         let index = next_index(&self.items)?;
         self.items.reserve(1)?;
         self.items.push_reserved(Item { due, serial, body });
-        self.places[place] = Some(index);
+        self.places[place] = Link::to(index);
         Ok(())
     }
 
@@ -120,11 +121,12 @@ impl<B> Slots<B> {
         ensures rest { self.new.items ≡ slice_set self.old.items place None }
         ensures base { self.new.base ≡ self.old.base }
     {
-        let index = self.places[place]?;
-        self.places[place] = None;
+        let link = self.places[place];
+        let index = link.get()?;
+        self.places[place] = Link::none();
         let item = self.items.swap_remove(index as usize);
         if let Some(moved) = self.items.get(index as usize) {
-            self.places[(moved.serial - self.base) as usize] = Some(index);
+            self.places[(moved.serial - self.base) as usize] = link;
         }
         Some(item)
     }
@@ -147,7 +149,10 @@ impl<B> Slots<B> {
     pub(crate) fn is_empty_at_front(&self) -> bool
         ensures { OnTrue result ((0 < length self.now.items) × (at self.now.items 0 ≡ None)) }
     {
-        matches!(self.places.front(), Some(None))
+        match self.places.front() {
+            Some(link) => link.is_none(),
+            None => false,
+        }
     }
 
     /// Drops the first slot, which is empty.
@@ -168,7 +173,7 @@ impl<B> Slots<B> {
         ensures ok { OnOk result (self.new ≡ record { base = self.old.base - 1; items = None ∷ self.old.items }) }
         ensures err { OnErr result (self.new ≡ self.old) }
     {
-        self.places.push_front(None)?;
+        self.places.push_front(Link::none())?;
         self.base -= 1;
         Ok(())
     }
@@ -213,7 +218,7 @@ impl<B> Slots<B> {
 // The first of these places, from `start` on, whose body the test takes.
 fn first_in<B, F: Fn(&B) -> bool>(
     items: &Vec<Item<B>>,
-    places: &[Option<u32>],
+    places: &[Link],
     start: usize,
     test: &F,
 ) -> Option<usize>
@@ -232,23 +237,24 @@ fn first_in<B, F: Fn(&B) -> bool>(
 
 // Whether an item is there whose body the test takes.
 #[inline(always)]
-fn is_taken<B, F: Fn(&B) -> bool>(items: &Vec<Item<B>>, index: Option<u32>, test: &F) -> bool
+fn is_taken<B, F: Fn(&B) -> bool>(items: &Vec<Item<B>>, link: Link, test: &F) -> bool
     requires callable { F.IsAlwaysCallable test.now }
-    requires there { (k : ℕ) → index ≡ Some k → k < length items.now.items }
-    ensures { (p : B → Bool) → ((x : B) (r : Bool) → FnReturnsAt F.Fn test.now x r → r ≡ p x) → result ≡ takes p (slot_of items.now.items index) }
+    requires there { (k : ℕ) → link ≡ Some k → k < length items.now.items }
+    ensures { (p : B → Bool) → ((x : B) (r : Bool) → FnReturnsAt F.Fn test.now x r → r ≡ p x) → result ≡ takes p (slot_of items.now.items link) }
 {
-    match index {
+    match link.get() {
         Some(index) => test(&items[index as usize].body),
         None => false,
     }
 }
 
-// The index of the next item: there are at most 2^32.
+// The index of the next item: there are at most 2^32 - 1.
 fn next_index<B>(items: &Vec<Item<B>>) -> Result<u32, NoMemory>
-    ensures { IfOk result (λ k. k ≡ length items.now.items) }
+    ensures index { IfOk result (λ k. k ≡ length items.now.items) }
+    ensures small { IfOk result (λ k. k < 4294967295) }
 {
     let next = items.len();
-    if next > u32::MAX as usize {
+    if next >= u32::MAX as usize {
         return Err(NoMemory);
     }
     Ok(next as u32)
@@ -296,10 +302,7 @@ fn copy_item<B, F: Fn(&B) -> Result<B, NoMemory>>(
 }
 
 // Equal places.
-fn copy_places(
-    alloc: Global,
-    places: &VecDeque<Option<u32>>,
-) -> Result<VecDeque<Option<u32>>, NoMemory>
+fn copy_places(alloc: Global, places: &VecDeque<Link>) -> Result<VecDeque<Link>, NoMemory>
     ensures { IfOk result (λ copied. copied.items ≡ places.now.items) }
 {
     let (head, wrapped) = places.as_slices();

@@ -11,12 +11,12 @@ invariant_of-self-2 g c =
     let none = no_index c.self.inside.items.items c.self.inside.places.items c.self.inside.base c.args.place c.self.invariant
     (ap (λ s. at s c.args.place) slots ∙ c.requires.empty) in
     let within = within_slots c.self.inside.items.items c.self.inside.places.items c.args.self.now.items c.args.place slots c.requires.within in
-    rw (c.push_reserved.ensures.items, c.reserve.ensures.items)
-    (filled_sparse c.self.inside.items.items c.self.inside.places.items c.self.inside.base c.args.place c.in_ok-index.index _ c.in_ok-index.ensures refl within none c.self.invariant)
+    rw (c.to.ensures, c.push_reserved.ensures.items, c.reserve.ensures.items)
+    (filled_sparse c.self.inside.items.items c.self.inside.places.items c.self.inside.base c.args.place c.in_ok-index.index _ c.in_ok-index.ensures.index refl within none c.self.invariant)
 
 pub returns-clause-ok : goal.returns-clause-ok
 returns-clause-ok g c =
     let slots : slots_of c.self.inside.items.items c.self.inside.places.items ≡ c.args.self.now.items = ap (λ (s : SlotList _). s.items) c.self.view_is in
-    rw (c.push_reserved.ensures.items, c.reserve.ensures.items)
-    (filled_slots c.self.inside.items.items c.self.inside.places.items c.self.inside.base c.args.place c.in_ok-index.index _ c.in_ok-index.ensures c.self.invariant
+    rw (c.to.ensures, c.push_reserved.ensures.items, c.reserve.ensures.items)
+    (filled_slots c.self.inside.items.items c.self.inside.places.items c.self.inside.base c.args.place c.in_ok-index.index _ c.in_ok-index.ensures.index c.self.invariant
     ∙ ap (λ s. set s c.args.place (Some (c.args.due, c.args.body))) slots)
