@@ -4,7 +4,7 @@ ghost use Rattle.std.specs.Prelude.{◌≡◌, ◌<◌, Some, None, IfSome, is_s
 use std::marker::Model;
 
 /// A place below 2^32 - 1, or none.
-#[derive(Clone, Copy, Drop)]
+#[derive(Clone, Copy)]
 pub(crate) struct Link {
     // One more than the place, and 0 for none.
     code: u32,
@@ -43,8 +43,8 @@ impl Link {
 
     /// The place, if there is one.
     #[inline(always)]
-    pub(crate) fn get(self) -> Option<u32>
-        ensures place { result ≡ self }
+    pub(crate) fn get(&self) -> Option<u32>
+        ensures place { result ≡ self.now }
         ensures small { IfSome result (λ p. p < 4294967295) }
     {
         if self.code == 0 {
@@ -55,8 +55,8 @@ impl Link {
 
     /// Whether there is no place.
     #[inline(always)]
-    pub(crate) fn is_none(self) -> bool
-        ensures { is_some self ≡ not result }
+    pub(crate) fn is_none(&self) -> bool
+        ensures { is_some self.now ≡ not result }
     {
         self.code == 0
     }

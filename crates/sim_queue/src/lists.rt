@@ -5,6 +5,7 @@ ghost use Rattle.sim_queue.specs.Keys.{HasNone};
 ghost use Rattle.sim_queue.specs.Wheel.{keys_of, node, head, reached, first_due, IsAhead, IsAdded, IsSame, IsCounted, IsWithout, IsLinked, IsFrom, IsDue, Follows, least_of};
 
 use crate::NoMemory;
+use crate::link::Link;
 use std::alloc::Global;
 
 /// A key, and the place of the node behind it.
@@ -12,13 +13,13 @@ use std::alloc::Global;
 pub(crate) struct Node {
     pub(crate) due: u64,
     pub(crate) serial: u64,
-    pub(crate) next: Option<u32>,
+    pub(crate) next: Link,
 }
 
 /// Where a list begins. The last place is where it most likely ends.
 #[derive(Clone, Copy, Drop)]
 pub(crate) struct Ends {
-    pub(crate) first: Option<u32>,
+    pub(crate) first: Link,
     pub(crate) last: u32,
 }
 
@@ -61,7 +62,7 @@ impl Lists {
     pub(crate) fn head(&self, due: u64) -> Option<u32>
         ensures { result ≡ head self.now.ends.items due }
     {
-        self.ends.get((due % 256) as usize)?.first
+        self.ends.get((due % 256) as usize)?.first.get()
     }
 
     /// The first node of the list of a due, if it is due then.
@@ -91,7 +92,7 @@ impl Lists {
             None => return false,
         };
         if let Some(before) = self.node(Some(last)) {
-            if before.next.is_none() && leads(before, due, serial) {
+            if before.next.is_none() && leads(&before, due, serial) {
                 return self.add_behind(due, serial, last, before);
             }
         }
@@ -99,7 +100,7 @@ impl Lists {
     }
 
     // Adds a key to a list that does not end before it, if there is memory.
-    fn add_among(&mut self, due: u64, serial: u64, begin: Option<u32>) -> bool
+    fn add_among(&mut self, due: u64, serial: u64, begin: Link) -> bool
         requires linked { IsLinked self.old.ends.items self.old.nodes.items }
         requires counted { IsCounted self.old.count self.old.nodes.items }
         requires listed { due % 256 < length self.old.ends.items }
@@ -109,17 +110,17 @@ impl Lists {
         ensures linked { IsLinked self.new.ends.items self.new.nodes.items }
         ensures counted { IsCounted self.new.count self.new.nodes.items }
     {
-        let first = match self.node(begin) {
+        let first = match self.node(begin.get()) {
             Some(first) => first,
-            None => return self.add_first(due, serial, None),
+            None => return self.add_first(due, serial, Link::none()),
         };
         if first.due % 256 != due % 256 {
-            return self.add_first(due, serial, None);
+            return self.add_first(due, serial, Link::none());
         }
         if due <= first.due && serial < first.serial {
             return self.add_first(due, serial, begin);
         }
-        match self.spot(due, serial, begin) {
+        match self.spot(due, serial, begin.get()) {
             Some((place, before)) => self.add_behind(due, serial, place, before),
             None => false,
         }
@@ -135,23 +136,23 @@ impl Lists {
         for _node in 0..self.nodes.len() {
             let place = at?;
             let before = self.node(at)?;
-            if !leads(before, due, serial) {
+            if !leads(&before, due, serial) {
                 return None;
             }
-            let next = match self.node(before.next) {
+            let next = match self.node(before.next.get()) {
                 Some(next) => next,
                 None => return Some((place, before)),
             };
             if due <= next.due && serial < next.serial {
                 return Some((place, before));
             }
-            at = before.next;
+            at = before.next.get();
         }
         None
     }
 
     // Adds a key before the others of its list, if there is memory. `next` is the place of the first of them, where there are any.
-    fn add_first(&mut self, due: u64, serial: u64, next: Option<u32>) -> bool
+    fn add_first(&mut self, due: u64, serial: u64, next: Link) -> bool
         requires linked { IsLinked self.old.ends.items self.old.nodes.items }
         requires counted { IsCounted self.old.count self.old.nodes.items }
         requires listed { due % 256 < length self.old.ends.items }
@@ -168,7 +169,7 @@ impl Lists {
         self.nodes[place as usize] = Some(Node { due, serial, next });
         self.count += 1;
         let ends = &mut self.ends[(due % 256) as usize];
-        ends.first = Some(place);
+        ends.first = Link::to(place);
         if next.is_none() {
             ends.last = place;
         }
@@ -201,7 +202,7 @@ impl Lists {
         self.nodes[at as usize] = Some(Node {
             due: earlier,
             serial: older,
-            next: Some(place),
+            next: Link::to(place),
         });
         self.nodes[place as usize] = Some(Node { due, serial, next });
         self.count += 1;
@@ -268,7 +269,7 @@ impl Lists {
                 return Some((before, place));
             }
             before = at;
-            at = node.next;
+            at = node.next.get();
         }
         None
     }
@@ -287,8 +288,8 @@ impl Lists {
             None => return,
         };
         let list = (gone.due % 256) as usize;
-        if first.next != Some(place)
-            || !leads(first, gone.due, gone.serial)
+        if first.next.get() != Some(place)
+            || !leads(&first, gone.due, gone.serial)
             || list >= self.ends.len()
         {
             return;
@@ -337,6 +338,7 @@ impl Lists {
     #[inline(always)]
     fn take_place(&mut self) -> Option<u32>
         ensures free { IfSome result (λ p. (p < length self.new.nodes.items) × (node self.new.nodes.items p ≡ None)) }
+        ensures small { IfSome result (λ p. p < 4294967295) }
         ensures same { (i : ℕ) → node self.new.nodes.items i ≡ node self.old.nodes.items i }
         ensures ends { self.new.ends ≡ self.old.ends }
         ensures count { self.new.count ≡ self.old.count }
@@ -344,7 +346,9 @@ impl Lists {
     {
         if let Some(place) = self.free.pop() {
             if let Some(None) = self.nodes.get(place as usize) {
-                return Some(place);
+                if place < u32::MAX {
+                    return Some(place);
+                }
             }
         }
         self.make_place()
@@ -355,13 +359,14 @@ impl Lists {
     #[inline(never)]
     fn make_place(&mut self) -> Option<u32>
         ensures free { IfSome result (λ p. (p < length self.new.nodes.items) × (node self.new.nodes.items p ≡ None)) }
+        ensures small { IfSome result (λ p. p < 4294967295) }
         ensures same { (i : ℕ) → node self.new.nodes.items i ≡ node self.old.nodes.items i }
         ensures ends { self.new.ends ≡ self.old.ends }
         ensures count { self.new.count ≡ self.old.count }
         ensures keys { keys_of self.new.nodes.items ≡ keys_of self.old.nodes.items }
     {
         let place = self.nodes.len();
-        if place > u32::MAX as usize || self.nodes.push(None).is_err() {
+        if place >= u32::MAX as usize || self.nodes.push(None).is_err() {
             return None;
         }
         Some(place as u32)
@@ -379,8 +384,8 @@ fn copied<T: Copy>(elements: &Vec<T>) -> Result<Vec<T>, NoMemory>
 
 // Whether a key comes behind this node.
 #[inline(always)]
-fn leads(before: Node, due: u64, serial: u64) -> bool
-    ensures { OnTrue result ((before.due % 256 ≡ due % 256) × (before.due ≤ due) × (before.serial < serial)) }
+fn leads(before: &Node, due: u64, serial: u64) -> bool
+    ensures { OnTrue result ((before.now.due % 256 ≡ due % 256) × (before.now.due ≤ due) × (before.now.serial < serial)) }
 {
     before.due % 256 == due % 256 && before.due <= due && before.serial < serial
 }
@@ -400,7 +405,7 @@ fn empty_lists(alloc: Global) -> Vec<Ends> {
     let mut ends = Vec::new(alloc);
     for _list in 0..256u16 {
         let list = Ends {
-            first: None,
+            first: Link::none(),
             last: 0,
         };
         if ends.push(list).is_err() {

@@ -83,9 +83,10 @@ impl Wheel {
     {
         let first = self.lists.first_due(self.floor)?;
         let head = self.lists.head(self.floor)?;
+        let key = (first.due, first.serial);
         self.lists.remove_first(head, first);
         self.floor = settled(&self.lists, self.floor);
-        Some((first.due, first.serial))
+        Some(key)
     }
 
     /// Takes a key out, if its list leads to it; else it may stay.

@@ -1,4 +1,4 @@
-use Rattle.std.proofs.Common.{arith, rules, ◌≡◌, ◌<◌, ◌%◌, refl, sym, subst, List, length}
+use Rattle.std.proofs.Common.{arith, rules, ◌≡◌, ◌<◌, ◌%◌, sym, subst, List, length}
 use Rattle.sim_queue.specs.declared.lists.Ends.{Ends}
 use Rattle.sim_queue.specs.Wheel.{IsLinked}
 use Rattle.sim_queue.proofs.Counts.{counted_within, counted_first, made_counted}
@@ -15,14 +15,14 @@ returns-then-is_none-clause-linked c =
     let ends : c.take_place.new.self.ends.items ≡ c.args.self.now.ends.items = search rules in
     let listed : c.args.due % 256 < length c.take_place.new.self.ends.items = search rules in
     let free = c.in-Some.ensures.free in
-    added_first c.args.due c.args.serial c.in-Some.place c.args.next _ _ c.args.self.now.nodes.items _ _ ends (λ i. search rules) listed free.0 free.1 refl c.requires.first c.requires.linked
+    added_first c.args.due c.args.serial c.in-Some.place c.args.next _ _ c.args.self.now.nodes.items _ _ ends (λ i. search rules) listed free.0 free.1 c.to-ends.ensures c.requires.first c.requires.linked
 
 pub returns-else-is_none-clause-linked : goal.returns-else-is_none-clause-linked
 returns-else-is_none-clause-linked c =
     let ends : c.take_place.new.self.ends.items ≡ c.args.self.now.ends.items = search rules in
     let listed : c.args.due % 256 < length c.take_place.new.self.ends.items = search rules in
     let free = c.in-Some.ensures.free in
-    added_first c.args.due c.args.serial c.in-Some.place c.args.next _ _ c.args.self.now.nodes.items _ _ ends (λ i. search rules) listed free.0 free.1 refl c.requires.first c.requires.linked
+    added_first c.args.due c.args.serial c.in-Some.place c.args.next _ _ c.args.self.now.nodes.items _ _ ends (λ i. search rules) listed free.0 free.1 c.to-ends.ensures c.requires.first c.requires.linked
 
 pub returns-then-is_none-clause-added : goal.returns-then-is_none-clause-added
 returns-then-is_none-clause-added c =

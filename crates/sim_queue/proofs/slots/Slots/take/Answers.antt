@@ -14,8 +14,8 @@ returns-in_err-index-clause-rest g c =
     let items = c.self.inside.items.items in
     let places = c.self.inside.places.items in
     let slots : slots_of items places ≡ c.args.self.now.items = ap (λ (s : SlotList _). s.items) c.self.view_is in
-    let empty : c.index-link.result.now ≡ None = search rules in
-    let none = read_index items places c.args.self.now.items c.args.place c.index-link.result.now slots c.requires c.index-link.ensures ∙ empty in
+    let empty : c.index.result.now ≡ None = search rules in
+    let none = read_index items places c.args.self.now.items c.args.place c.index.result.now slots c.requires c.index.ensures ∙ empty in
     sym (set_none c.args.self.now.items c.args.place (sym (ap (λ s. at s c.args.place) slots) ∙ at_slots items places c.args.place ∙ ap (λ o. slot_of items o) none))
 
 pub swap_remove-item-requires : goal.swap_remove-item-requires
@@ -23,8 +23,8 @@ swap_remove-item-requires g c =
     let items = c.self.inside.items.items in
     let places = c.self.inside.places.items in
     let slots : slots_of items places ≡ c.args.self.now.items = ap (λ (s : SlotList _). s.items) c.self.view_is in
-    let some : c.index-link.result.now ≡ Some c.in_ok-index.index = search rules in
-    let here = read_index items places c.args.self.now.items c.args.place c.index-link.result.now slots c.requires c.index-link.ensures ∙ some in
+    let some : c.index.result.now ≡ Some c.in_ok-index.index = search rules in
+    let here = read_index items places c.args.self.now.items c.args.place c.index.result.now slots c.requires c.index.ensures ∙ some in
     let len : vec_len c.self.inside.items ≡ length items = search rules in
     rw len (here_within items places c.self.inside.base c.args.place c.in_ok-index.index c.self.invariant here)
 
@@ -33,8 +33,8 @@ overflow_sub-moved g c =
     let items = c.self.inside.items.items in
     let places = c.self.inside.places.items in
     let slots : slots_of items places ≡ c.args.self.now.items = ap (λ (s : SlotList _). s.items) c.self.view_is in
-    let some : c.index-link.result.now ≡ Some c.in_ok-index.index = search rules in
-    let here = read_index items places c.args.self.now.items c.args.place c.index-link.result.now slots c.requires c.index-link.ensures ∙ some in
+    let some : c.index.result.now ≡ Some c.in_ok-index.index = search rules in
+    let here = read_index items places c.args.self.now.items c.args.place c.index.result.now slots c.requires c.index.ensures ∙ some in
     let len : vec_len c.self.inside.items ≡ length items = search rules in
     let within : c.in_ok-index.index < vec_len c.self.inside.items = rw len (here_within items places c.self.inside.base c.args.place c.in_ok-index.index c.self.invariant here) in
     let new = c.swap_remove-item.new.self.items in
@@ -51,8 +51,8 @@ index_mut-requires-in-Some g c =
     let items = c.self.inside.items.items in
     let places = c.self.inside.places.items in
     let slots : slots_of items places ≡ c.args.self.now.items = ap (λ (s : SlotList _). s.items) c.self.view_is in
-    let some : c.index-link.result.now ≡ Some c.in_ok-index.index = search rules in
-    let here = read_index items places c.args.self.now.items c.args.place c.index-link.result.now slots c.requires c.index-link.ensures ∙ some in
+    let some : c.index.result.now ≡ Some c.in_ok-index.index = search rules in
+    let here = read_index items places c.args.self.now.items c.args.place c.index.result.now slots c.requires c.index.ensures ∙ some in
     let len : vec_len c.self.inside.items ≡ length items = search rules in
     let within : c.in_ok-index.index < vec_len c.self.inside.items = rw len (here_within items places c.self.inside.base c.args.place c.in_ok-index.index c.self.invariant here) in
     let new = c.swap_remove-item.new.self.items in
@@ -70,8 +70,8 @@ invariant_of-self g c =
     let items = c.self.inside.items.items in
     let places = c.self.inside.places.items in
     let slots : slots_of items places ≡ c.args.self.now.items = ap (λ (s : SlotList _). s.items) c.self.view_is in
-    let some : c.index-link.result.now ≡ Some c.in_ok-index.index = search rules in
-    let here = read_index items places c.args.self.now.items c.args.place c.index-link.result.now slots c.requires c.index-link.ensures ∙ some in
+    let some : c.index.result.now ≡ Some c.in_ok-index.index = search rules in
+    let here = read_index items places c.args.self.now.items c.args.place c.index.result.now slots c.requires c.index.ensures ∙ some in
     let len : vec_len c.self.inside.items ≡ length items = search rules in
     let within : c.in_ok-index.index < vec_len c.self.inside.items = rw len (here_within items places c.self.inside.base c.args.place c.in_ok-index.index c.self.invariant here) in
     let new = c.swap_remove-item.new.self.items in
@@ -89,8 +89,8 @@ invariant_of-self-in_default g c =
     let items = c.self.inside.items.items in
     let places = c.self.inside.places.items in
     let slots : slots_of items places ≡ c.args.self.now.items = ap (λ (s : SlotList _). s.items) c.self.view_is in
-    let some : c.index-link.result.now ≡ Some c.in_ok-index.index = search rules in
-    let here = read_index items places c.args.self.now.items c.args.place c.index-link.result.now slots c.requires c.index-link.ensures ∙ some in
+    let some : c.index.result.now ≡ Some c.in_ok-index.index = search rules in
+    let here = read_index items places c.args.self.now.items c.args.place c.index.result.now slots c.requires c.index.ensures ∙ some in
     let len : vec_len c.self.inside.items ≡ length items = search rules in
     let within : c.in_ok-index.index < vec_len c.self.inside.items = rw len (here_within items places c.self.inside.base c.args.place c.in_ok-index.index c.self.invariant here) in
     let new = c.swap_remove-item.new.self.items in
@@ -106,8 +106,8 @@ returns-clause-item g c =
     let items = c.self.inside.items.items in
     let places = c.self.inside.places.items in
     let slots : slots_of items places ≡ c.args.self.now.items = ap (λ (s : SlotList _). s.items) c.self.view_is in
-    let some : c.index-link.result.now ≡ Some c.in_ok-index.index = search rules in
-    let here = read_index items places c.args.self.now.items c.args.place c.index-link.result.now slots c.requires c.index-link.ensures ∙ some in
+    let some : c.index.result.now ≡ Some c.in_ok-index.index = search rules in
+    let here = read_index items places c.args.self.now.items c.args.place c.index.result.now slots c.requires c.index.ensures ∙ some in
     let within = here_within items places c.self.inside.base c.args.place c.in_ok-index.index c.self.invariant here in
     let is = slice_get_read items (length items) c.in_ok-index.index c.swap_remove-item.result refl within c.swap_remove-item.ensures.value in
     rw (← c.self.view_is) (item_here items places c.self.inside.base c.args.place c.in_ok-index.index c.swap_remove-item.result c.self.invariant here is)
@@ -117,8 +117,8 @@ returns-clause-rest g c =
     let items = c.self.inside.items.items in
     let places = c.self.inside.places.items in
     let slots : slots_of items places ≡ c.args.self.now.items = ap (λ (s : SlotList _). s.items) c.self.view_is in
-    let some : c.index-link.result.now ≡ Some c.in_ok-index.index = search rules in
-    let here = read_index items places c.args.self.now.items c.args.place c.index-link.result.now slots c.requires c.index-link.ensures ∙ some in
+    let some : c.index.result.now ≡ Some c.in_ok-index.index = search rules in
+    let here = read_index items places c.args.self.now.items c.args.place c.index.result.now slots c.requires c.index.ensures ∙ some in
     let len : vec_len c.self.inside.items ≡ length items = search rules in
     let within : c.in_ok-index.index < vec_len c.self.inside.items = rw len (here_within items places c.self.inside.base c.args.place c.in_ok-index.index c.self.invariant here) in
     let new = c.swap_remove-item.new.self.items in
@@ -132,7 +132,7 @@ returns-clause-rest g c =
           let there = slice_get_read new (length new) c.in_ok-index.index w.in-Some.moved.now refl inside read in
           let moves = relocated items new places c.self.inside.base c.args.place c.in_ok-index.index w.in-Some.moved.now c.self.invariant here swap there in
           ap (λ (s : SlotList _). s.items) w.self-is
-          ∙ ap (λ (o : Option ℕ). slots_of new (set (set places c.args.place o) (w.in-Some.moved.now.serial - c.self.inside.base) c.index-link.result.now)) c.none.ensures
+          ∙ ap (λ (o : Option ℕ). slots_of new (set (set places c.args.place o) (w.in-Some.moved.now.serial - c.self.inside.base) c.index.result.now)) c.none.ensures
           ∙ ap (λ (o : Option ℕ). slots_of new (set (set places c.args.place None) (w.in-Some.moved.now.serial - c.self.inside.base) o)) some
           ∙ taken_slots items new places _ c.self.inside.base c.args.place c.in_ok-index.index c.self.invariant here swap moves
           ∙ ap (λ s. set s c.args.place None) slots
