@@ -4,5 +4,6 @@ pub mod Keys
 pub mod Link
 pub mod Slots
 pub mod Sparse
+pub mod Spot
 pub mod Store
 pub mod Wheel

@@ -7,6 +7,7 @@ mod agenda;
 mod link;
 mod lists;
 mod slots;
+mod spot;
 mod store;
 mod wheel;
 

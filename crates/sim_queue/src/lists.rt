@@ -6,6 +6,7 @@ ghost use Rattle.sim_queue.specs.Wheel.{keys_of, node, head, reached, first_due,
 
 use crate::NoMemory;
 use crate::link::Link;
+use crate::spot::Spot;
 use std::alloc::Global;
 
 /// A key, and the place of the node behind it.
@@ -26,7 +27,7 @@ pub(crate) struct Ends {
 /// The lists of all keys, through nodes.
 #[derive(Drop)]
 pub(crate) struct Lists {
-    pub(crate) nodes: Vec<Option<Node>>,
+    pub(crate) nodes: Vec<Spot>,
     // The ends of the list of each due modulo 256.
     pub(crate) ends: Vec<Ends>,
     // Places that are most likely free.
@@ -54,7 +55,7 @@ impl Lists {
     pub(crate) fn node(&self, place: Option<u32>) -> Option<Node>
         ensures { result ≡ reached self.now.nodes.items place }
     {
-        *self.nodes.get(place? as usize)?
+        self.nodes.get(place? as usize)?.node()
     }
 
     /// The place where the list of a due begins.
@@ -166,7 +167,7 @@ impl Lists {
             Some(place) => place,
             None => return false,
         };
-        self.nodes[place as usize] = Some(Node { due, serial, next });
+        self.nodes[place as usize] = Spot::of(Node { due, serial, next });
         self.count += 1;
         let ends = &mut self.ends[(due % 256) as usize];
         ends.first = Link::to(place);
@@ -199,12 +200,12 @@ impl Lists {
             serial: older,
             next,
         } = before;
-        self.nodes[at as usize] = Some(Node {
+        self.nodes[at as usize] = Spot::of(Node {
             due: earlier,
             serial: older,
             next: Link::to(place),
         });
-        self.nodes[place as usize] = Some(Node { due, serial, next });
+        self.nodes[place as usize] = Spot::of(Node { due, serial, next });
         self.count += 1;
         if next.is_none() {
             self.ends[(due % 256) as usize].last = place;
@@ -223,7 +224,7 @@ impl Lists {
         ensures linked { IsLinked self.new.ends.items self.new.nodes.items }
         ensures counted { IsCounted self.new.count self.new.nodes.items }
     {
-        self.nodes[place as usize] = None;
+        self.nodes[place as usize] = Spot::free();
         self.count -= 1;
         self.ends[(first.due % 256) as usize].first = first.next;
         let _ = self.free.push(place);
@@ -296,8 +297,8 @@ impl Lists {
         }
         let Node { due, serial, .. } = first;
         let next = gone.next;
-        self.nodes[before as usize] = Some(Node { due, serial, next });
-        self.nodes[place as usize] = None;
+        self.nodes[before as usize] = Spot::of(Node { due, serial, next });
+        self.nodes[place as usize] = Spot::free();
         self.count -= 1;
         let _ = self.free.push(place);
         if next.is_none() {
@@ -327,7 +328,7 @@ impl Lists {
     {
         let mut least = None;
         for place in 0..self.nodes.len() {
-            if let Some(node) = self.nodes[place] {
+            if let Some(node) = self.nodes[place].node() {
                 least = Some(sooner(least, node.due));
             }
         }
@@ -345,8 +346,8 @@ impl Lists {
         ensures keys { keys_of self.new.nodes.items ≡ keys_of self.old.nodes.items }
     {
         if let Some(place) = self.free.pop() {
-            if let Some(None) = self.nodes.get(place as usize) {
-                if place < u32::MAX {
+            if let Some(spot) = self.nodes.get(place as usize) {
+                if spot.is_free() && place < u32::MAX {
                     return Some(place);
                 }
             }
@@ -366,7 +367,7 @@ impl Lists {
         ensures keys { keys_of self.new.nodes.items ≡ keys_of self.old.nodes.items }
     {
         let place = self.nodes.len();
-        if place >= u32::MAX as usize || self.nodes.push(None).is_err() {
+        if place >= u32::MAX as usize || self.nodes.push(Spot::free()).is_err() {
             return None;
         }
         Some(place as u32)

@@ -7,7 +7,7 @@ pub overflow_sub-self : goal.overflow_sub-self
 overflow_sub-self c = counted_some _ c.args.place c.args.first _ c.requires.there c.requires.counted
 
 pub returns-clause-linked : goal.returns-clause-linked
-returns-clause-linked c = left_linked _ _ c.args.place c.args.first _ c.requires.head c.requires.there (head_listed _ _ c.args.place c.requires.head) refl c.requires.linked
+returns-clause-linked c = rw c.free.ensures (left_linked _ _ c.args.place c.args.first _ c.requires.head c.requires.there (head_listed _ _ c.args.place c.requires.head) refl c.requires.linked)
 
 pub returns-clause-counted : goal.returns-clause-counted
-returns-clause-counted c = counted_left _ c.args.place c.args.first _ c.requires.there c.requires.counted
+returns-clause-counted c = rw c.free.ensures (counted_left _ c.args.place c.args.first _ c.requires.there c.requires.counted)
