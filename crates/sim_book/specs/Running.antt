@@ -1,5 +1,5 @@
 -- A run, a tick or a rewind that goes on: how far it has come.
-use Rattle.std.specs.Prelude.{◌≡◌, ℕ, ◌+◌, ◌-◌, ◌<◌, ◌≤◌, min, true, List, [], Option, None, length}
+use Rattle.std.specs.Prelude.{◌≡◌, ℕ, ◌+◌, ◌-◌, ◌<◌, ◌≤◌, min, true, List, [], Option, Some, None, length}
 use Rattle.sim_node.specs.Node.{NodeLaws}
 use Rattle.sim_world.specs.declared.Event.TheVariants as event
 use Rattle.sim_world.specs.Events.{rules, refusal_of}
@@ -7,8 +7,26 @@ use Rattle.sim_tape.specs.Tape.{Tape, with_world, at}
 use Rattle.sim_tape.specs.Places.{world_of}
 use Rattle.sim_book.specs.Tapes.{lengthened}
 use Rattle.sim_watch.specs.Condition.{Cond}
+use Rattle.sim_book.specs.declared.rewinds.Found.{Found}
+use Rattle.sim_book.specs.declared.Stop.{Stop}
+use Rattle.sim_book.specs.declared.Stop.TheVariants as stop
 use Rattle.sim_book.specs.Kept.{branch_with}
 use Rattle.sim_book.specs.Answer.{steps, is_due_by, after_steps, run_stop_at, failing_at}
+
+-- where a look ends that goes down to a place: at what it found, or there
+abbrev pub place_found : ℕ → Option Found → ℕ
+place_found low (Some found) = found.place
+place_found low None = low
+
+-- why a rewind stops
+abbrev pub stop_found : Option Found → Stop
+stop_found (Some found) = stop.Watch found.watch
+stop_found None = stop.Asked
+
+-- what is found at a place, where a watch fails or none does
+abbrev pub found_at : ℕ → Option ℕ → Option Found
+found_at p (Some watch) = Some (record { place = p; watch = watch })
+found_at p None = None
 
 module _ {State Msg : Type 0} (node : NodeLaws State Msg) (probes : ℕ) where
   -- Of a run of n steps that began at the tape t, k steps were added, which led to the tape u, and it did not have to stop.
@@ -27,8 +45,36 @@ module _ {State Msg : Type 0} (node : NodeLaws State Msg) (probes : ℕ) where
     pub within : (world_of (rules node probes u.scenario) u).clock ≤ end
     pub reach : u.reach ≡ min t.scenario.window (t.reach + k)
 
-  -- Of a rewind that began at the warm tape t, k events were taken back, which led to the tape u, and no watch failed.
+  -- no watch fails at a place from `low` on, below `high`
+  abbrev pub NoneFails : List (Option Cond) → Tape → ℕ → ℕ → Type 0
+  NoneFails watches t low high = (p : ℕ) → low ≤ p → p < high → failing_at (rules node probes t.scenario) (branch_with watches t) p ≡ None
+
+  -- of the places from `low` on, below `high`, the last at which a watch fails, and the lowest watch that does
+  pub record FailsLast (watches : List (Option Cond)) (t : Tape) (low high : ℕ) (found : Found) : Type 0 where
+    pub from : low ≤ found.place
+    pub below : found.place < high
+    pub fails : failing_at (rules node probes t.scenario) (branch_with watches t) found.place ≡ Some found.watch
+    pub after : NoneFails watches t (found.place + 1) high
+
+  -- what is found where a watch fails, or that none does
+  abbrev pub IsLast : List (Option Cond) → Tape → ℕ → ℕ → Option Found → Type 0
+  IsLast watches t low high None = NoneFails watches t low high
+  IsLast watches t low high (Some found) = FailsLast watches t low high found
+
+  -- Of a rewind that began at the warm tape t, k events were taken back within the reach, which led to the tape u, and no watch failed.
   pub record IsRewinding (watches : List (Option Cond)) (t : Tape) (k : ℕ) (u : Tape) : Type 0 where
     pub new : u ≡ with_world true u.reach (at (t.place - k) t)
-    pub before : (j : ℕ) → 1 ≤ j → j ≤ k → failing_at (rules node probes t.scenario) (branch_with watches t) (t.place - j) ≡ None
-    pub reach : k ≤ t.reach → u.reach ≡ t.reach - k
+    pub none : NoneFails watches t (t.place - k) t.place
+    pub reach : u.reach ≡ t.reach - k
+
+  -- Of a stretch that begins at the place of the warm tape t, k events were walked over, which led to the tape u, and this was found last.
+  pub record IsLooking (watches : List (Option Cond)) (t : Tape) (k : ℕ) (last : Option Found) (u : Tape) : Type 0 where
+    pub new : u ≡ with_world true u.reach (at (t.place + k) t)
+    pub found : IsLast watches t t.place (t.place + k + 1) last
+
+  -- Of a rewind that began at the warm tape t, the places down to `high` were looked at, the tape is now u, and no watch failed.
+  pub record IsPast (watches : List (Option Cond)) (t : Tape) (low high : ℕ) (u : Tape) : Type 0 where
+    pub new : u ≡ with_world true u.reach (at u.place t)
+    pub from : low ≤ high
+    pub below : high ≤ t.place
+    pub none : NoneFails watches t high t.place

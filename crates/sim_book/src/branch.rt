@@ -16,7 +16,7 @@ ghost use Rattle.sim_book.specs.Keeps.{Keeps};
 ghost use Rattle.sim_book.specs.Works.{Works};
 ghost use Rattle.sim_book.specs.Watches.{AreChecked};
 
-use crate::{MOST_EVENTS, MOST_WATCHES, Refusal, Reply, Stop, named, stops, ticks, walks};
+use crate::{MOST_EVENTS, MOST_WATCHES, Refusal, Reply, Stop, named, rewinds, stops, ticks, walks};
 use sim_node::Node;
 use sim_tape::Tape;
 use sim_watch::{BadTerm, Cond};
@@ -276,7 +276,7 @@ pub(crate) fn rewind<N: Node>(
     if count == 0 {
         return moved(tape, Stop::Asked);
     }
-    match walks::rewind(alloc, tape, watches, meter, count) {
+    match rewinds::rewind(alloc, tape, watches, meter, count) {
         Err(_) => Reply::Refused(Refusal::NoMemory),
         Ok(why) => moved(tape, why),
     }

@@ -1,12 +1,11 @@
 //! Steps that are added one after the other.
-ghost use Rattle.std.specs.Prelude.{◌≡◌, ℕ, ◌+◌, ◌-◌, ◌<◌, ◌≤◌, true, List, min, None, length, IsTrue, OnOk, OnErr, IfOk};
+ghost use Rattle.std.specs.Prelude.{◌≡◌, ◌<◌, ◌≤◌, List, None, length, IsTrue, OnOk, OnErr, IfOk};
 ghost use Rattle.sim_world.specs.declared.Event.{Event};
-ghost use Rattle.sim_world.specs.Events.{rules};
-ghost use Rattle.sim_tape.specs.Tape.{with_world, at, raised};
+ghost use Rattle.sim_tape.specs.Tape.{with_world, raised};
 ghost use Rattle.sim_book.specs.Tapes.{lengthened};
-ghost use Rattle.sim_book.specs.OnTape.{IsLengthened, IsMoved, step_refusal, run_on, rewind_on};
+ghost use Rattle.sim_book.specs.OnTape.{IsLengthened, step_refusal, run_on};
 ghost use Rattle.sim_book.specs.Watches.{AreChecked, NoneFrom};
-ghost use Rattle.sim_book.specs.Works.{Adds, TakesBack};
+ghost use Rattle.sim_book.specs.Works.{Adds};
 
 use crate::{MOST_EVENTS, Stop, stops};
 use sim_node::{NoMemory, Node};
@@ -75,69 +74,6 @@ pub(crate) fn run<N: Node>(
         Ok(why) => Ok(why),
         Err(want) => {
             tape.truncate(start);
-            Err(want)
-        }
-    }
-}
-
-// Goes back by one event at a time, at most so many, until a watch fails. After want of memory it may have gone back by some.
-fn go_back<N: Node>(
-    alloc: Global,
-    tape: &mut Tape<N>,
-    watches: &[Option<Cond>; 8],
-    end: usize,
-    meter: &mut N::Meter,
-    count: u32,
-) -> Result<Stop, NoMemory>
-    requires some { 1 ≤ count }
-    requires within { count ≤ tape.old.place }
-    requires warm { IsTrue tape.old.warm }
-    requires few { end ≤ 8 }
-    requires none { NoneFrom end watches.now }
-    requires checked { AreChecked tape.old.scenario.setup.hosts N.PROBES watches.now }
-    ensures stop { IfOk result (λ why. why ≡ (rewind_on N.laws N.PROBES count watches.now tape.old).stop) }
-    ensures ok { OnOk result (IsMoved (rewind_on N.laws N.PROBES count watches.now tape.old).place tape.old tape.new) }
-    ensures reach { OnOk result (tape.old.place - tape.new.place ≤ tape.old.reach → tape.new.reach ≡ tape.old.reach - (tape.old.place - tape.new.place)) }
-    ensures work { OnOk result (tape.old.place - tape.new.place ≤ tape.old.reach
-        → TakesBack (rules N.laws N.PROBES tape.old.scenario) tape.new.place (tape.old.place - tape.new.place) tape.old
-        (N.Meter.work meter.old) (N.Meter.work meter.new)) }
-    ensures err { OnErr result ((p : ℕ) × (tape.new ≡ with_world tape.new.warm tape.new.reach (at p tape.old))) }
-{
-    for _ in 0..count {
-        tape.back(alloc, 1, meter)?;
-        if let Some(watch) = stops::failing_here(tape, watches, end) {
-            return Ok(Stop::Watch(watch));
-        }
-    }
-    Ok(Stop::Asked)
-}
-
-/// Goes back by one event at a time, at most so many, until a watch fails. After want of memory the place is as before.
-pub(crate) fn rewind<N: Node>(
-    alloc: Global,
-    tape: &mut Tape<N>,
-    watches: &[Option<Cond>; 8],
-    meter: &mut N::Meter,
-    count: u32,
-) -> Result<Stop, NoMemory>
-    requires some { 1 ≤ count }
-    requires within { count ≤ tape.old.place }
-    requires warm { IsTrue tape.old.warm }
-    requires checked { AreChecked tape.old.scenario.setup.hosts N.PROBES watches.now }
-    ensures stop { IfOk result (λ why. why ≡ (rewind_on N.laws N.PROBES count watches.now tape.old).stop) }
-    ensures ok { OnOk result (IsMoved (rewind_on N.laws N.PROBES count watches.now tape.old).place tape.old tape.new) }
-    ensures reach { OnOk result (tape.old.place - tape.new.place ≤ tape.old.reach → tape.new.reach ≡ tape.old.reach - (tape.old.place - tape.new.place)) }
-    ensures work { OnOk result (tape.old.place - tape.new.place ≤ tape.old.reach
-        → TakesBack (rules N.laws N.PROBES tape.old.scenario) tape.new.place (tape.old.place - tape.new.place) tape.old
-        (N.Meter.work meter.old) (N.Meter.work meter.new)) }
-    ensures err { OnErr result (tape.new ≡ with_world tape.new.warm tape.new.reach tape.old) }
-{
-    let place = tape.place();
-    let end = stops::end_of(watches);
-    match go_back(alloc, tape, watches, end, meter, count) {
-        Ok(why) => Ok(why),
-        Err(want) => {
-            tape.rest(place);
             Err(want)
         }
     }

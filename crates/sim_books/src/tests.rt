@@ -328,6 +328,42 @@ fn a_run_stops_at_a_watch(rt: HostRuntime) -> Result<(), Fail> {
     plays(&rt, alloc, &mut book, rows)
 }
 
+// A rewind from a place to the start, by so many events at a time, until a watch fails.
+fn rewound<R: Abort + Drop>(
+    alloc: Global,
+    book: &mut EchoBook<R>,
+    from: u32,
+    count: u32,
+) -> Result<Told, Fail> {
+    book.turn(alloc, 0, Command::Goto(0, from))?;
+    for _ in 0..from {
+        let entry = book.turn(alloc, 0, Command::Rewind(0, count))?;
+        match tell(&entry.reply) {
+            Told::Moved(1.., _, Stop::Asked) => {}
+            told => return Ok(told),
+        }
+    }
+    Err(Fail::from("not at the start"))
+}
+
+#[test]
+fn a_rewind_stops_where_one_by_one_does(rt: HostRuntime) -> Result<(), Fail> {
+    let alloc = rt.alloc();
+    for interval in 1..6 {
+        let scenario = scenario(interval, 2, 10, 5)?;
+        let mut book = Book::new(alloc, &scenario, Counts::new(rt))?;
+        let entry = book.turn(alloc, 0, Command::Run(0, 100))?;
+        assert_eq!(rt; tell(&entry.reply), Told::Moved(12, 100, Stop::AllDone));
+        for number in 0..7 {
+            book.turn(alloc, 0, Command::Watch(0, next_is(Op::Greater, number)?))?;
+            let want = rewound(alloc, &mut book, 12, 1)?;
+            assert_eq!(rt; rewound(alloc, &mut book, 12, 12)?, want, "{interval} {number}");
+            book.turn(alloc, 0, Command::Unwatch(0, 0))?;
+        }
+    }
+    Ok(())
+}
+
 #[test]
 fn a_run_stops_where_nothing_is_pending(rt: HostRuntime) -> Result<(), Fail> {
     let alloc = rt.alloc();

@@ -110,6 +110,21 @@ impl<N: Node> Tape<N> {
         self.walk.world.is_some()
     }
 
+    /// By how many events the tape can go back by their records.
+    pub fn reach(&self) -> u32
+        ensures { result ≡ self.now.reach }
+    {
+        self.walk.ring.len() as u32
+    }
+
+    /// How many events lie between two checkpoints.
+    pub fn interval(&self) -> u32
+        ensures value { result ≡ self.now.scenario.interval }
+        ensures some { 1 ≤ result }
+    {
+        self.log.interval() as u32
+    }
+
     /// The clock of the world at the place (ms).
     pub fn clock(&self) -> u64
         ensures value { result ≡ (world_of (rules_of N.laws N.PROBES self.now) self.now).clock }

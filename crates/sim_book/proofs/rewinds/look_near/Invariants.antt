@@ -2,11 +2,11 @@ use Rattle.std.proofs.Common.{◌-◌, ◌≤◌}
 use Rattle.sim_world.specs.Events.{rules}
 use Rattle.sim_book.specs.Running.{IsRewinding}
 use Rattle.sim_book.specs.Works.{TakesBack}
-use Rattle.sim_book.proofs.walks.go_back.Given as goal
+use Rattle.sim_book.proofs.rewinds.look_near.Given as goal
 
 abbrev pub invariant-loop : goal.invariant-loop
 invariant-loop g l =
     let t = l.initial.tape in
     let W = g.N.Meter.Meter.work in
     IsRewinding g.N.Node.laws g.N.Node.PROBES l.watches t l.counter l.tape
-    × (l.counter ≤ t.reach → TakesBack (rules g.N.Node.laws g.N.Node.PROBES t.scenario) (t.place - l.counter) l.counter t (W l.initial.meter) (W l.meter))
+    × TakesBack (rules g.N.Node.laws g.N.Node.PROBES t.scenario) (t.place - l.counter) l.counter t (W l.initial.meter) (W l.meter)

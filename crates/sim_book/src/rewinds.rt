@@ -1,0 +1,241 @@
+//! A rewind: back until a watch fails.
+ghost use Rattle.std.specs.Prelude.{◌≡◌, ℕ, ◌+◌, ◌-◌, ◌<◌, ◌≤◌, IsTrue, OnOk, OnErr, IfOk, length};
+ghost use Rattle.sim_world.specs.Events.{rules};
+ghost use Rattle.sim_tape.specs.Tape.{with_world, at};
+ghost use Rattle.sim_book.specs.OnTape.{IsMoved, world_on, rewind_on};
+ghost use Rattle.sim_book.specs.Book.{failing_watch};
+ghost use Rattle.sim_book.specs.Running.{IsLast, place_found, found_at};
+ghost use Rattle.sim_book.specs.Watches.{AreChecked, NoneFrom};
+ghost use Rattle.sim_book.specs.Works.{TakesBack};
+
+use crate::{Stop, stops};
+use sim_node::{NoMemory, Node};
+use sim_tape::Tape;
+use sim_watch::Cond;
+use std::alloc::Global;
+use std::cmp::{max, min};
+
+/// A place at which a watch fails, and the lowest watch that does.
+#[derive(Clone, Copy)]
+struct Found {
+    place: u32,
+    watch: u32,
+}
+
+// What is found at the place of a warm tape.
+fn found_here<N: Node>(tape: &Tape<N>, watches: &[Option<Cond>; 8], end: usize) -> Option<Found>
+    requires warm { IsTrue tape.now.warm }
+    requires few { end ≤ 8 }
+    requires none { NoneFrom end watches.now }
+    requires checked { AreChecked tape.now.scenario.setup.hosts N.PROBES watches.now }
+    ensures { result ≡ found_at tape.now.place (failing_watch (rules N.laws N.PROBES tape.now.scenario) watches.now (world_on N.laws N.PROBES tape.now)) }
+{
+    match stops::failing_here(tape, watches, end) {
+        None => None,
+        Some(watch) => Some(Found {
+            place: tape.place(),
+            watch,
+        }),
+    }
+}
+
+// Goes back within the reach, by one event at a time and at most so many, until a watch fails.
+fn look_near<N: Node>(
+    alloc: Global,
+    tape: &mut Tape<N>,
+    watches: &[Option<Cond>; 8],
+    end: usize,
+    meter: &mut N::Meter,
+    count: u32,
+) -> Result<Option<Found>, NoMemory>
+    requires within { count ≤ tape.old.place }
+    requires near { count ≤ tape.old.reach }
+    requires warm { IsTrue tape.old.warm }
+    requires few { end ≤ 8 }
+    requires none { NoneFrom end watches.now }
+    requires checked { AreChecked tape.old.scenario.setup.hosts N.PROBES watches.now }
+    ensures last { IfOk result (λ found. IsLast N.laws N.PROBES watches.now tape.old (tape.old.place - count) tape.old.place found) }
+    ensures moved { IfOk result (λ found. IsMoved (place_found (tape.old.place - count) found) tape.old tape.new) }
+    ensures reach { OnOk result (tape.new.reach ≡ tape.old.reach - (tape.old.place - tape.new.place)) }
+    ensures work { OnOk result (TakesBack (rules N.laws N.PROBES tape.old.scenario) tape.new.place (tape.old.place - tape.new.place) tape.old
+        (N.Meter.work meter.old) (N.Meter.work meter.new)) }
+    ensures err { OnErr result ((p : ℕ) × (tape.new ≡ with_world tape.new.warm tape.new.reach (at p tape.old))) }
+{
+    for _ in 0..count {
+        tape.back(alloc, 1, meter)?;
+        if let Some(found) = found_here(tape, watches, end) {
+            return Ok(Some(found));
+        }
+    }
+    Ok(None)
+}
+
+// Goes forward by so many events, with a look at each place from the first on. What is found is the last.
+fn last_failing<N: Node>(
+    alloc: Global,
+    tape: &mut Tape<N>,
+    watches: &[Option<Cond>; 8],
+    end: usize,
+    meter: &mut N::Meter,
+    count: u32,
+) -> Result<Option<Found>, NoMemory>
+    requires within { tape.old.place + count ≤ length tape.old.events }
+    requires warm { IsTrue tape.old.warm }
+    requires few { end ≤ 8 }
+    requires none { NoneFrom end watches.now }
+    requires checked { AreChecked tape.old.scenario.setup.hosts N.PROBES watches.now }
+    ensures last { IfOk result (λ found. IsLast N.laws N.PROBES watches.now tape.old tape.old.place (tape.old.place + count + 1) found) }
+    ensures moved { OnOk result (IsMoved (tape.old.place + count) tape.old tape.new) }
+    ensures err { OnErr result ((p : ℕ) × (tape.new ≡ with_world tape.new.warm tape.new.reach (at p tape.old))) }
+{
+    let mut last = found_here(tape, watches, end);
+    for _ in 0..count {
+        tape.forward(alloc, 1, meter)?;
+        if let Some(found) = found_here(tape, watches, end) {
+            last = Some(found);
+        }
+    }
+    Ok(last)
+}
+
+// Where the stretch begins that ends below a place: at its checkpoint, or at `to` where that is past it.
+fn stretch_below(high: u32, interval: u32, to: u32) -> u32
+    requires some { 1 ≤ interval }
+    requires below { to < high }
+    ensures from { to ≤ result }
+    ensures below { result < high }
+{
+    max(to, high - 1 - (high - 1) % interval)
+}
+
+// Looks through the places below the tape's, down to `to`, by one stretch after the other: each from its checkpoint forward, so that no
+// world is made twice. Goes to the last place at which a watch fails, or to `to`.
+fn look_far<N: Node>(
+    alloc: Global,
+    tape: &mut Tape<N>,
+    watches: &[Option<Cond>; 8],
+    end: usize,
+    meter: &mut N::Meter,
+    to: u32,
+) -> Result<Option<Found>, NoMemory>
+    requires within { to ≤ tape.old.place }
+    requires warm { IsTrue tape.old.warm }
+    requires few { end ≤ 8 }
+    requires none { NoneFrom end watches.now }
+    requires checked { AreChecked tape.old.scenario.setup.hosts N.PROBES watches.now }
+    ensures last { IfOk result (λ found. IsLast N.laws N.PROBES watches.now tape.old to tape.old.place found) }
+    ensures moved { IfOk result (λ found. IsMoved (place_found to found) tape.old tape.new) }
+    ensures err { OnErr result ((p : ℕ) × (tape.new ≡ with_world tape.new.warm tape.new.reach (at p tape.old))) }
+{
+    let interval = tape.interval();
+    let mut high = tape.place();
+    while to < high {
+        let low = stretch_below(high, interval, to);
+        tape.goto(alloc, low, meter)?;
+        if let Some(found) = last_failing(alloc, tape, watches, end, meter, high - 1 - low)? {
+            tape.goto(alloc, found.place, meter)?;
+            return Ok(Some(found));
+        }
+        high = low;
+    }
+    tape.goto(alloc, to, meter)?;
+    Ok(None)
+}
+
+// Goes back to the last place at which a watch fails, and at most by so many events. Within the reach it looks on its way back; past
+// it stretch by stretch. Where no watch is kept it looks at nothing.
+fn look_back<N: Node>(
+    alloc: Global,
+    tape: &mut Tape<N>,
+    watches: &[Option<Cond>; 8],
+    end: usize,
+    meter: &mut N::Meter,
+    count: u32,
+) -> Result<Option<Found>, NoMemory>
+    requires within { count ≤ tape.old.place }
+    requires warm { IsTrue tape.old.warm }
+    requires few { end ≤ 8 }
+    requires none { NoneFrom end watches.now }
+    requires checked { AreChecked tape.old.scenario.setup.hosts N.PROBES watches.now }
+    ensures last { IfOk result (λ found. IsLast N.laws N.PROBES watches.now tape.old (tape.old.place - count) tape.old.place found) }
+    ensures moved { IfOk result (λ found. IsMoved (place_found (tape.old.place - count) found) tape.old tape.new) }
+    ensures reach { OnOk result (tape.old.place - tape.new.place ≤ tape.old.reach → tape.new.reach ≡ tape.old.reach - (tape.old.place - tape.new.place)) }
+    ensures work { OnOk result (tape.old.place - tape.new.place ≤ tape.old.reach
+        → TakesBack (rules N.laws N.PROBES tape.old.scenario) tape.new.place (tape.old.place - tape.new.place) tape.old
+        (N.Meter.work meter.old) (N.Meter.work meter.new)) }
+    ensures err { OnErr result ((p : ℕ) × (tape.new ≡ with_world tape.new.warm tape.new.reach (at p tape.old))) }
+{
+    if end == 0 {
+        tape.back(alloc, count, meter)?;
+        return Ok(None);
+    }
+    let to = tape.place() - count;
+    let near = min(count, tape.reach());
+    if let Some(found) = look_near(alloc, tape, watches, end, meter, near)? {
+        return Ok(Some(found));
+    }
+    if near == count {
+        return Ok(None);
+    }
+    look_far(alloc, tape, watches, end, meter, to)
+}
+
+// Goes back until a watch fails, and at most by so many events. After want of memory it may have gone back by some.
+fn go_back<N: Node>(
+    alloc: Global,
+    tape: &mut Tape<N>,
+    watches: &[Option<Cond>; 8],
+    end: usize,
+    meter: &mut N::Meter,
+    count: u32,
+) -> Result<Stop, NoMemory>
+    requires some { 1 ≤ count }
+    requires within { count ≤ tape.old.place }
+    requires warm { IsTrue tape.old.warm }
+    requires few { end ≤ 8 }
+    requires none { NoneFrom end watches.now }
+    requires checked { AreChecked tape.old.scenario.setup.hosts N.PROBES watches.now }
+    ensures stop { IfOk result (λ why. why ≡ (rewind_on N.laws N.PROBES count watches.now tape.old).stop) }
+    ensures ok { OnOk result (IsMoved (rewind_on N.laws N.PROBES count watches.now tape.old).place tape.old tape.new) }
+    ensures reach { OnOk result (tape.old.place - tape.new.place ≤ tape.old.reach → tape.new.reach ≡ tape.old.reach - (tape.old.place - tape.new.place)) }
+    ensures work { OnOk result (tape.old.place - tape.new.place ≤ tape.old.reach
+        → TakesBack (rules N.laws N.PROBES tape.old.scenario) tape.new.place (tape.old.place - tape.new.place) tape.old
+        (N.Meter.work meter.old) (N.Meter.work meter.new)) }
+    ensures err { OnErr result ((p : ℕ) × (tape.new ≡ with_world tape.new.warm tape.new.reach (at p tape.old))) }
+{
+    match look_back(alloc, tape, watches, end, meter, count)? {
+        None => Ok(Stop::Asked),
+        Some(found) => Ok(Stop::Watch(found.watch)),
+    }
+}
+
+/// Goes back until a watch fails, and at most by so many events. After want of memory the place is as before.
+pub(crate) fn rewind<N: Node>(
+    alloc: Global,
+    tape: &mut Tape<N>,
+    watches: &[Option<Cond>; 8],
+    meter: &mut N::Meter,
+    count: u32,
+) -> Result<Stop, NoMemory>
+    requires some { 1 ≤ count }
+    requires within { count ≤ tape.old.place }
+    requires warm { IsTrue tape.old.warm }
+    requires checked { AreChecked tape.old.scenario.setup.hosts N.PROBES watches.now }
+    ensures stop { IfOk result (λ why. why ≡ (rewind_on N.laws N.PROBES count watches.now tape.old).stop) }
+    ensures ok { OnOk result (IsMoved (rewind_on N.laws N.PROBES count watches.now tape.old).place tape.old tape.new) }
+    ensures reach { OnOk result (tape.old.place - tape.new.place ≤ tape.old.reach → tape.new.reach ≡ tape.old.reach - (tape.old.place - tape.new.place)) }
+    ensures work { OnOk result (tape.old.place - tape.new.place ≤ tape.old.reach
+        → TakesBack (rules N.laws N.PROBES tape.old.scenario) tape.new.place (tape.old.place - tape.new.place) tape.old
+        (N.Meter.work meter.old) (N.Meter.work meter.new)) }
+    ensures err { OnErr result (tape.new ≡ with_world tape.new.warm tape.new.reach tape.old) }
+{
+    let place = tape.place();
+    let end = stops::end_of(watches);
+    match go_back(alloc, tape, watches, end, meter, count) {
+        Ok(why) => Ok(why),
+        Err(want) => {
+            tape.rest(place);
+            Err(want)
+        }
+    }
+}
