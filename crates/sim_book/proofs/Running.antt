@@ -1,7 +1,7 @@
 -- A run goes on by one step, and stops.
-use Rattle.std.proofs.Common.{◌≡◌, ℕ, zero, suc, ◌+◌, ◌-◌, ◌<◌, ◌≤◌, ◌==◌, min, Bool, true, false, not, ◌||◌, List, [], ◌∷◌, ◌++◌, Option, Some, None, is_some, length, take, refl, sym, ap, ◌∙◌, arith, inl, inr, length-append, append_assoc, append-nil, nat_le, subst, add-zero}
+use Rattle.std.proofs.Common.{◌≡◌, ℕ, zero, suc, ◌+◌, ◌<◌, ◌≤◌, ◌==◌, min, Bool, true, false, not, List, [], ◌∷◌, ◌++◌, Option, Some, None, is_some, length, take, refl, sym, ap, ◌∙◌, arith, inl, inr, length-append, append_assoc, append-nil, nat_le, subst}
 use Rattle.std.specs.Prelude.{if◌then◌else◌}
-use Rattle.std.specs.Option.{unwrap_or, option_map}
+use Rattle.std.specs.Option.{unwrap_or}
 use Rattle.std.proofs.Math.Seq.{take-length}
 use Rattle.std.proofs.Math.Nat.{eq-or-lt_of_le}
 use Rattle.std.proofs.lemmas.Bool.Decides.{nat_tests}
@@ -13,18 +13,18 @@ use Rattle.sim_world.specs.declared.Event.TheVariants as event
 use Rattle.sim_world.specs.declared.Refusal.TheVariants as why
 use Rattle.sim_world.specs.World.{World}
 use Rattle.sim_world.specs.Events.{Rules, rules, run, start, refusal_of}
-use Rattle.sim_tape.specs.Tape.{Tape, with_world, with_event, at}
-use Rattle.sim_tape.specs.Places.{world_of, acts_at, acting}
-use Rattle.sim_tape.specs.Works.{undone_by, Plays}
-use Rattle.sim_book.specs.Works.{Adds, TakesBack}
+use Rattle.sim_tape.specs.Tape.{Tape, with_world, with_event}
+use Rattle.sim_tape.specs.Places.{world_of}
+use Rattle.sim_tape.specs.Works.{Plays}
+use Rattle.sim_book.specs.Works.{Adds}
 use Rattle.sim_book.specs.Tapes.{lengthened}
 use Rattle.sim_watch.specs.Condition.{Cond}
 use Rattle.sim_book.specs.declared.Stop.{Stop}
 use Rattle.sim_book.specs.declared.Stop.TheVariants as stops
 use Rattle.sim_book.specs.Book.{Branch, failing_watch, all_done}
 use Rattle.sim_book.specs.Kept.{branch_with}
-use Rattle.sim_book.specs.Answer.{first_stop, failing_at, rewind_move, rewind_len, steps, run_stop, run_stop_at, run_addition, run_len, after_steps, is_idle, most_events}
-use Rattle.sim_book.specs.Running.{IsRunning, IsRewinding}
+use Rattle.sim_book.specs.Answer.{first_stop, steps, run_stop, run_stop_at, run_addition, run_len, after_steps, is_idle, most_events}
+use Rattle.sim_book.specs.Running.{IsRunning}
 use Rattle.sim_watch.proofs.Firsts.{least_is}
 
 -- one step more

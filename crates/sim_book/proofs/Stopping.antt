@@ -1,5 +1,5 @@
 -- Lemmas on why a run stops.
-use Rattle.std.proofs.Common.{◌≡◌, ℕ, ◌≤◌, List, Option, None, sym, ap, arith}
+use Rattle.std.proofs.Common.{◌≡◌, ℕ, List, Option, None, sym, ap, arith}
 use Rattle.sim_world.specs.World.{World}
 use Rattle.sim_world.specs.Events.{Rules}
 use Rattle.sim_watch.specs.Condition.{Cond}

@@ -1,4 +1,4 @@
-use Rattle.std.proofs.Common.{◌≡◌, ℕ, ◌+◌, Option, Some, sym, ◌∙◌, subst, arith}
+use Rattle.std.proofs.Common.{◌≡◌, ℕ, ◌+◌, Option, sym, ◌∙◌, subst, arith}
 use Rattle.sim_book.specs.declared.rewinds.Found.{Found}
 use Rattle.sim_book.specs.Running.{IsLast, IsLooking}
 use Rattle.sim_book.proofs.Rewinding.{looking_none, looking_same, looking_found}

@@ -1,4 +1,4 @@
-use Rattle.std.proofs.Common.{◌≡◌, ℕ, ◌-◌, ap, subst, arith}
+use Rattle.std.proofs.Common.{◌≡◌, ℕ, ◌-◌, ap, subst}
 use Rattle.std.proofs.lemmas.Result.{IfOk-weaker}
 use Rattle.sim_book.specs.Running.{IsLast}
 use Rattle.sim_book.proofs.Rewinding.{none_so, none_kept, far_last}

@@ -1,4 +1,4 @@
-use Rattle.std.proofs.Common.{◌≡◌, ℕ, ◌+◌, ◌-◌, Option, Some, sym, subst, arith}
+use Rattle.std.proofs.Common.{ℕ, ◌+◌, ◌-◌, Option, Some, sym, subst, arith}
 use Rattle.sim_book.specs.declared.rewinds.Found.{Found}
 use Rattle.sim_book.specs.Running.{IsLast, IsPast}
 use Rattle.sim_book.proofs.Rewinding.{none_so, past_none, stretch_on, past_more, last_lower}

@@ -1,4 +1,4 @@
-use Rattle.std.proofs.Common.{◌-◌, ◌≤◌}
+use Rattle.std.proofs.Common.{◌-◌}
 use Rattle.sim_world.specs.Events.{rules}
 use Rattle.sim_book.specs.Running.{IsRewinding}
 use Rattle.sim_book.specs.Works.{TakesBack}
