@@ -61,6 +61,7 @@ impl<B> Queue<B> {
     /// Adds an item that is due at `due` (ms), and answers its serial, which is the next one.
     ///
     /// The next serial has to be below 2^40. After `NoMemory` the queue is unchanged, and the body is dropped.
+    #[inline(always)]
     pub fn insert(&mut self, due: u64, body: B) -> Result<u64, NoMemory>
     where
         B: Drop,

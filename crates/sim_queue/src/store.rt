@@ -221,6 +221,7 @@ impl<B> Store<B> {
     }
 
     // Adds an item behind the others, or changes nothing.
+    #[inline(always)]
     fn push_slot(&mut self, due: u64, body: B) -> Result<u64, NoMemory>
     where
         B: Drop,
