@@ -74,11 +74,13 @@ fn take_turn<N: Node>(
         Err(_) => return Err(NotTaken::NoMemory),
         Ok(()) => {}
     }
+    let Ok(again) = command.copy() else {
+        return Err(NotTaken::NoMemory);
+    };
     let reply = carry_out(alloc, scenario, branches, meter, &command);
     let (reply, told) = twin(alloc, reply);
     let number = numbers[session as usize] + 1;
     numbers[session as usize] = number;
-    let again = command.copy();
     history.push_reserved(Entry {
         session,
         number,
@@ -208,8 +210,8 @@ impl<N: Node> Book<N> {
         }
     }
 
-    // Whether no more entries can be kept.
-    fn is_full(&self) -> bool
+    /// Whether no more entries can be kept.
+    pub fn is_full(&self) -> bool
         ensures full { IsTrue result ↔ (65536 ≤ length self.now.history) }
         ensures legal { IsLegal (rules N.laws N.PROBES self.now.scenario) self.now.history (all_shown self.now.kept) }
     {

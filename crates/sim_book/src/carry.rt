@@ -51,7 +51,7 @@ fn on_branch<N: Node>(
             *n,
         ),
         Command::Cut(b) => branch::cut(&mut kept.tape, *b),
-        Command::Watch(b, c) => branch::watch::<N>(hosts, &mut kept.watches, *b, c),
+        Command::Watch(b, c) => branch::watch::<N>(hosts, &mut kept.watches, *b, c.get()),
         Command::Unwatch(b, w) => branch::unwatch::<N>(hosts, &mut kept.watches, *b, *w),
         Command::Look(b, q) => branch::look(alloc, hosts, &mut kept.tape, meter, *b, *q),
         Command::Freeze(b) => branch::freeze(alloc, &kept.tape, *b),

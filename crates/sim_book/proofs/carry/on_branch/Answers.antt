@@ -1,4 +1,5 @@
 use Rattle.std.proofs.Common.{sym, ap, ◌∙◌, refl}
+use Rattle.sim_book.specs.declared.Command.TheVariants as command
 use Rattle.sim_book.proofs.Books.{kept_turn, kept_keeps}
 use Rattle.sim_book.proofs.carry.on_branch.Goals as goal
 
@@ -30,12 +31,14 @@ returns-in-Freeze-clause-turn g c = λ book.
 pub returns-in-Watch-clause-turn : goal.returns-in-Watch-clause-turn
 returns-in-Watch-clause-turn g c = λ book.
     let hosts = c.hosts-hosts.ensures.value ∙ ap (λ s. s.setup.hosts) (sym c.requires.kept.scenario) ∙ ap (λ k. k.tape.scenario.setup.hosts) (sym c.kept.view_is) in
+    let is = c.in-Watch.is ∙ ap (command.Watch c.in-Watch.b) (sym c.get.ensures) in
     kept_turn g.N.Node.laws g.N.Node.PROBES c.args.kept.now (record { tape = c.kept.inside.tape; watches = c.watch.new.watches }) c.kept.inside.tape c.kept.inside.tape c.kept.inside.watches c.watch.new.watches book
-    c.args.command.now _ c.watch.result c.kept.view_is refl c.in-Watch.is (c.watch.ensures.turn book c.kept.inside.tape hosts)
+    c.args.command.now _ c.watch.result c.kept.view_is refl is (c.watch.ensures.turn book c.kept.inside.tape hosts)
 
 pub returns-in-Watch-clause-keeps : goal.returns-in-Watch-clause-keeps
 returns-in-Watch-clause-keeps g c =
-    kept_keeps g.N.Node.laws g.N.Node.PROBES c.args.kept.now c.kept.inside.tape c.kept.inside.tape c.kept.inside.watches c.args.command.now _ c.watch.result c.kept.view_is c.in-Watch.is (c.watch.ensures.keeps c.kept.inside.tape)
+    let is = c.in-Watch.is ∙ ap (command.Watch c.in-Watch.b) (sym c.get.ensures) in
+    kept_keeps g.N.Node.laws g.N.Node.PROBES c.args.kept.now c.kept.inside.tape c.kept.inside.tape c.kept.inside.watches c.args.command.now _ c.watch.result c.kept.view_is is (c.watch.ensures.keeps c.kept.inside.tape)
 
 pub returns-in-Unwatch-clause-keeps : goal.returns-in-Unwatch-clause-keeps
 returns-in-Unwatch-clause-keeps g c =
