@@ -1,4 +1,5 @@
 -- What a line of a script asks: its words, the conditions that they write, and the commands.
 pub mod Words
 pub mod Conditions
+pub mod Asks
 pub mod Script

@@ -1,7 +1,10 @@
 //! The lines of a script.
 ghost use Rattle.std.specs.Prelude.{◌≡◌, Some, None};
-ghost use Rattle.sim_script.specs.Script.{script_line, command_of, command_by, numbered_of, fault_of, query_of, a_host, a_number, two_hosts, a_host_and_probe, nothing, words, number};
+ghost use Rattle.std.specs.Option.{option_map, option_or};
+ghost use Rattle.sim_script.specs.Conditions.{condition};
+ghost use Rattle.sim_script.specs.Script.{script_line, asked, command_of, command_by, numbered_of, fault_of, query_of, a_host, a_number, two_hosts, a_host_and_probe, nothing, words, number};
 
+use crate::ask::{Ask, Form};
 use crate::condition::condition_of;
 use crate::names::Names;
 use crate::words::{next_word, parse_number};
@@ -21,7 +24,7 @@ pub enum ScriptLine {
     Nothing,
     /// A line that is no command.
     Bad,
-    Asked(Command),
+    Asked(Ask),
 }
 
 /// A number of a command, of 1 to 9 decimal digits.
@@ -180,42 +183,87 @@ fn parse_numbered(branch: u32, word: &[u8], rest: &[u8]) -> Option<Command>
     }
 }
 
+/// A line that is this command, or is bad where there is none.
+fn line_by(command: Option<Command>) -> ScriptLine
+    ensures { result ≡ asked command }
+{
+    match command {
+        Some(command) => ScriptLine::Asked(Ask {
+            form: Form::Plain(command),
+        }),
+        None => ScriptLine::Bad,
+    }
+}
+
+/// A line that sets a watch, by what follows `watch`.
+fn parse_watch(names: &Names, branch: u32, rest: &[u8]) -> ScriptLine
+    ensures { result ≡ asked (option_map (Command.Watch branch) (condition names.now (words rest.now))) }
+{
+    match condition_of(names, rest) {
+        Some(cond) => ScriptLine::Asked(Ask {
+            form: Form::Watch(branch, cond),
+        }),
+        None => ScriptLine::Bad,
+    }
+}
+
+/// A look, by what follows `look`.
+fn parse_look(names: &Names, branch: u32, rest: &[u8]) -> Option<Command>
+    ensures { result ≡ option_map (Command.Look branch) (query_of names.now (words rest.now)) }
+{
+    Some(Command::Look(branch, parse_query(names, rest)?))
+}
+
+/// A command that takes a number, or a fault, by its first word and what follows.
+fn parse_change(names: &Names, branch: u32, word: &[u8], rest: &[u8]) -> Option<Command>
+    ensures { result ≡ option_or (numbered_of branch word.now (words rest.now))
+        (option_map (Command.Fault branch) (fault_of names.now word.now (words rest.now))) }
+{
+    match parse_numbered(branch, word, rest) {
+        Some(command) => Some(command),
+        None => Some(Command::Fault(branch, parse_fault(names, word, rest)?)),
+    }
+}
+
 /// A command on a branch, by its first word and what follows.
 #[tactic(auto, unfolding(crate::specs::Script::command_by))]
-fn parse_on(names: &Names, branch: u32, word: &[u8], rest: &[u8]) -> Option<Command>
-    ensures { result ≡ command_by names.now branch word.now (words rest.now) }
+fn parse_on(names: &Names, branch: u32, word: &[u8], rest: &[u8]) -> ScriptLine
+    ensures { result ≡ asked (command_by names.now branch word.now (words rest.now)) }
 {
     if word == b"step".as_slice() {
-        alone(rest, Command::Step(branch))
+        line_by(alone(rest, Command::Step(branch)))
     } else if word == b"tick".as_slice() {
-        alone(rest, Command::Tick(branch))
+        line_by(alone(rest, Command::Tick(branch)))
     } else if word == b"cut".as_slice() {
-        alone(rest, Command::Cut(branch))
+        line_by(alone(rest, Command::Cut(branch)))
     } else if word == b"trace".as_slice() {
-        alone(rest, Command::Freeze(branch))
+        line_by(alone(rest, Command::Freeze(branch)))
     } else if word == b"look".as_slice() {
-        Some(Command::Look(branch, parse_query(names, rest)?))
+        line_by(parse_look(names, branch, rest))
     } else if word == b"watch".as_slice() {
-        Some(Command::Watch(branch, condition_of(names, rest)?))
+        parse_watch(names, branch, rest)
     } else {
-        match parse_numbered(branch, word, rest) {
-            Some(command) => Some(command),
-            None => Some(Command::Fault(branch, parse_fault(names, word, rest)?)),
-        }
+        line_by(parse_change(names, branch, word, rest))
     }
 }
 
 /// A command, with its branch or without it.
 #[tactic(auto, unfolding(crate::specs::Script::command_of))]
-fn parse_command(names: &Names, text: &[u8]) -> Option<Command>
-    ensures { result ≡ command_of names.now (words text.now) }
+fn parse_command(names: &Names, text: &[u8]) -> ScriptLine
+    ensures { result ≡ asked (command_of names.now (words text.now)) }
 {
-    let (word, rest) = next_word(text)?;
+    let Some((word, rest)) = next_word(text) else {
+        return ScriptLine::Bad;
+    };
     match word {
         [b'@', digits @ ..] => {
-            let branch = parse_count(digits)?;
-            let (word, rest) = next_word(rest)?;
-            parse_on(names, branch, word, rest)
+            let Some(branch) = parse_count(digits) else {
+                return ScriptLine::Bad;
+            };
+            match next_word(rest) {
+                Some((word, rest)) => parse_on(names, branch, word, rest),
+                None => ScriptLine::Bad,
+            }
         }
         _ => parse_on(names, 0, word, rest),
     }
@@ -232,8 +280,5 @@ pub fn line_of(names: &Names, line: &[u8]) -> ScriptLine
     if line.len() > LONGEST_LINE {
         return ScriptLine::Bad;
     }
-    match parse_command(names, line) {
-        Some(command) => ScriptLine::Asked(command),
-        None => ScriptLine::Bad,
-    }
+    parse_command(names, line)
 }
