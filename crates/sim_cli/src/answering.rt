@@ -5,16 +5,16 @@ ghost use Rattle.sim_lines.specs.Left.{HandsOver};
 ghost use Rattle.sim_lines.specs.Waiting.{CountsReads};
 ghost use Rattle.sim_world.specs.Events.{rules};
 ghost use Rattle.sim_script.specs.Script.{script_line};
-ghost use Rattle.sim_cli.specs.Turns.{course_of};
+ghost use Rattle.sim_cli.specs.Turns.{Takes, course_of};
 ghost use Rattle.sim_cli.specs.Play.{Ended, Plays};
 ghost use Rattle.sim_cli.specs.Answers.{Answers, Hands, Finishes};
 
 use crate::status::{Answered, Status};
-use sim_book::Book;
+use sim_book::{Book, Entry, NotTaken};
 use sim_lines::{Ahead, NextLine, Outlet, WriterFault, next_line};
 use sim_node::Node;
 use sim_replies::tell_turn;
-use sim_script::{Names, ScriptLine, line_of};
+use sim_script::{Ask, Names, ScriptLine, line_of};
 use std::alloc::Global;
 use std::io::{Read, Write};
 
@@ -41,6 +41,23 @@ fn finish<W: Write>(outlet: &mut Outlet, writer: &mut W, status: Status) -> Stat
     }
 }
 
+/// The turn of what a line asks. Where there is no memory for its condition, it is not taken.
+pub fn turn_of<N: Node>(alloc: Global, book: &mut Book<N>, ask: Ask) -> Result<Entry, NotTaken>
+    ensures takes { Takes (rules N.laws N.PROBES book.old.scenario) (course_of book.old) ask result (course_of book.new) }
+    ensures scenario { book.new.scenario ≡ book.old.scenario }
+{
+    match ask.into_command(alloc) {
+        Ok(command) => book.turn(alloc, SESSION, command),
+        Err(_) => {
+            if book.is_full() {
+                Err(NotTaken::HistoryFull)
+            } else {
+                Err(NotTaken::NoMemory)
+            }
+        }
+    }
+}
+
 /// Answers a line of a script by a turn of the book. The text is room for the answer, to be used again.
 fn answer_line<N: Node, W: Write>(
     alloc: Global,
@@ -58,8 +75,8 @@ fn answer_line<N: Node, W: Write>(
     match line_of(names, line) {
         ScriptLine::Nothing => Answered::Well,
         ScriptLine::Bad => hand(outlet, writer, b"bad line\n"),
-        ScriptLine::Asked(command) => {
-            let turn = book.turn(alloc, SESSION, command);
+        ScriptLine::Asked(ask) => {
+            let turn = turn_of(alloc, book, ask);
             match tell_turn(alloc, text, names, &turn) {
                 Ok(()) => hand(outlet, writer, text.as_bytes()),
                 Err(_) => Answered::MemoryWanted,

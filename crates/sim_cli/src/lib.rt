@@ -9,7 +9,7 @@ mod status;
 #[cfg(test)]
 mod tests;
 
-pub use answering::answer_lines;
+pub use answering::{answer_lines, turn_of};
 pub use nodes::{play_nodes, set_up};
 pub use playing::play;
 pub use scenario::{WasRead, probe_names, protocol_of, read_scenario};

@@ -1,5 +1,5 @@
 use Rattle.std.proofs.Common.{refl, ◌∙◌}
-use Rattle.sim_cli.proofs.OneAnswer.{bad_answer, takes, turn_answer}
+use Rattle.sim_cli.proofs.OneAnswer.{bad_answer, turn_answer}
 use Rattle.sim_cli.proofs.answering.answer_line.Goals as goal
 
 pub returns-in-Bad-clause-answers : goal.returns-in-Bad-clause-answers
@@ -7,5 +7,4 @@ returns-in-Bad-clause-answers g c = bad_answer _ _ _ _ _ _ _ _ _ _ c.in-Bad.ensu
 
 pub returns-in-Ok-clause-answers : goal.returns-in-Ok-clause-answers
 returns-in-Ok-clause-answers g c =
-    let turn = takes _ _ _ c.in-Asked.command c.turn-turn.result c.turn-turn.ensures.taken c.turn-turn.ensures.room c.turn-turn.ensures.not_taken c.turn-turn.ensures.full in
-    turn_answer _ _ _ _ _ c.in-Asked.command c.turn-turn.result _ _ _ _ _ _ c.in-Asked.ensures turn (c.as_bytes.ensures.value ∙ c.in-Ok.ensures) c.hand-in-Ok.ensures
+    turn_answer _ _ _ _ _ c.in-Asked.ask c.turn_of-turn.result _ _ _ _ _ _ c.in-Asked.ensures c.turn_of-turn.ensures.takes (c.as_bytes.ensures.value ∙ c.in-Ok.ensures) c.hand-in-Ok.ensures
