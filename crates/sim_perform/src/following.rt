@@ -10,6 +10,7 @@ ghost use Rattle.sim_perform.specs.Following.{turn_wants};
 
 use crate::Status;
 use sim_book::{Book, Entry, NotTaken, Refusal, Reply};
+use sim_cli::turn_of;
 use sim_lines::{Ahead, NextLine, next_line};
 use sim_node::Node;
 use sim_script::{Names, ScriptLine, line_of};
@@ -38,10 +39,10 @@ fn follow_line<N: Node>(
         ≡ plain_next (rules N.laws N.PROBES book.old.scenario) names.now (course_of book.old) (script_line names.now line.now)) }
     ensures scenario { book.new.scenario ≡ book.old.scenario }
 {
-    let ScriptLine::Asked(command) = line_of(names, line) else {
+    let ScriptLine::Asked(ask) = line_of(names, line) else {
         return Ok(());
     };
-    let turn = book.turn(alloc, 0, command);
+    let turn = turn_of(alloc, book, ask);
     if wants_memory(&turn) {
         return Err(Status::MemoryWanted);
     }
