@@ -5,7 +5,7 @@ use crate::tape::scenario;
 use sim_book::{Book, Command, Reply};
 use sim_echo::Echo;
 use sim_tally::Tally;
-use sim_watch::{Cond, Op, Term};
+use sim_watch::{Cond, Op, SharedCond, Term};
 use std::alloc::{AllocError, Global};
 
 /// What a turn on a book is. A watch has two terms and holds all the time.
@@ -56,7 +56,8 @@ fn moved(alloc: Global, book: &mut EchoBook, command: Command) -> Result<u64, Al
 fn opened(alloc: Global, watched: bool) -> Result<EchoBook, AllocError> {
     let mut book = EchoBook::new(alloc, &scenario(1_024, 1_024), Tally::new())?;
     if watched {
-        moved(alloc, &mut book, Command::Watch(0, watch()))?;
+        let cond = SharedCond::new(alloc, watch())?;
+        moved(alloc, &mut book, Command::Watch(0, cond))?;
     }
     Ok(book)
 }

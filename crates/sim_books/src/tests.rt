@@ -8,7 +8,7 @@ use sim_book::{Book, Command, Refusal, Reply, Stop};
 use sim_echo::Echo;
 use sim_links::{Way, Ways};
 use sim_node::Setup;
-use sim_watch::{Cond, Op, Term};
+use sim_watch::{Cond, Op, SharedCond, Term};
 use sim_world::{Event, Fault, Query, Scenario, View};
 use std::alloc::Global;
 use std::process::Abort;
@@ -168,7 +168,7 @@ fn refusals_come_in_order(rt: HostRuntime) -> Result<(), Fail> {
             ),
             (Command::Look(0, Query::Link(1, 1)), same),
             (
-                Command::Watch(0, Cond::new()),
+                Command::Watch(0, SharedCond::new(alloc, Cond::new())?),
                 Told::Refused(Refusal::BadCondition),
             ),
             (Command::Freeze(0), Told::Frozen(6)),
@@ -300,8 +300,9 @@ fn a_tick_is_long(rt: HostRuntime) -> Result<(), Fail> {
 }
 
 // The client's next operation compares so with a number.
-fn next_is(op: Op, number: u64) -> Result<Cond, Fail> {
-    Ok(Cond::new().and(Term::Cmp(1, NEXT, op, number))?)
+fn next_is(alloc: Global, op: Op, number: u64) -> Result<SharedCond, Fail> {
+    let cond = Cond::new().and(Term::Cmp(1, NEXT, op, number))?;
+    Ok(SharedCond::new(alloc, cond)?)
 }
 
 #[test]
@@ -312,13 +313,13 @@ fn a_run_stops_at_a_watch(rt: HostRuntime) -> Result<(), Fail> {
         alloc,
         [
             (
-                Command::Watch(0, next_is(Op::LessOrEqual, 1)?),
+                Command::Watch(0, next_is(alloc, Op::LessOrEqual, 1)?),
                 Told::Made(0),
             ),
             (Command::Run(0, 100), Told::Moved(4, 20, Stop::Watch(0))),
             (Command::Unwatch(0, 0), Told::Dropped(0)),
             (Command::Run(0, 100), Told::Moved(6, 40, Stop::AllDone)),
-            (Command::Watch(0, next_is(Op::NotEqual, 2)?), Told::Made(0)),
+            (Command::Watch(0, next_is(alloc, Op::NotEqual, 2)?), Told::Made(0)),
             (Command::Rewind(0, 6), Told::Moved(5, 30, Stop::Watch(0))),
             (Command::Rewind(0, 6), Told::Refused(Refusal::TooFar)),
             (Command::Unwatch(0, 0), Told::Dropped(0)),
@@ -371,7 +372,7 @@ fn a_run_stops_where_nothing_is_pending(rt: HostRuntime) -> Result<(), Fail> {
     let rows = Vec::from_array(
         alloc,
         [
-            (Command::Watch(0, next_is(Op::Less, 2)?), Told::Made(0)),
+            (Command::Watch(0, next_is(alloc, Op::Less, 2)?), Told::Made(0)),
             (Command::Fault(0, Fault::Crash(1)), asked(1, 0)),
             (Command::Run(0, 9), Told::Moved(2, 0, Stop::Idle)),
         ],

@@ -14,7 +14,7 @@ fn turn(
     line: &str,
 ) -> Result<Result<Entry, NotTaken>, Trouble> {
     for _attempt in 0..TRIES {
-        let turn = book.turn(alloc, 0, command(names, line)?);
+        let turn = book.turn(alloc, 0, command(alloc, names, line)?);
         if !wants_memory(&turn) {
             return Ok(turn);
         }
@@ -41,7 +41,7 @@ fn checked_turn(
 ) -> Result<Result<Entry, NotTaken>, Trouble> {
     for _attempt in 0..TRIES {
         let before = looks(alloc, book, names)?;
-        let turn = book.turn(alloc, 0, command(names, line)?);
+        let turn = book.turn(alloc, 0, command(alloc, names, line)?);
         if !wants_memory(&turn) {
             return Ok(turn);
         }

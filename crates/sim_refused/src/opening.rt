@@ -93,9 +93,9 @@ pub fn opening(alloc: Global) -> Result<(Scenario, Names), Trouble> {
 }
 
 /// The command of a line.
-pub fn command(names: &Names, line: &str) -> Result<Command, Trouble> {
+pub fn command(alloc: Global, names: &Names, line: &str) -> Result<Command, Trouble> {
     match line_of(names, line.as_bytes()) {
-        ScriptLine::Asked(command) => Ok(command),
+        ScriptLine::Asked(ask) => Ok(ask.into_command(alloc)?),
         ScriptLine::Nothing | ScriptLine::Bad => Err(Trouble::Wrong),
     }
 }

@@ -43,7 +43,7 @@ fn call<R: Wait>(
 {
     let mut taken = 0usize;
     for _attempt in 0..TRIES {
-        let turn = shared.call(rt, seat, command(names, line)?);
+        let turn = shared.call(rt, seat, command(alloc, names, line)?);
         if turn.is_ok() {
             taken = taken.checked_add(1).ok_or(Trouble::Wrong)?;
         }
