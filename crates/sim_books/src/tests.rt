@@ -319,7 +319,10 @@ fn a_run_stops_at_a_watch(rt: HostRuntime) -> Result<(), Fail> {
             (Command::Run(0, 100), Told::Moved(4, 20, Stop::Watch(0))),
             (Command::Unwatch(0, 0), Told::Dropped(0)),
             (Command::Run(0, 100), Told::Moved(6, 40, Stop::AllDone)),
-            (Command::Watch(0, next_is(alloc, Op::NotEqual, 2)?), Told::Made(0)),
+            (
+                Command::Watch(0, next_is(alloc, Op::NotEqual, 2)?),
+                Told::Made(0),
+            ),
             (Command::Rewind(0, 6), Told::Moved(5, 30, Stop::Watch(0))),
             (Command::Rewind(0, 6), Told::Refused(Refusal::TooFar)),
             (Command::Unwatch(0, 0), Told::Dropped(0)),
@@ -358,7 +361,11 @@ fn a_rewind_stops_where_one_by_one_does(rt: HostRuntime) -> Result<(), Fail> {
         for number in 0..7 {
             book.turn(alloc, 0, Command::Watch(0, next_is(Op::Greater, number)?))?;
             let want = rewound(alloc, &mut book, 12, 1)?;
-            assert_eq!(rt; rewound(alloc, &mut book, 12, 12)?, want, "{interval} {number}");
+            assert_eq!(rt;
+                rewound(alloc, &mut book, 12, 12)?,
+                want,
+                "{interval} {number}"
+            );
             book.turn(alloc, 0, Command::Unwatch(0, 0))?;
         }
     }
@@ -372,7 +379,10 @@ fn a_run_stops_where_nothing_is_pending(rt: HostRuntime) -> Result<(), Fail> {
     let rows = Vec::from_array(
         alloc,
         [
-            (Command::Watch(0, next_is(alloc, Op::Less, 2)?), Told::Made(0)),
+            (
+                Command::Watch(0, next_is(alloc, Op::Less, 2)?),
+                Told::Made(0),
+            ),
             (Command::Fault(0, Fault::Crash(1)), asked(1, 0)),
             (Command::Run(0, 9), Told::Moved(2, 0, Stop::Idle)),
         ],
