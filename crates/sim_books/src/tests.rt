@@ -359,7 +359,8 @@ fn a_rewind_stops_where_one_by_one_does(rt: HostRuntime) -> Result<(), Fail> {
         let entry = book.turn(alloc, 0, Command::Run(0, 100))?;
         assert_eq!(rt; tell(&entry.reply), Told::Moved(12, 100, Stop::AllDone));
         for number in 0..7 {
-            book.turn(alloc, 0, Command::Watch(0, next_is(Op::Greater, number)?))?;
+            let watch = next_is(alloc, Op::Greater, number)?;
+            book.turn(alloc, 0, Command::Watch(0, watch))?;
             let want = rewound(alloc, &mut book, 12, 1)?;
             assert_eq!(rt;
                 rewound(alloc, &mut book, 12, 12)?,
