@@ -1,8 +1,7 @@
-use Rattle.std.proofs.Common.{◌≡◌, ◌+◌, Some, sym, ap, ◌∙◌, arith, replicate}
+use Rattle.std.proofs.Common.{◌≡◌, Some, sym, ap, ◌∙◌, arith, replicate}
 use Rattle.sim_world.specs.declared.Event.TheVariants as event
 use Rattle.sim_world.specs.World.{Scenario}
 use Rattle.sim_watch.specs.Condition.{fault_of}
-use Rattle.sim_watch.specs.Scanning.{IsStepping}
 use Rattle.sim_watch.proofs.Scans.{at_start, stepping_none, stepping_more, idle_none, stepped_is, stepped_none}
 use Rattle.sim_watch.proofs.scanning.scan_seed.Goals as goal
 
