@@ -92,6 +92,9 @@ impl Lists {
             Some(ends) => *ends,
             None => return false,
         };
+        if first.is_none() {
+            return self.add_first(due, serial, Link::none());
+        }
         if let Some(before) = self.node(Some(last)) {
             if before.next.is_none() && leads(&before, due, serial) {
                 return self.add_behind(due, serial, last, before);
