@@ -11,3 +11,5 @@ pub mod Links
 pub mod Turning
 pub mod Counts
 pub mod Counting
+pub mod Marking
+pub mod Marked

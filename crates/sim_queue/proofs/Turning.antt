@@ -78,13 +78,13 @@ no_nodes nodes empty d s = go (has d s (keys_of nodes)) refl
     go false h = refl
 
 -- the first node of the list of x is not after x
-record Leads (ends : List Ends) (nodes : List (Option Node)) (x : Node) : Type 0 where
-  place : ℕ
-  first : Node
-  top : head ends x.due ≡ Some place
-  there : node nodes place ≡ Some first
-  due : first.due ≤ x.due
-  serial : first.serial ≤ x.serial
+pub record Leads (ends : List Ends) (nodes : List (Option Node)) (x : Node) : Type 0 where
+  pub place : ℕ
+  pub first : Node
+  pub top : head ends x.due ≡ Some place
+  pub there : node nodes place ≡ Some first
+  pub due : first.due ≤ x.due
+  pub serial : first.serial ≤ x.serial
 
 further : (ends : List Ends) (nodes : List (Option Node)) (i : ℕ) (x : Node) (k : IsBehind nodes i x) → Leads ends nodes k.before → Leads ends nodes x
 further ends nodes i x k l = record {
@@ -96,7 +96,7 @@ further ends nodes i x k l = record {
   serial = let a = k.ahead.2 in let b = l.serial in omega (arith, a, b);
 }
 
-leads : (ends : List Ends) (nodes : List (Option Node)) → IsLinked ends nodes → (fuel i : ℕ) (x : Node) → x.serial ≤ fuel → node nodes i ≡ Some x → Leads ends nodes x
+pub leads : (ends : List Ends) (nodes : List (Option Node)) → IsLinked ends nodes → (fuel i : ℕ) (x : Node) → x.serial ≤ fuel → node nodes i ≡ Some x → Leads ends nodes x
 leads ends nodes linked zero i x le is = ⊎_elim
     (λ (h : head ends x.due ≡ Some i). record { place = i; first = x; top = h; there = is; due = omega arith; serial = omega arith })
     (λ (k : IsBehind nodes i x). absurd (let a = k.ahead.2 in omega (arith, a, le)))

@@ -2,6 +2,7 @@ pub mod Pending
 pub mod Items
 pub mod Keys
 pub mod Link
+pub mod Marks
 pub mod Slots
 pub mod Sparse
 pub mod Spot

@@ -6,6 +6,7 @@
 mod agenda;
 mod link;
 mod lists;
+mod marks;
 mod slots;
 mod spot;
 mod store;

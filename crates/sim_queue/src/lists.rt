@@ -224,6 +224,7 @@ impl Lists {
         requires head { head self.old.ends.items first.due ≡ Some place }
         requires there { node self.old.nodes.items place ≡ Some first }
         ensures nodes { self.new.nodes.items ≡ slice_set self.old.nodes.items place None }
+        ensures next { head self.new.ends.items first.due ≡ first.next }
         ensures linked { IsLinked self.new.ends.items self.new.nodes.items }
         ensures counted { IsCounted self.new.count self.new.nodes.items }
     {

@@ -1,6 +1,6 @@
 use Rattle.std.proofs.Common.{◌-◌}
 use Rattle.sim_queue.specs.Wheel.{IsFrom}
-use Rattle.sim_queue.proofs.wheel.settled.Given as goal
+use Rattle.sim_queue.proofs.wheel.searched.Given as goal
 
 abbrev pub invariant-loop-due : goal.invariant-loop-due
 invariant-loop-due l = IsFrom l.due l.lists.nodes.items
