@@ -1,15 +1,16 @@
 -- Marks on the dues of all nodes.
-use Rattle.std.proofs.Common.{◌≡◌, ◌≢◌, ℕ, ◌<◌, ◌≤◌, ◌%◌, Bool, true, false, not, Option, Some, None, List, refl, sym, ap, ◌∙◌, arith, ⊎_elim, inr, subst}
+use Rattle.std.proofs.Common.{◌≡◌, ◌≢◌, ℕ, ◌<◌, ◌≤◌, ◌/◌, ◌%◌, Bool, true, false, not, Option, Some, None, List, refl, sym, ap, ◌∙◌, arith, ⊎_elim, inr, length}
 use Rattle.std.proofs.Math.ListN.{get_or, set}
 use Rattle.std.specs.Option.{is_some}
-use Rattle.std.specs.Bool.{OnFalse}
+use Rattle.std.specs.Int.{bit_at}
+use Rattle.std.specs.Bool.{OnTrue, OnFalse}
 use Rattle.std.proofs.lemmas.Bool.{cases_eq, cases_lt, false≢true}
 use Rattle.sim_queue.specs.declared.lists.Node.{Node}
 use Rattle.sim_queue.specs.declared.lists.Ends.{Ends}
 use Rattle.sim_queue.specs.declared.marks.Marks.{Marks}
 use Rattle.sim_queue.specs.Marks.{mark_of, IsMarked, IsUnmarked, HasMarks}
 use Rattle.sim_queue.specs.Wheel.{node, head, first_due, no_ends, IsAdded, IsKept, IsWithout, HasKey, IsLinked, IsSame, IsFrom, IsWheel}
-use Rattle.sim_queue.proofs.Links.{left_without}
+use Rattle.sim_queue.proofs.Links.{left_without, left_linked, head_listed, head_same}
 use Rattle.sim_queue.proofs.Turning.{top_due, leads}
 
 -- nothing is due between, since nothing is marked there
@@ -38,7 +39,7 @@ kept_mark words old i x marked kept = was (node old i) refl kept
     was None q k = absurd k
     was (Some y) q k = ap (λ (d : ℕ). mark_of words d) k.0 ∙ marked i y q
 
-without_marks : (d s : ℕ) (words : List ℕ) (old new : List (Option Node)) → IsWithout d s old new → HasMarks words old → HasMarks words new
+pub without_marks : (d s : ℕ) (words : List ℕ) (old new : List (Option Node)) → IsWithout d s old new → HasMarks words old → HasMarks words new
 without_marks d s words old new w marked i x is = kept_mark words old i x marked (w.only i x is)
 
 -- a mark is set, and none goes
@@ -46,13 +47,6 @@ pub set_marks : (due : ℕ) (before after : List ℕ) (nodes : List (Option Node
     → ((d : ℕ) → d % 256 ≢ due % 256 → mark_of after d ≡ mark_of before d) → HasMarks before nodes → HasMarks after nodes
 set_marks due before after nodes here elsewhere marked i x is =
     ⊎_elim (λ same. here x.due same) (λ apart. elsewhere x.due apart ∙ marked i x is) (cases_eq (x.due % 256) (due % 256))
-
-pub added_marks : (due s : ℕ) (before after : List ℕ) (old new : List (Option Node)) → IsAdded due s old new → ((d : ℕ) → d % 256 ≡ due % 256 → IsMarked after d)
-    → ((d : ℕ) → d % 256 ≢ due % 256 → mark_of after d ≡ mark_of before d) → HasMarks before old → HasMarks after new
-added_marks due s before after old new a here elsewhere marked i x is = ⊎_elim
-    (λ (k : HasKey due s x). here x.due (ap (λ (d : ℕ). d % 256) k.0))
-    (λ k. kept_mark after old i x (set_marks due before after old here elsewhere marked) k)
-    (a.only i x is)
 
 -- no node is in a list that has no first place
 none_listed : (ends : List Ends) (nodes : List (Option Node)) (due i : ℕ) (x : Node) → IsLinked ends nodes → head ends due ≡ None → node nodes i ≡ Some x → x.due % 256 ≢ due % 256
@@ -72,16 +66,37 @@ cleared_marks due true before after ends nodes linked none same elsewhere marked
 cleared_marks due false before after ends nodes linked none same elsewhere marked i x is = ap (λ (m : Marks). mark_of m.words x.due) same ∙ marked i x is
 
 -- the first node of a list leaves
-pub popped_marks : (place : ℕ) (first : Node) (told : Bool) (before after : Marks) (ends : List Ends) (old new : List (Option Node)) → node old place ≡ Some first → new ≡ set old place None
-    → IsLinked ends new → head ends first.due ≡ first.next → is_some first.next ≡ not told
-    → OnFalse told (after ≡ before) → ((d : ℕ) → d % 256 ≢ first.due % 256 → mark_of after.words d ≡ mark_of before.words d) → HasMarks before.words old → HasMarks after.words new
-popped_marks place first told before after ends old new there left linked next none same elsewhere marked =
-    let gone : IsWithout first.due first.serial old new = subst (λ (ns : List (Option Node)). IsWithout first.due first.serial old ns) (sym left) (left_without old place first there) in
-    cleared_marks first.due told before after ends new linked (λ h. next ∙ none_of first.next told none h) same elsewhere (without_marks _ _ _ old new gone marked)
+pub popped_marks : (p : ℕ) (f : Node) (told : Bool) (before after : Marks) (ends : List Ends) (nodes : List (Option Node)) → IsLinked ends nodes → head ends f.due ≡ Some p → node nodes p ≡ Some f
+    → is_some f.next ≡ not told → OnFalse told (after ≡ before) → ((d : ℕ) → d % 256 ≢ f.due % 256 → mark_of after.words d ≡ mark_of before.words d)
+    → HasMarks before.words nodes → HasMarks after.words (set nodes p None)
+popped_marks p f told before after ends nodes linked top there none same elsewhere marked =
+    cleared_marks f.due told before after (set ends (f.due % 256) left) (set nodes p None)
+    (left_linked ends nodes p f left top there listed refl linked)
+    (λ t. head_same ends f.due f.due left listed refl ∙ none_of f.next told none t)
+    same elsewhere (without_marks f.due f.serial before.words nodes (set nodes p None) (left_without nodes p f there) marked)
+  where
+    left : Ends
+    left = record { first = f.next; last = 0 }
 
--- a node leaves, or none
-pub forgotten_marks : (due serial : ℕ) (told : Bool) (before after : Marks) (ends : List Ends) (old new : List (Option Node)) → IsWithout due serial old new
-    → IsLinked ends new → is_some (head ends due) ≡ not told
-    → OnFalse told (after ≡ before) → ((d : ℕ) → d % 256 ≢ due % 256 → mark_of after.words d ≡ mark_of before.words d) → HasMarks before.words old → HasMarks after.words new
-forgotten_marks due serial told before after ends old new gone linked none same elsewhere marked =
-    cleared_marks due told before after ends new linked (none_of (head ends due) told none) same elsewhere (without_marks _ _ _ old new gone marked)
+    listed : f.due % 256 < length ends
+    listed = head_listed ends f.due p top
+
+-- dues that are equal modulo 256 have the same mark
+same_mark : (words : List ℕ) (d e : ℕ) → d % 256 ≡ e % 256 → mark_of words d ≡ mark_of words e
+same_mark words d e same =
+    let bit : d % 64 ≡ e % 64 = omega (arith, same) in
+    ap (λ (w : ℕ). bit_at (get_or words (w / 64) 0) (d % 64)) same ∙ ap (λ (b : ℕ). bit_at (get_or words (e % 256 / 64) 0) b) bit
+
+pub either_marks : (due s : ℕ) (words : List ℕ) (old new : List (Option Node)) (b : Bool) → OnTrue b (IsAdded due s old new) → OnFalse b (IsSame old new)
+    → ((d : ℕ) → d % 256 ≡ due % 256 → IsMarked words d) → HasMarks words old → HasMarks words new
+either_marks due s words old new true added same here marked i x is = ⊎_elim
+    (λ (k : HasKey due s x). here x.due (ap (λ (d : ℕ). d % 256) k.0))
+    (λ k. kept_mark words old i x marked k)
+    (added.only i x is)
+either_marks due s words old new false added same here marked i x is = marked i x (sym (same i) ∙ is)
+
+-- a key joins behind a node of its list
+pub behind_marks : (due s l : ℕ) (x : Node) (words : List ℕ) (old new : List (Option Node)) (b : Bool) → OnTrue b (IsAdded due s old new) → OnFalse b (IsSame old new)
+    → node old l ≡ Some x → x.due % 256 ≡ due % 256 → HasMarks words old → HasMarks words new
+behind_marks due s l x words old new b added same there list marked =
+    either_marks due s words old new b added same (λ d q. same_mark words d x.due (q ∙ sym list) ∙ marked l x there) marked

@@ -3,9 +3,11 @@ ghost use Rattle.std.specs.Prelude.{◌≡◌, ◌⊎◌, ℕ, ◌<◌, ◌≤�
 ghost use Rattle.std.specs.Bool.{OnTrue, OnFalse};
 ghost use Rattle.sim_queue.specs.Keys.{HasNone};
 ghost use Rattle.sim_queue.specs.Wheel.{keys_of, node, head, reached, first_due, IsAhead, IsAdded, IsSame, IsCounted, IsWithout, IsLinked, IsFrom, IsDue, Follows, least_of};
+ghost use Rattle.sim_queue.specs.Marks.{HasMarks};
 
 use crate::NoMemory;
 use crate::link::Link;
+use crate::marks::Marks;
 use crate::spot::Spot;
 use std::alloc::Global;
 
@@ -30,6 +32,8 @@ pub(crate) struct Lists {
     pub(crate) nodes: Vec<Spot>,
     // The ends of the list of each due modulo 256.
     pub(crate) ends: Vec<Ends>,
+    // The dues of all nodes are marked.
+    pub(crate) marks: Marks,
     // Places that are most likely free.
     pub(crate) free: Vec<u32>,
     // How many nodes there are.
@@ -45,6 +49,7 @@ impl Lists {
         Lists {
             nodes: Vec::new(alloc),
             ends: empty_lists(alloc),
+            marks: Marks::new(),
             free: Vec::new(alloc),
             count: 0,
         }
@@ -83,16 +88,19 @@ impl Lists {
     pub(crate) fn add(&mut self, due: u64, serial: u64) -> bool
         requires linked { IsLinked self.old.ends.items self.old.nodes.items }
         requires counted { IsCounted self.old.count self.old.nodes.items }
+        requires marked { HasMarks self.old.marks.words self.old.nodes.items }
         ensures added { OnTrue result (IsAdded due serial self.old.nodes.items self.new.nodes.items) }
         ensures refused { OnFalse result (IsSame self.old.nodes.items self.new.nodes.items) }
         ensures linked { IsLinked self.new.ends.items self.new.nodes.items }
         ensures counted { IsCounted self.new.count self.new.nodes.items }
+        ensures marked { HasMarks self.new.marks.words self.new.nodes.items }
     {
         let Ends { first, last } = match self.ends.get((due % 256) as usize) {
             Some(ends) => *ends,
             None => return false,
         };
         if first.is_none() {
+            self.marks.set(due);
             return self.add_first(due, serial, Link::none());
         }
         if let Some(before) = self.node(Some(last)) {
@@ -100,6 +108,7 @@ impl Lists {
                 return self.add_behind(due, serial, last, before);
             }
         }
+        self.marks.set(due);
         self.add_among(due, serial, first)
     }
 
@@ -113,6 +122,7 @@ impl Lists {
         ensures refused { OnFalse result (IsSame self.old.nodes.items self.new.nodes.items) }
         ensures linked { IsLinked self.new.ends.items self.new.nodes.items }
         ensures counted { IsCounted self.new.count self.new.nodes.items }
+        ensures marks { self.new.marks ≡ self.old.marks }
     {
         let first = match self.node(begin.get()) {
             Some(first) => first,
@@ -156,6 +166,7 @@ impl Lists {
     }
 
     // Adds a key before the others of its list, if there is memory. `next` is the place of the first of them, where there are any.
+    #[inline(never)]
     fn add_first(&mut self, due: u64, serial: u64, next: Link) -> bool
         requires linked { IsLinked self.old.ends.items self.old.nodes.items }
         requires counted { IsCounted self.old.count self.old.nodes.items }
@@ -165,6 +176,7 @@ impl Lists {
         ensures refused { OnFalse result (IsSame self.old.nodes.items self.new.nodes.items) }
         ensures linked { IsLinked self.new.ends.items self.new.nodes.items }
         ensures counted { IsCounted self.new.count self.new.nodes.items }
+        ensures marks { self.new.marks ≡ self.old.marks }
     {
         let place = match self.take_place() {
             Some(place) => place,
@@ -193,6 +205,7 @@ impl Lists {
         ensures refused { OnFalse result (IsSame self.old.nodes.items self.new.nodes.items) }
         ensures linked { IsLinked self.new.ends.items self.new.nodes.items }
         ensures counted { IsCounted self.new.count self.new.nodes.items }
+        ensures marks { self.new.marks ≡ self.old.marks }
     {
         let place = match self.take_place() {
             Some(place) => place,
@@ -221,16 +234,18 @@ impl Lists {
     pub(crate) fn remove_first(&mut self, place: u32, first: Node)
         requires linked { IsLinked self.old.ends.items self.old.nodes.items }
         requires counted { IsCounted self.old.count self.old.nodes.items }
+        requires marked { HasMarks self.old.marks.words self.old.nodes.items }
         requires head { head self.old.ends.items first.due ≡ Some place }
         requires there { node self.old.nodes.items place ≡ Some first }
         ensures nodes { self.new.nodes.items ≡ slice_set self.old.nodes.items place None }
-        ensures next { head self.new.ends.items first.due ≡ first.next }
         ensures linked { IsLinked self.new.ends.items self.new.nodes.items }
         ensures counted { IsCounted self.new.count self.new.nodes.items }
+        ensures marked { HasMarks self.new.marks.words self.new.nodes.items }
     {
         self.nodes[place as usize] = Spot::free();
         self.count -= 1;
         self.ends[(first.due % 256) as usize].first = first.next;
+        self.marks.clear_if(first.next.is_none(), first.due);
         let _ = self.free.push(place);
     }
 
@@ -238,9 +253,11 @@ impl Lists {
     pub(crate) fn forget(&mut self, due: u64, serial: u64)
         requires linked { IsLinked self.old.ends.items self.old.nodes.items }
         requires counted { IsCounted self.old.count self.old.nodes.items }
+        requires marked { HasMarks self.old.marks.words self.old.nodes.items }
         ensures without { IsWithout due serial self.old.nodes.items self.new.nodes.items }
         ensures linked { IsLinked self.new.ends.items self.new.nodes.items }
         ensures counted { IsCounted self.new.count self.new.nodes.items }
+        ensures marked { HasMarks self.new.marks.words self.new.nodes.items }
     {
         let (before, place) = match self.find(due, serial) {
             Some(found) => found,
@@ -287,6 +304,7 @@ impl Lists {
         ensures without { IsWithout gone.due gone.serial self.old.nodes.items self.new.nodes.items }
         ensures linked { IsLinked self.new.ends.items self.new.nodes.items }
         ensures counted { IsCounted self.new.count self.new.nodes.items }
+        ensures marks { self.new.marks ≡ self.old.marks }
     {
         let first = match self.node(Some(before)) {
             Some(first) => first,
@@ -314,11 +332,13 @@ impl Lists {
     pub(crate) fn copy(&self) -> Result<Lists, NoMemory>
         ensures nodes { IfOk result (λ copied. copied.nodes.items ≡ self.now.nodes.items) }
         ensures ends { IfOk result (λ copied. copied.ends.items ≡ self.now.ends.items) }
+        ensures marks { IfOk result (λ copied. copied.marks ≡ self.now.marks) }
         ensures count { IfOk result (λ copied. copied.count ≡ self.now.count) }
     {
         Ok(Lists {
             nodes: copied(&self.nodes)?,
             ends: copied(&self.ends)?,
+            marks: self.marks,
             free: copied(&self.free)?,
             count: self.count,
         })
@@ -346,6 +366,7 @@ impl Lists {
         ensures small { IfSome result (λ p. p < 4294967295) }
         ensures same { (i : ℕ) → node self.new.nodes.items i ≡ node self.old.nodes.items i }
         ensures ends { self.new.ends ≡ self.old.ends }
+        ensures marks { self.new.marks ≡ self.old.marks }
         ensures count { self.new.count ≡ self.old.count }
         ensures keys { keys_of self.new.nodes.items ≡ keys_of self.old.nodes.items }
     {
@@ -367,6 +388,7 @@ impl Lists {
         ensures small { IfSome result (λ p. p < 4294967295) }
         ensures same { (i : ℕ) → node self.new.nodes.items i ≡ node self.old.nodes.items i }
         ensures ends { self.new.ends ≡ self.old.ends }
+        ensures marks { self.new.marks ≡ self.old.marks }
         ensures count { self.new.count ≡ self.old.count }
         ensures keys { keys_of self.new.nodes.items ≡ keys_of self.old.nodes.items }
     {

@@ -7,7 +7,6 @@ ghost use Rattle.sim_queue.specs.Marks.{HasMarks};
 
 use crate::NoMemory;
 use crate::lists::Lists;
-use crate::marks::Marks;
 use std::alloc::Global;
 use std::marker::Model;
 
@@ -15,8 +14,6 @@ use std::marker::Model;
 #[derive(Drop)]
 pub(crate) struct Wheel {
     lists: Lists,
-    // The dues of all keys are marked.
-    marks: Marks,
     // The least due, and the greatest of all times where there are no keys.
     floor: u64,
 }
@@ -30,7 +27,7 @@ impl Model for Wheel {
 
     ghost view = { λ w. keys_of w.lists.nodes.items };
 
-    ghost invariant = { λ w. IsWheel w.lists.ends.items w.lists.nodes.items w.floor × IsCounted w.lists.count w.lists.nodes.items × HasMarks w.marks.words w.lists.nodes.items };
+    ghost invariant = { λ w. IsWheel w.lists.ends.items w.lists.nodes.items w.floor × IsCounted w.lists.count w.lists.nodes.items × HasMarks w.lists.marks.words w.lists.nodes.items };
 }
 
 impl Wheel {
@@ -40,7 +37,6 @@ impl Wheel {
     {
         Wheel {
             lists: Lists::new(alloc),
-            marks: Marks::new(),
             floor: u64::MAX,
         }
     }
@@ -54,7 +50,6 @@ impl Wheel {
         if !self.lists.add(due, serial) {
             return false;
         }
-        self.marks.set(due);
         if due < self.floor {
             self.floor = due;
         }
@@ -92,8 +87,7 @@ impl Wheel {
         let head = self.lists.head(self.floor)?;
         let key = (first.due, first.serial);
         self.lists.remove_first(head, first);
-        self.marks.clear_if(first.next.is_none(), first.due);
-        self.floor = settled(&self.lists, &self.marks, self.floor);
+        self.floor = settled(&self.lists, self.floor);
         Some(key)
     }
 
@@ -102,8 +96,7 @@ impl Wheel {
         ensures { KeepsOthers due serial self.old self.new }
     {
         self.lists.forget(due, serial);
-        self.marks.clear_if(self.lists.head(due).is_none(), due);
-        self.floor = settled(&self.lists, &self.marks, self.floor);
+        self.floor = settled(&self.lists, self.floor);
     }
 
     /// The same keys.
@@ -112,46 +105,41 @@ impl Wheel {
     {
         Ok(Wheel {
             lists: self.lists.copy()?,
-            marks: self.marks,
             floor: self.floor,
         })
     }
 }
 
-// The least due: the floor, or else most likely the next due that is marked.
+// The least due: most likely the next one that is marked.
 #[inline(always)]
-fn settled(lists: &Lists, marks: &Marks, floor: u64) -> u64
+fn settled(lists: &Lists, floor: u64) -> u64
     requires linked { IsLinked lists.now.ends.items lists.now.nodes.items }
-    requires marked { HasMarks marks.now.words lists.now.nodes.items }
+    requires marked { HasMarks lists.now.marks.words lists.now.nodes.items }
     requires from { IsFrom floor lists.now.nodes.items }
     ensures { IsWheel lists.now.ends.items lists.now.nodes.items result }
 {
-    if lists.first_due(floor).is_some() {
-        return floor;
-    }
-    let from = floor.saturating_add(1);
-    if let Some(distance) = marks.distance(from) {
-        let due = from + distance;
+    if let Some(distance) = lists.marks.distance(floor) {
+        let due = floor + distance;
         if lists.first_due(due).is_some() {
             return due;
         }
     }
-    searched(lists, marks, from)
+    searched(lists, floor)
 }
 
 // The least due: from one marked due to the next, once through all lists, and then among all nodes.
 #[inline(never)]
-fn searched(lists: &Lists, marks: &Marks, from: u64) -> u64
+fn searched(lists: &Lists, floor: u64) -> u64
     requires linked { IsLinked lists.now.ends.items lists.now.nodes.items }
-    requires marked { HasMarks marks.now.words lists.now.nodes.items }
-    requires from { IsFrom from lists.now.nodes.items }
+    requires marked { HasMarks lists.now.marks.words lists.now.nodes.items }
+    requires from { IsFrom floor lists.now.nodes.items }
     ensures { IsWheel lists.now.ends.items lists.now.nodes.items result }
 {
     // Where a word of marks begins: the fifth word on has the rest of the lists of the first one.
-    let end = from.saturating_add(320) / 64 * 64;
-    let mut due = from;
+    let end = floor.saturating_add(320) / 64 * 64;
+    let mut due = floor;
     while due < end {
-        match marks.distance(due) {
+        match lists.marks.distance(due) {
             Some(distance) => {
                 due += distance;
                 if lists.first_due(due).is_some() {

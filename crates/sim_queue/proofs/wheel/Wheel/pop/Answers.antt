@@ -3,7 +3,6 @@ use Rattle.sim_queue.specs.declared.lists.Node.{Node}
 use Rattle.sim_queue.specs.Wheel.{first_due, node, IsWithout}
 use Rattle.sim_queue.proofs.Counts.{counted_fewer}
 use Rattle.sim_queue.proofs.Links.{left_without}
-use Rattle.sim_queue.proofs.Marked.{popped_marks}
 use Rattle.sim_queue.proofs.Turning.{first_none, first_key, others, without_from}
 use Rattle.sim_queue.proofs.wheel.Wheel.pop.Goals as goal
 
@@ -11,21 +10,6 @@ pub returns-in_err-first-clause-none : goal.returns-in_err-first-clause-none
 returns-in_err-first-clause-none c =
     let none : first_due c.self.inside.lists.ends.items c.self.inside.lists.nodes.items c.self.inside.floor ≡ None = search rules in
     rw (← c.self.view_is, c.from_residual.ensures) (λ d s. first_none _ _ _ c.self.invariant.0 none d s)
-
-pub settled-self-inside-requires-clause-marked : goal.settled-self-inside-requires-clause-marked
-settled-self-inside-requires-clause-marked c =
-    let there : node c.self.inside.lists.nodes.items c.in_ok-head.head ≡ Some c.in_ok-first.first = search rules in
-    popped_marks c.in_ok-head.head c.in_ok-first.first c.is_none.result c.self.inside.marks c.clear_if.new.self c.remove_first.new.self.ends.items c.self.inside.lists.nodes.items _ there c.remove_first.ensures.nodes
-    c.remove_first.ensures.linked c.remove_first.ensures.next c.is_none.ensures c.clear_if.ensures.same c.clear_if.ensures.others c.self.invariant.2
-
-pub invariant_of-self : goal.invariant_of-self
-invariant_of-self c =
-    let there : node c.self.inside.lists.nodes.items c.in_ok-head.head ≡ Some c.in_ok-first.first = search rules in (
-      c.settled-self-inside.ensures,
-      c.remove_first.ensures.counted,
-      popped_marks c.in_ok-head.head c.in_ok-first.first c.is_none.result c.self.inside.marks c.clear_if.new.self c.remove_first.new.self.ends.items c.self.inside.lists.nodes.items _ there c.remove_first.ensures.nodes
-          c.remove_first.ensures.linked c.remove_first.ensures.next c.is_none.ensures c.clear_if.ensures.same c.clear_if.ensures.others c.self.invariant.2,
-    )
 
 pub settled-self-inside-requires-clause-from : goal.settled-self-inside-requires-clause-from
 settled-self-inside-requires-clause-from c =
