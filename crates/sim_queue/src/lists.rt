@@ -166,7 +166,6 @@ impl Lists {
     }
 
     // Adds a key before the others of its list, if there is memory. `next` is the place of the first of them, where there are any.
-    #[inline(never)]
     fn add_first(&mut self, due: u64, serial: u64, next: Link) -> bool
         requires linked { IsLinked self.old.ends.items self.old.nodes.items }
         requires counted { IsCounted self.old.count self.old.nodes.items }
