@@ -12,6 +12,7 @@ ghost use Rattle.sim_world.specs.Undone.{is_reaction};
 ghost use Rattle.circular_buffer.specs.Buffer.{buffer};
 ghost use Rattle.sim_tape.specs.Inside.{IsRun, IsWalkIn, IsWalkAfter, AreRecordsIn, IsAtIn, IsAfter, rules_in, world_at_end, world_after};
 ghost use Rattle.sim_tape.specs.Places.{events_of, acting};
+ghost use Rattle.sim_tape.specs.Segments.{stretch};
 ghost use Rattle.sim_tape.specs.Works.{undone_by, OnlyTurns, Plays};
 
 use crate::NoMemory;
@@ -65,6 +66,40 @@ fn copied<N: Node>(
 }
 
 impl Log {
+    // The world after the events from a place up to `to`, or up to the end of the segment that holds the place, whose records are
+    // kept. It answers the place that it came to, too.
+    fn play_stretch<N: Node>(
+        &self,
+        alloc: Global,
+        place: usize,
+        to: usize,
+        world: World<N>,
+        ring: &mut Ring<N>,
+        meter: &mut N::Meter,
+    ) -> Result<(World<N>, usize), NoMemory>
+        requires runs { IsRun (rules_in N.laws N.PROBES self.now) self.now.entries }
+        requires order { place < to }
+        requires within { to ≤ length self.now.entries }
+        requires here { IsAtIn N.laws N.PROBES self.now place world }
+        requires records { AreRecordsIn N.told N.records N.laws N.PROBES self.now place ring.old.items }
+        requires room { length ring.old.items ≤ ring.old.capacity }
+        ensures place { IfOk result (λ x. x.1 ≡ place + stretch self.now.scenario.interval place to) }
+        ensures on { IfOk result (λ x. place < x.1) }
+        ensures within { IfOk result (λ x. x.1 ≤ to) }
+        ensures here { IfOk result (λ x. IsAtIn N.laws N.PROBES self.now x.1 x.0) }
+        ensures records { IfOk result (λ x. AreRecordsIn N.told N.records N.laws N.PROBES self.now x.1 ring.new.items) }
+        ensures reach { IfOk result (λ x. length ring.new.items ≡ min ring.old.capacity (length ring.old.items + (x.1 - place))) }
+        ensures capacity { ring.new.capacity ≡ ring.old.capacity }
+        ensures work { IfOk result (λ x. OnlyTurns (x.1 - place) (N.Meter.work meter.old) (N.Meter.work meter.new)) }
+    {
+        let entries = self.stretch(place, to);
+        let mut world = world;
+        for entry in entries {
+            world = ring.apply(alloc, world, entry.event, meter)?;
+        }
+        Ok((world, place + entries.len()))
+    }
+
     // The world after the events from a place up to `to`, whose records are kept.
     fn play<N: Node>(
         &self,
@@ -88,9 +123,11 @@ impl Log {
         ensures work { OnOk result (OnlyTurns (to - place) (N.Meter.work meter.old) (N.Meter.work meter.new)) }
     {
         let mut world = world;
-        for i in place..to {
-            let event = self.entry(i).event;
-            world = ring.apply(alloc, world, event, meter)?;
+        let mut place = place;
+        while place < to {
+            let (after, reached) = self.play_stretch(alloc, place, to, world, ring, meter)?;
+            world = after;
+            place = reached;
         }
         Ok(world)
     }
