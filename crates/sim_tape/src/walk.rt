@@ -100,8 +100,34 @@ impl Log {
         Ok((world, place + entries.len()))
     }
 
-    // The world after the events from a place up to `to`, whose records are kept.
-    fn play<N: Node>(
+    // The world after the event at a place, whose record is kept.
+    fn play_event<N: Node>(
+        &self,
+        alloc: Global,
+        place: usize,
+        world: World<N>,
+        ring: &mut Ring<N>,
+        meter: &mut N::Meter,
+    ) -> Result<World<N>, NoMemory>
+        requires runs { IsRun (rules_in N.laws N.PROBES self.now) self.now.entries }
+        requires within { place < length self.now.entries }
+        requires here { IsAtIn N.laws N.PROBES self.now place world }
+        requires records { AreRecordsIn N.told N.records N.laws N.PROBES self.now place ring.old.items }
+        requires room { length ring.old.items ≤ ring.old.capacity }
+        ensures here { IfOk result (λ w. IsAtIn N.laws N.PROBES self.now (place + 1) w) }
+        ensures records { OnOk result (AreRecordsIn N.told N.records N.laws N.PROBES self.now (place + 1) ring.new.items) }
+        ensures reach { OnOk result (length ring.new.items ≡ min ring.old.capacity (length ring.old.items + 1)) }
+        ensures capacity { ring.new.capacity ≡ ring.old.capacity }
+        ensures work { OnOk result (OnlyTurns 1 (N.Meter.work meter.old) (N.Meter.work meter.new)) }
+    {
+        let event = self.entry(place).event;
+        let after = ring.apply(alloc, world, event, meter)?;
+        Ok(after)
+    }
+
+    // The world after the events from a place up to `to`, whose records are kept, segment by segment.
+    #[inline(never)]
+    fn play_stretches<N: Node>(
         &self,
         alloc: Global,
         place: usize,
@@ -130,6 +156,35 @@ impl Log {
             place = reached;
         }
         Ok(world)
+    }
+
+    // The world after the events from a place up to `to`, whose records are kept.
+    #[inline]
+    fn play<N: Node>(
+        &self,
+        alloc: Global,
+        place: usize,
+        to: usize,
+        world: World<N>,
+        ring: &mut Ring<N>,
+        meter: &mut N::Meter,
+    ) -> Result<World<N>, NoMemory>
+        requires runs { IsRun (rules_in N.laws N.PROBES self.now) self.now.entries }
+        requires order { place ≤ to }
+        requires within { to ≤ length self.now.entries }
+        requires here { IsAtIn N.laws N.PROBES self.now place world }
+        requires records { AreRecordsIn N.told N.records N.laws N.PROBES self.now place ring.old.items }
+        requires room { length ring.old.items ≤ ring.old.capacity }
+        ensures here { IfOk result (λ w. IsAtIn N.laws N.PROBES self.now to w) }
+        ensures records { OnOk result (AreRecordsIn N.told N.records N.laws N.PROBES self.now to ring.new.items) }
+        ensures reach { OnOk result (length ring.new.items ≡ min ring.old.capacity (length ring.old.items + (to - place))) }
+        ensures capacity { ring.new.capacity ≡ ring.old.capacity }
+        ensures work { OnOk result (OnlyTurns (to - place) (N.Meter.work meter.old) (N.Meter.work meter.new)) }
+    {
+        if to - place == 1 {
+            return self.play_event(alloc, place, world, ring, meter);
+        }
+        self.play_stretches(alloc, place, to, world, ring, meter)
     }
 
     // The world before the last `count` events, which are taken back by their records.
