@@ -10,6 +10,7 @@ pub mod Sound
 pub mod Held
 pub mod Index
 pub mod Trail
+pub mod Further
 pub mod Room
 pub mod Giving
 pub mod Undone

@@ -8,6 +8,7 @@ mod copy;
 mod crash;
 mod effects;
 mod faults;
+mod further;
 mod glance;
 mod host;
 mod index;

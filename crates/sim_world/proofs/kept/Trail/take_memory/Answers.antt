@@ -6,5 +6,5 @@ use Rattle.sim_world.proofs.kept.Trail.take_memory.Goals as goal
 pub returns : goal.returns
 returns g c =
     let i = c.self.inside in
-    refilled (synced_change i.synced) (drawn_change i.drawn) (acted_change i.acted) (sent_changes i.sent) (map unboxed i.others.items) (map unboxed c.clear.new.self.items)
-    (ap (λ t. t.items) c.self.view_is ∙ c.requires) (ap (λ l. map unboxed l) c.clear.ensures.items)
+    refilled (synced_change i.synced) (drawn_change i.drawn) (acted_change i.acted) (sent_changes i.sent) (map unboxed i.others) (map unboxed c.take_memory.new.self)
+    (ap (λ t. t.items) c.self.view_is ∙ c.requires) (ap (map unboxed) c.take_memory.ensures)

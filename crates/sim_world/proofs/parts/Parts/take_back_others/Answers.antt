@@ -13,17 +13,17 @@ use Rattle.sim_world.proofs.parts.Parts.take_back_others.Goals as goal
 pub take_back-requires-clause-fits : goal.take_back-requires-clause-fits
 take_back-requires-clause-fits g c =
     let records = g.N.Node.records in
-    (Fits-pop records (map unboxed c.pop.new.self.items) (unboxed c.in-Some.change) c.loop-change.self.world
-    (subst (λ cs. Fits records cs c.loop-change.self.world) (others_popped c.loop-change.others.items c.pop.new.self.items c.pop.result c.in-Some.change c.pop.ensures.items c.in-Some.is) c.loop-change.invariant.fits)).0
+    (Fits-pop records (map unboxed c.pop.new.self) (unboxed c.in-Some.change) c.loop-change.self.world
+    (subst (λ cs. Fits records cs c.loop-change.self.world) (others_popped c.loop-change.others c.pop.new.self c.pop.result c.in-Some.change c.pop.ensures.items c.in-Some.is) c.loop-change.invariant.fits)).0
 
 pub loop-change-preserved : goal.loop-change-preserved
 loop-change-preserved g c =
     let records = g.N.Node.records in
     let i = c.loop-change.invariant in
-    let left : List (Small g.row.N.Denot g.row.N-Msg.Denot g.row.N-Undo.Denot) = map unboxed c.pop.new.self.items in
+    let left : List (Small g.row.N.Denot g.row.N-Msg.Denot g.row.N-Undo.Denot) = map unboxed c.pop.new.self in
     let change = unboxed c.in-Some.change in
     let was = c.loop-change.self in
-    let out : map unboxed c.loop-change.others.items ≡ left ++ change ∷ [] = others_popped c.loop-change.others.items c.pop.new.self.items c.pop.result c.in-Some.change c.pop.ensures.items c.in-Some.is in
+    let out : map unboxed c.loop-change.others ≡ left ++ change ∷ [] = others_popped c.loop-change.others c.pop.new.self c.pop.result c.in-Some.change c.pop.ensures.items c.in-Some.is in
     let done : c.take_back.new.self.world ≡ back_one records change was.world = ap (λ v. v.world) c.in_ok-take_back.ensures.world in
     let before : Work = g.N.Meter.Meter.work c.loop-change.meter in
     record {
