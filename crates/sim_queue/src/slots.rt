@@ -4,8 +4,7 @@ ghost use Rattle.std.specs.Bool.{OnTrue};
 ghost use Rattle.std.specs.Fn.{FnReturnsAt};
 ghost use Rattle.std.specs.Option.{option_map, IsSome};
 ghost use Rattle.sim_queue.specs.Items.{item_of, items_from};
-ghost use Rattle.sim_queue.specs.Slots.{at, takes, Skips, IsFound};
-ghost use Rattle.sim_queue.specs.Sparse.{index_at, slot_of, slots_of};
+ghost use Rattle.sim_queue.specs.Slots.{at, Skips, IsFound};
 
 use crate::link::Link;
 use crate::{Item, NoMemory};
@@ -184,13 +183,18 @@ impl<B> Slots<B> {
         ensures within { IfSome result (λ i. i < length self.now.items) }
         ensures found { (p : B → Bool) → ((x : B) (r : Bool) → FnReturnsAt F.Fn test.now x r → r ≡ p x) → MatchOption result (Skips p self.now.items start (length self.now.items)) (λ i. IsFound p self.now.items start i) }
     {
-        let (head, wrapped) = self.places.as_slices();
-        if let Some(place) = first_in(&self.items, head, start, test) {
-            return Some(place);
+        let mut least = self.places.len();
+        for index in 0..self.items.len() {
+            let item = &self.items[index];
+            let place = (item.serial - self.base) as usize;
+            if start <= place && place < least && test(&item.body) {
+                least = place;
+            }
         }
-        let start = start.saturating_sub(head.len());
-        let place = first_in(&self.items, wrapped, start, test)?;
-        Some(head.len() + place)
+        if least == self.places.len() {
+            return None;
+        }
+        Some(least)
     }
 
     /// Equal slots, each body as `each` copies it.
@@ -212,39 +216,6 @@ impl<B> Slots<B> {
             places,
             base: self.base,
         })
-    }
-}
-
-// The first of these places, from `start` on, whose body the test takes.
-fn first_in<B, F: Fn(&B) -> bool>(
-    items: &Vec<Item<B>>,
-    places: &[Link],
-    start: usize,
-    test: &F,
-) -> Option<usize>
-    requires callable { F.IsAlwaysCallable test.now }
-    requires there { (i k : ℕ) → index_at places.now i ≡ Some k → k < length items.now.items }
-    ensures within { IfSome result (λ i. i < length places.now) }
-    ensures found { (p : B → Bool) → ((x : B) (r : Bool) → FnReturnsAt F.Fn test.now x r → r ≡ p x) → MatchOption result (Skips p (slots_of items.now.items places.now) start (length places.now)) (λ i. IsFound p (slots_of items.now.items places.now) start i) }
-{
-    for place in start..places.len() {
-        if is_taken(items, places[place], test) {
-            return Some(place);
-        }
-    }
-    None
-}
-
-// Whether an item is there whose body the test takes.
-#[inline(always)]
-fn is_taken<B, F: Fn(&B) -> bool>(items: &Vec<Item<B>>, link: Link, test: &F) -> bool
-    requires callable { F.IsAlwaysCallable test.now }
-    requires there { (k : ℕ) → link ≡ Some k → k < length items.now.items }
-    ensures { (p : B → Bool) → ((x : B) (r : Bool) → FnReturnsAt F.Fn test.now x r → r ≡ p x) → result ≡ takes p (slot_of items.now.items link) }
-{
-    match link.get() {
-        Some(index) => test(&items[index as usize].body),
-        None => false,
     }
 }
 
