@@ -6,7 +6,7 @@ ghost use Rattle.sim_queue.specs.Keys.{has, key_cmp, heap_keys, IsFirstKey, HasN
 ghost use Rattle.sim_queue.specs.Slots.{Covers, CoversBelow};
 
 use crate::NoMemory;
-use crate::slots::Slots;
+use crate::slots::{Slots, with_room};
 use crate::wheel::Wheel;
 use std::alloc::Global;
 use std::cmp::Reverse;
@@ -48,6 +48,21 @@ impl Agenda {
         }
     }
 
+    /// The keys of the items in these slots. They are added in the order of their serials, so that most come to the ends of their lists.
+    pub(crate) fn of<B>(alloc: Global, slots: &Slots<B>) -> Result<Agenda, NoMemory>
+        requires small { slots.now.base + length slots.now.items ≤ 2 ^ 40 }
+        ensures { IfOk result (λ a. Covers a slots.now.items slots.now.base) }
+    {
+        let mut agenda = Agenda::new(alloc);
+        agenda.wheel.reserve(with_room(slots.count()))?;
+        for place in 0..slots.len() {
+            if let Some((due, _body)) = slots.get(place) {
+                agenda.push(due, slots.base() + place as u64)?;
+            }
+        }
+        Ok(agenda)
+    }
+
     /// Adds a key, or keeps those that are there.
     #[inline(always)]
     pub(crate) fn push(&mut self, due: u64, serial: u64) -> Result<(), NoMemory>
@@ -66,6 +81,12 @@ impl Agenda {
         ensures { OnTrue result (length self.now ≡ count) }
     {
         self.heap.is_empty() && self.wheel.len() == count
+    }
+
+    /// Whether it has places for more than 64 keys, and for more than twice as many as these.
+    pub(crate) fn is_sparse(&self, count: usize) -> bool {
+        let places = self.wheel.places();
+        places > 64 && places / 2 > count
     }
 
     /// The first key.

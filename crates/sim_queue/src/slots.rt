@@ -231,8 +231,8 @@ fn next_index<B>(items: &Vec<Item<B>>) -> Result<u32, NoMemory>
     Ok(next as u32)
 }
 
-// The capacity of a copy, which leaves some room for what comes next.
-fn with_room(len: usize) -> usize
+/// The capacity of a copy, which leaves some room for what comes next.
+pub(crate) fn with_room(len: usize) -> usize
     ensures { len ≤ result }
 {
     len.saturating_add(len / 8).saturating_add(8)

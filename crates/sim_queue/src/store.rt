@@ -1,5 +1,5 @@
 //! What a queue is made of. Each of its parts may be out of step with the others while one change is under way.
-ghost use Rattle.std.specs.Prelude.{◌≡◌, ℕ, ◌^◌, ◌<◌, ◌≤◌, nat_le, OnOk, OnErr, IfOk, IfSome, IfNone, length, Bool, ◌&&◌};
+ghost use Rattle.std.specs.Prelude.{◌≡◌, ℕ, ◌+◌, ◌^◌, ◌<◌, ◌≤◌, nat_le, OnOk, OnErr, IfOk, IfSome, IfNone, length, Bool, ◌&&◌};
 ghost use Rattle.std.specs.Fn.{FnReturnsAt};
 ghost use Rattle.std.specs.List.{find};
 ghost use Rattle.std.specs.Option.{option_map};
@@ -156,7 +156,8 @@ impl<B> Store<B> {
         added
     }
 
-    /// Equal pending items, each body as `each` copies it.
+    /// Equal pending items, each body as `each` copies it. Where most places for keys are free, as after a burst, the keys are made
+    /// anew, so that the copy takes no memory for free places.
     pub(crate) fn copy<F: Fn(&B) -> Result<B, NoMemory>>(
         &self,
         alloc: Global,
@@ -170,10 +171,28 @@ impl<B> Store<B> {
         ensures pending { IfOk result (λ s. pending_in s ≡ pending_in self.now) }
         ensures keyed { IfOk result (λ s. IsKeyed s) }
     {
+        let slots = self.slots.copy(alloc, each)?;
+        if self.order.is_sparse(slots.count()) {
+            return Store::of(alloc, slots);
+        }
         Ok(Store {
-            slots: self.slots.copy(alloc, each)?,
+            slots,
             order: self.order.copy()?,
         })
+    }
+
+    // The items in these slots, whose keys are made anew.
+    fn of(alloc: Global, slots: Slots<B>) -> Result<Store<B>, NoMemory>
+    where
+        B: Drop,
+        requires { slots.base + length slots.items ≤ 2 ^ 40 }
+        ensures slots { IfOk result (λ s. s.slots ≡ slots) }
+        ensures keyed { IfOk result (λ s. IsKeyed s) }
+    {
+        let order = Agenda::of(alloc, &slots)?;
+        let mut store = Store { slots, order };
+        store.clean();
+        Ok(store)
     }
 
     // Whether the item of this due and serial is pending.

@@ -74,6 +74,18 @@ impl Wheel {
         self.lists.count
     }
 
+    /// How many keys its nodes have places for.
+    pub(crate) fn places(&self) -> usize {
+        self.lists.nodes.len()
+    }
+
+    /// Takes memory for so many more places.
+    pub(crate) fn reserve(&mut self, places: usize) -> Result<(), NoMemory>
+        ensures { self.new ≡ self.old }
+    {
+        self.lists.nodes.reserve(places)
+    }
+
     /// Takes the first key out.
     #[inline(always)]
     pub(crate) fn pop(&mut self) -> Option<(u64, u64)>
