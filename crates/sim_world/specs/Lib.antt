@@ -11,6 +11,7 @@ pub mod Held
 pub mod Index
 pub mod Trail
 pub mod Further
+pub mod Saved
 pub mod Room
 pub mod Giving
 pub mod Undone

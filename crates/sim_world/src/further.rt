@@ -5,6 +5,8 @@ ghost use Rattle.sim_world.specs.declared.kept.Compact.TheVariants as compact;
 
 use crate::NoMemory;
 use crate::kept::Compact;
+use crate::saved::Saved;
+use sim_disk::DiskUndo;
 use std::alloc::Global;
 use std::marker::Model;
 use std::mem;
@@ -25,6 +27,7 @@ enum First {
 /// Changes in order. Those by which the timer of a host is set take no memory where they come first.
 #[derive(Drop)]
 pub(crate) struct Further<S, M, U> {
+    saved: Saved,
     first: First,
     list: Vec<Compact<S, M, U>>,
 }
@@ -33,10 +36,11 @@ impl<S, M, U> Model for Further<S, M, U> {
     ghost use Rattle.std.specs.Prelude.{List, ◌++◌};
     ghost use Rattle.sim_world.specs.declared.kept.Compact.{Compact};
     ghost use Rattle.sim_world.specs.Further.{first_changes};
+    ghost use Rattle.sim_world.specs.Saved.{saved_changes};
 
     ghost Value = { List (Compact S M U) };
 
-    ghost view = { λ f. first_changes f.first ++ f.list.items };
+    ghost view = { λ f. saved_changes f.saved ++ (first_changes f.first ++ f.list.items) };
 }
 
 impl<S, M, U> Further<S, M, U> {
@@ -45,6 +49,7 @@ impl<S, M, U> Further<S, M, U> {
         ensures { result ≡ [] }
     {
         Further {
+            saved: Saved::Nothing,
             first: First::Any,
             list: Vec::new(alloc),
         }
@@ -55,7 +60,7 @@ impl<S, M, U> Further<S, M, U> {
         ensures { OnTrue result (self.now ≡ []) }
     {
         match self.first {
-            First::Any => self.list.is_empty(),
+            First::Any => self.saved.is_nothing::<S, M, U>() && self.list.is_empty(),
             First::TookTimer { .. } | First::Queued | First::Reset { .. } => false,
         }
     }
@@ -69,7 +74,7 @@ impl<S, M, U> Further<S, M, U> {
             return Some(change);
         }
         match self.first {
-            First::Any => None,
+            First::Any => self.saved.pop(),
             First::TookTimer { host, due, serial } => {
                 self.first = First::Any;
                 Some(Compact::TookTimer { host, due, serial })
@@ -92,6 +97,7 @@ impl<S: Drop, M: Drop, U: Drop> Further<S, M, U> {
     pub(crate) fn clear(&mut self)
         ensures { self.new ≡ [] }
     {
+        self.saved = Saved::Nothing;
         self.first = First::Any;
         if !self.list.is_empty() {
             drop_all(&mut self.list);
@@ -144,11 +150,23 @@ impl<S: Drop, M: Drop, U: Drop> Further<S, M, U> {
     ) -> Result<(), NoMemory>
         ensures { OnOk result (self.new ≡ self.old ++ compact.TookTimer host due serial ∷ []) }
     {
-        if self.is_empty() {
-            self.first = First::TookTimer { host, due, serial };
-            return Ok(());
+        match (self.first, self.list.is_empty()) {
+            (First::Any, true) => {
+                self.first = First::TookTimer { host, due, serial };
+                Ok(())
+            }
+            _ => self.push(Compact::TookTimer { host, due, serial }),
         }
-        self.push(Compact::TookTimer { host, due, serial })
+    }
+
+    // Adds that the disk of a host changed.
+    pub(crate) fn push_stored(&mut self, host: u16, undo: DiskUndo) -> Result<(), NoMemory>
+        ensures { OnOk result (self.new ≡ self.old ++ compact.Stored host undo ∷ []) }
+    {
+        match (self.first, self.list.is_empty(), undo.light()) {
+            (First::Any, true, Some(light)) if self.saved.add::<S, M, U>(host, light) => Ok(()),
+            _ => self.push(Compact::Stored(host, undo)),
+        }
     }
 
     // Adds that an occurrence was queued.
@@ -157,7 +175,9 @@ impl<S: Drop, M: Drop, U: Drop> Further<S, M, U> {
     {
         match (self.first, self.list.is_empty()) {
             (First::Any, true) => {
-                self.first = First::Queued;
+                if !self.saved.add_queued::<S, M, U>() {
+                    self.first = First::Queued;
+                }
                 Ok(())
             }
             (First::TookTimer { host, due, serial }, true) => {

@@ -17,6 +17,7 @@ mod look;
 mod occurrence;
 mod parts;
 mod record;
+mod saved;
 mod scenario;
 mod start;
 mod step;

@@ -1,0 +1,110 @@
+//! What an event did with the disk of a host before anything else of the unusual.
+ghost use Rattle.std.specs.Prelude.{◌≡◌, [], ◌∷◌, ◌++◌, option_to_list, IfNone};
+ghost use Rattle.std.specs.Bool.{OnTrue, OnFalse};
+ghost use Rattle.sim_disk.specs.Light.{whole};
+ghost use Rattle.sim_world.specs.declared.kept.Compact.TheVariants as compact;
+ghost use Rattle.sim_world.specs.Saved.{saved_changes};
+
+use crate::kept::Compact;
+use sim_disk::LightUndo;
+
+/// Writes to the disk of a host, then a sync that asks for them, and then its coming.
+#[derive(Clone, Copy, Drop)]
+pub(crate) enum Saved {
+    /// Nothing was done.
+    Nothing,
+    /// So many writes were added.
+    Wrote { host: u16, writes: u32 },
+    /// So many writes were added, and then a sync asked; so many were asked for before.
+    Asked { host: u16, writes: u32, was: u32 },
+    /// As for `Asked`, and then an occurrence was queued.
+    Queued { host: u16, writes: u32, was: u32 },
+}
+
+impl Saved {
+    // Whether nothing was done.
+    #[inline(always)]
+    pub(crate) fn is_nothing<S, M, U>(&self) -> bool
+        ensures { OnTrue result (saved_changes {State = S} {Msg = M} {Undo = U} self.now ≡ []) }
+    {
+        matches!(self, Saved::Nothing)
+    }
+
+    // Adds that the disk of a host changed so, if that can come next.
+    #[inline(always)]
+    pub(crate) fn add<S, M, U>(&mut self, host: u16, undo: LightUndo) -> bool
+        ensures added { OnTrue result (saved_changes {State = S} {Msg = M} {Undo = U} self.new
+            ≡ saved_changes {State = S} {Msg = M} {Undo = U} self.old ++ compact.Stored host (whole undo) ∷ []) }
+        ensures refused { OnFalse result (self.new ≡ self.old) }
+    {
+        match (*self, undo) {
+            (Saved::Nothing, LightUndo::Added) => {
+                *self = Saved::Wrote { host, writes: 1 };
+                true
+            }
+            (Saved::Nothing, LightUndo::Asked(was)) => {
+                *self = Saved::Asked {
+                    host,
+                    writes: 0,
+                    was,
+                };
+                true
+            }
+            (Saved::Wrote { host: h, writes }, LightUndo::Added)
+                if h == host && writes < u32::MAX => {
+                *self = Saved::Wrote {
+                    host,
+                    writes: writes + 1,
+                };
+                true
+            }
+            (Saved::Wrote { host: h, writes }, LightUndo::Asked(was)) if h == host => {
+                *self = Saved::Asked { host, writes, was };
+                true
+            }
+            _ => false,
+        }
+    }
+
+    // Adds that an occurrence was queued, if that can come next.
+    #[inline(always)]
+    pub(crate) fn add_queued<S, M, U>(&mut self) -> bool
+        ensures added { OnTrue result (saved_changes {State = S} {Msg = M} {Undo = U} self.new
+            ≡ saved_changes {State = S} {Msg = M} {Undo = U} self.old ++ compact.Queued ∷ []) }
+        ensures refused { OnFalse result (self.new ≡ self.old) }
+    {
+        match *self {
+            Saved::Asked { host, writes, was } => {
+                *self = Saved::Queued { host, writes, was };
+                true
+            }
+            Saved::Nothing | Saved::Wrote { .. } | Saved::Queued { .. } => false,
+        }
+    }
+
+    // Takes the last change out.
+    pub(crate) fn pop<S, M, U>(&mut self) -> Option<Compact<S, M, U>>
+        ensures items { saved_changes {State = S} {Msg = M} {Undo = U} self.old
+            ≡ saved_changes {State = S} {Msg = M} {Undo = U} self.new ++ option_to_list result }
+        ensures none { IfNone result (saved_changes {State = S} {Msg = M} {Undo = U} self.old ≡ []) }
+    {
+        match *self {
+            Saved::Nothing | Saved::Wrote { writes: 0, .. } => None,
+            Saved::Wrote { host, writes } => {
+                *self = Saved::Wrote {
+                    host,
+                    writes: writes - 1,
+                };
+                Some(Compact::Stored(host, LightUndo::Added.whole()))
+            }
+            Saved::Asked { host, writes, was } => {
+                *self = Saved::Wrote { host, writes };
+                Some(Compact::Stored(host, LightUndo::Asked(was).whole()))
+            }
+            Saved::Queued { host, writes, was } => {
+                *self = Saved::Asked { host, writes, was };
+                Some(Compact::Queued)
+            }
+        }
+    }
+}
