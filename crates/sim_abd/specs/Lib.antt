@@ -1,2 +1,3 @@
 pub mod Abd
+pub mod AbdNumbers
 pub mod AbdRecords

@@ -1,6 +1,7 @@
-ghost use Rattle.std.specs.Prelude.{◌≡◌, ◌+◌, ◌<◌, []};
+ghost use Rattle.std.specs.Prelude.{◌≡◌, ◌<◌, ◌^◌, IsTrue, []};
 ghost use Rattle.sim_node.specs.Node.{IsSetup, IsFrom};
 ghost use Rattle.sim_hosts.specs.Reactions.{asked_for};
+ghost use Rattle.sim_abd.specs.AbdNumbers.{IsCounted};
 ghost use Rattle.sim_abd.specs.Abd.{untagged, is_greater, client_at_boot, is_write, is_majority, ask_of, store_of, begun, stores, has_told, finished, has_kept, asks_again, is_told, is_kept, react_client};
 
 use crate::{AbdMsg, Client, Phase, Tagged};
@@ -31,7 +32,7 @@ impl Tagged {
 }
 
 /// Whether the operation of this number is a write.
-fn is_write(i: u64) -> bool
+fn is_write(i: u32) -> bool
     ensures { result ≡ is_write i }
 {
     i % 2 == 1
@@ -59,26 +60,29 @@ impl Client {
 
     /// What it asks the servers.
     fn ask(&self) -> AbdMsg
+        requires { self.now.next < 2 ^ 16 }
         ensures { result ≡ ask_of self.now }
     {
-        AbdMsg::Ask(self.next.saturating_mul(2))
+        AbdMsg::Ask(2 * self.next)
     }
 
     /// What it asks the servers to keep.
     fn store(&self) -> AbdMsg
+        requires { self.now.next < 2 ^ 16 }
         ensures { result ≡ store_of self.now }
     {
-        AbdMsg::Store(self.next.saturating_mul(2).saturating_add(1), self.best)
+        AbdMsg::Store(2 * self.next + 1, self.best)
     }
 
     /// Begins an operation.
-    fn begin(&mut self, i: u64, setup: &Setup, effects: &mut Effects<AbdMsg>)
+    fn begin(&mut self, i: u16, setup: &Setup, effects: &mut Effects<AbdMsg>)
         requires setup { IsSetup setup.now }
         requires empty { effects.old ≡ asked_for setup.now [] }
         ensures state { self.new ≡ (begun i setup.now self.old).0 }
+        ensures counted { IsCounted self.new.phase self.new.next }
         ensures effects { effects.new ≡ asked_for setup.now (begun i setup.now self.old).1 }
     {
-        self.next = i;
+        self.next = i as u32;
         self.phase = Phase::Asking;
         self.answers = HostSet::nobody();
         self.best = Tagged::untagged();
@@ -89,8 +93,10 @@ impl Client {
     /// A majority has told: it asks the servers to keep the best, or in a write what it writes.
     fn begin_to_store(&mut self, me: u16, setup: &Setup, effects: &mut Effects<AbdMsg>)
         requires setup { IsSetup setup.now }
+        requires counted { self.old.next < 2 ^ 16 }
         requires empty { effects.old ≡ asked_for setup.now [] }
         ensures state { self.new ≡ (stores me setup.now self.old).0 }
+        ensures counted { IsCounted self.new.phase self.new.next }
         ensures effects { effects.new ≡ asked_for setup.now (stores me setup.now self.old).1 }
     {
         self.phase = Phase::Storing;
@@ -99,7 +105,9 @@ impl Client {
             self.best = Tagged {
                 number: self.best.number.saturating_add(1),
                 writer: me as u64,
-                val: (me as u64).saturating_mul(1000).saturating_add(self.next),
+                val: (me as u64)
+                    .saturating_mul(1000)
+                    .saturating_add(self.next as u64),
             };
         }
         send_to_all(0, setup, self.store(), effects);
@@ -117,8 +125,10 @@ impl Client {
     )
         requires setup { IsSetup setup.now }
         requires from { from < setup.now.hosts }
+        requires counted { self.old.next < 2 ^ 16 }
         requires empty { effects.old ≡ asked_for setup.now [] }
         ensures state { self.new ≡ (has_told from told.now me setup.now self.old).0 }
+        ensures counted { IsCounted self.new.phase self.new.next }
         ensures effects { effects.new ≡ asked_for setup.now (has_told from told.now me setup.now self.old).1 }
     {
         self.answers = self.answers.joined(from);
@@ -131,31 +141,35 @@ impl Client {
     }
 
     /// A majority has stored: the operation is over.
-    fn finish(&mut self, ops: u64, setup: &Setup, effects: &mut Effects<AbdMsg>)
+    fn finish(&mut self, ops: u16, setup: &Setup, effects: &mut Effects<AbdMsg>)
         requires setup { IsSetup setup.now }
+        requires counted { self.old.next < 2 ^ 16 }
         requires empty { effects.old ≡ asked_for setup.now [] }
         ensures state { self.new ≡ (finished ops setup.now self.old).0 }
+        ensures counted { IsCounted self.new.phase self.new.next }
         ensures effects { effects.new ≡ asked_for setup.now (finished ops setup.now self.old).1 }
     {
         if !is_write(self.next) {
             self.last_read = self.best.val;
         }
-        let next = self.next.saturating_add(1);
-        if next > ops {
+        let next = self.next + 1;
+        if next > ops as u32 {
             self.next = next;
             self.phase = Phase::Resting;
             effects.done();
         } else {
-            self.begin(next, setup, effects);
+            self.begin(next as u16, setup, effects);
         }
     }
 
     /// A server has kept what it was asked to.
-    fn has_kept(&mut self, from: u16, ops: u64, setup: &Setup, effects: &mut Effects<AbdMsg>)
+    fn has_kept(&mut self, from: u16, ops: u16, setup: &Setup, effects: &mut Effects<AbdMsg>)
         requires setup { IsSetup setup.now }
         requires from { from < setup.now.hosts }
+        requires counted { self.old.next < 2 ^ 16 }
         requires empty { effects.old ≡ asked_for setup.now [] }
         ensures state { self.new ≡ (has_kept from ops setup.now self.old).0 }
+        ensures counted { IsCounted self.new.phase self.new.next }
         ensures effects { effects.new ≡ asked_for setup.now (has_kept from ops setup.now self.old).1 }
     {
         self.answers = self.answers.joined(from);
@@ -167,6 +181,7 @@ impl Client {
     /// Sends again to the servers that have not answered.
     fn ask_again(&self, setup: &Setup, effects: &mut Effects<AbdMsg>)
         requires setup { IsSetup setup.now }
+        requires counted { IsCounted self.now.phase self.now.next }
         requires empty { effects.old ≡ asked_for setup.now [] }
         ensures { effects.new ≡ asked_for setup.now (asks_again self.now.phase setup.now self.now).1 }
     {
@@ -184,31 +199,33 @@ impl Client {
     }
 
     /// Whether it waits for this answer of a server that tells what it keeps.
-    fn waits_for_told(&self, from: u16, r: u64) -> bool
-        requires { from < 32 }
-        ensures { result ≡ is_told from r self.now.phase self.now }
+    fn waits_for_told(&self, from: u16, r: u32) -> bool
+        requires from { from < 32 }
+        requires counted { IsCounted self.now.phase self.now.next }
+        ensures answer { result ≡ is_told from r self.now.phase self.now }
+        ensures counted { IsTrue result → self.now.next < 2 ^ 16 }
     {
         match self.phase {
-            Phase::Asking => r as u128 == 2 * self.next as u128 && !self.answers.contains(from),
+            Phase::Asking => r == 2 * self.next && !self.answers.contains(from),
             _ => false,
         }
     }
 
     /// Whether it waits for this answer of a server that has kept what it was asked to.
-    fn waits_for_kept(&self, from: u16, r: u64) -> bool
-        requires { from < 32 }
-        ensures { result ≡ is_kept from r self.now.phase self.now }
+    fn waits_for_kept(&self, from: u16, r: u32) -> bool
+        requires from { from < 32 }
+        requires counted { IsCounted self.now.phase self.now.next }
+        ensures answer { result ≡ is_kept from r self.now.phase self.now }
+        ensures counted { IsTrue result → self.now.next < 2 ^ 16 }
     {
         match self.phase {
-            Phase::Storing => {
-                r as u128 == 2 * self.next as u128 + 1 && !self.answers.contains(from)
-            }
+            Phase::Storing => r == 2 * self.next + 1 && !self.answers.contains(from),
             _ => false,
         }
     }
 
     /// It reacts to an input.
-    pub fn react(
+    pub(crate) fn react(
         &mut self,
         setup: &Setup,
         me: u16,
@@ -217,9 +234,11 @@ impl Client {
     )
         requires setup { IsSetup setup.now }
         requires me { me < setup.now.hosts }
+        requires counted { IsCounted self.old.phase self.old.next }
         requires sender { IsFrom setup.now.hosts input.now }
         requires empty { effects.old ≡ asked_for setup.now [] }
         ensures state { self.new ≡ (react_client setup.now me self.old input.now).0 }
+        ensures counted { IsCounted self.new.phase self.new.next }
         ensures effects { effects.new ≡ asked_for setup.now (react_client setup.now me self.old input.now).1 }
     {
         match input {
@@ -235,7 +254,7 @@ impl Client {
                 sender,
                 msg: AbdMsg::Kept(r),
             } if self.waits_for_kept(*sender, *r) => {
-                let ops = setup.ops[me as usize] as u64;
+                let ops = setup.ops[me as usize];
                 self.has_kept(*sender, ops, setup, effects)
             }
             _ => {}

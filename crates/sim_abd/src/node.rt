@@ -1,4 +1,4 @@
-use crate::{AbdMsg, Client, Role, Server, State};
+use crate::{AbdMsg, CountedClient, Role, Server, State};
 use sim_node::{Effects, Input, Meter, NoMemory, Node, Setup};
 use std::alloc::Global;
 use std::marker::{Model, PhantomData};
@@ -54,7 +54,7 @@ impl<T: Meter> Node for AbdRegister<T> {
         let role = if me < setup.servers {
             Role::Server(Server::at_boot(disk))
         } else {
-            Role::Client(Client::at_boot())
+            Role::Client(CountedClient::at_boot())
         };
         Ok(AbdRegister {
             state: State {
@@ -101,8 +101,8 @@ impl<T: Meter> Node for AbdRegister<T> {
 
     fn probe(&self, k: u8) -> u64 {
         match (&self.state.role, k) {
-            (Role::Client(client), 0) => client.next,
-            (Role::Client(client), 2) => client.last_read,
+            (Role::Client(client), 0) => client.get().next as u64,
+            (Role::Client(client), 2) => client.get().last_read,
             (Role::Server(server), 1) => server.kept.number,
             (Role::Server(server), 2) => server.kept.val,
             _ => 0,

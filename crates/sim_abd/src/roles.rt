@@ -1,3 +1,4 @@
+use crate::CountedClient;
 use sim_hosts::HostSet;
 use sim_node::Setup;
 
@@ -9,17 +10,18 @@ pub struct Tagged {
     pub val: u64,
 }
 
-/// A message. A request of a client has an even number where it asks, an odd one where it stores.
+/// A message. A request of a client has an even number where it asks, an odd one where it stores. It stands first, beside
+/// the tag, to save bytes.
 #[derive(Clone, Copy, Debug, PartialEq, Eq)]
 pub enum AbdMsg {
     /// A client asks what a server keeps.
-    Ask(u64),
+    Ask(u32),
     /// A server tells what it keeps.
-    Tell(u64, Tagged),
+    Tell(u32, Tagged),
     /// A client asks a server to keep this.
-    Store(u64, Tagged),
+    Store(u32, Tagged),
     /// A server keeps this or a greater one, and it is stable.
-    Kept(u64),
+    Kept(u32),
 }
 
 /// What a client does.
@@ -34,7 +36,7 @@ pub enum Phase {
 #[derive(Clone, Copy, Debug, PartialEq, Eq)]
 pub struct Client {
     /// The operation that is under way, counted from 1.
-    pub next: u64,
+    pub next: u32,
     pub phase: Phase,
     /// Who has answered in this phase.
     pub answers: HostSet,
@@ -47,7 +49,7 @@ pub struct Client {
 #[derive(Clone, Copy, Debug, PartialEq, Eq)]
 pub struct Owed {
     pub host: u16,
-    pub request: u64,
+    pub request: u32,
 }
 
 /// A server.
@@ -62,7 +64,7 @@ pub struct Server {
 /// What a host is.
 #[derive(Clone, Copy, Debug, PartialEq, Eq)]
 pub enum Role {
-    Client(Client),
+    Client(CountedClient),
     Server(Server),
 }
 

@@ -56,7 +56,7 @@ impl Server {
     fn store(
         &mut self,
         from: u16,
-        r: u64,
+        r: u32,
         new: &Tagged,
         setup: &Setup,
         effects: &mut Effects<AbdMsg>,
