@@ -9,7 +9,7 @@ use std::test::Fail;
 #[derive(Clone, Copy)]
 enum Act {
     Write(u32, &'static [u8]),
-    // A write, for which a sync asks with so many writes twice; all three are taken back.
+    // A write, for which a sync asks with so many writes twice; all three are taken back, the first sync by its light record.
     WriteAndBack(u32, &'static [u8], u32),
     // It would end past the disk.
     OutOfDisk(u32, &'static [u8]),
@@ -56,7 +56,10 @@ fn write_and_back(
         return false;
     };
     let (first, asked) = disk.ask();
-    disk.undo(asked, spare);
+    let Some(light) = asked.light() else {
+        return false;
+    };
+    disk.undo(light.whole(), spare);
     let (second, asked) = disk.ask();
     disk.undo(asked, spare);
     disk.undo(added, spare);
