@@ -1,5 +1,5 @@
 -- The records of changes that keep nothing of the disk.
-use Rattle.std.specs.Prelude.{ℕ, Option, None, Some}
+use Rattle.std.specs.Prelude.{Option, None, Some}
 use Rattle.sim_disk.specs.Disk.{DiskUndo}
 use Rattle.sim_disk.specs.declared.LightUndo.{LightUndo}
 use Rattle.sim_disk.specs.declared.LightUndo.TheVariants as light_undo
