@@ -1,4 +1,4 @@
--- What an event did with the disk of a host before anything else of the unusual.
+-- What the node of a host did with its disk after its messages were sent.
 use Rattle.std.specs.Prelude.{ℕ, List, [], ◌∷◌, ◌++◌, replicate}
 use Rattle.sim_disk.specs.Disk as disk
 use Rattle.sim_world.specs.declared.kept.Compact.{Compact}

@@ -11,7 +11,7 @@ use std::alloc::Global;
 use std::marker::Model;
 use std::mem;
 
-/// What comes first among the changes.
+/// What comes before the changes of the list.
 #[derive(Clone, Copy, Drop)]
 enum First {
     /// What stands in the list, if anything does.
@@ -24,7 +24,7 @@ enum First {
     Reset { host: u16, due: u64, serial: u64 },
 }
 
-/// Changes in order. Those by which the timer of a host is set take no memory where they come first.
+/// Changes in order: what was done with the disk of a host, then the setting of a timer, then any others. Only the others take memory.
 #[derive(Drop)]
 pub(crate) struct Further<S, M, U> {
     saved: Saved,

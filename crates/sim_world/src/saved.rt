@@ -1,4 +1,4 @@
-//! What an event did with the disk of a host before anything else of the unusual.
+//! What the node of a host did with its disk after its messages were sent.
 ghost use Rattle.std.specs.Prelude.{◌≡◌, [], ◌∷◌, ◌++◌, option_to_list, IfNone};
 ghost use Rattle.std.specs.Bool.{OnTrue, OnFalse};
 ghost use Rattle.sim_disk.specs.Light.{whole};
