@@ -3,10 +3,12 @@
 
 mod direction;
 mod links;
+mod packed;
 mod table;
 mod ways;
 
 pub use links::Links;
+pub use packed::PackedLinks;
 pub use std::alloc::AllocError as NoMemory;
 pub use ways::Ways;
 

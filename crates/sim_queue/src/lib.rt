@@ -7,6 +7,7 @@ mod agenda;
 mod link;
 mod lists;
 mod marks;
+mod packed;
 mod slots;
 mod spot;
 mod store;
@@ -19,6 +20,7 @@ ghost use Rattle.std.specs.Option.{option_map};
 ghost use Rattle.sim_queue.specs.Items.{item_of};
 ghost use Rattle.sim_queue.specs.Pending.{none_pending, IsPending, HasNewest, IsQueue, first, insert, take, put_back, uninsert, newest, with_serial};
 
+pub use packed::PackedQueue;
 pub use std::alloc::AllocError as NoMemory;
 use std::alloc::Global;
 use std::marker::Model;
@@ -175,5 +177,22 @@ impl<B> Queue<B> {
         Ok(Queue {
             store: self.store.copy(alloc, &each)?,
         })
+    }
+
+    /// An equal queue that is kept for later, whose bodies are those that `each` answers.
+    ///
+    /// `each` has to answer an equal body or `NoMemory`. After `NoMemory` the bodies copied so far are dropped.
+    pub fn pack<F: Fn(&B) -> Result<B, NoMemory>>(
+        &self,
+        alloc: Global,
+        each: F,
+    ) -> Result<PackedQueue<B>, NoMemory>
+    where
+        B: Drop,
+        requires callable { F.IsAlwaysCallable each }
+        requires equal { (x : B) (r : _) → FnReturnsAt F.Fn each x r → IfOk r (λ y. y ≡ x) }
+        ensures { IfOk result (λ p. p ≡ self.now) }
+    {
+        self.store.pack(alloc, &each)
     }
 }

@@ -9,6 +9,7 @@ ghost use Rattle.sim_queue.specs.Slots.{is_live};
 ghost use Rattle.sim_queue.specs.Store.{pending_in, IsCovered, IsKeyed};
 
 use crate::agenda::Agenda;
+use crate::packed::PackedQueue;
 use crate::slots::Slots;
 use crate::{Item, NoMemory};
 use std::alloc::Global;
@@ -181,8 +182,25 @@ impl<B> Store<B> {
         })
     }
 
-    // The items in these slots, whose keys are made anew.
-    fn of(alloc: Global, slots: Slots<B>) -> Result<Store<B>, NoMemory>
+    /// Equal pending items without their keys, each body as `each` copies it.
+    pub(crate) fn pack<F: Fn(&B) -> Result<B, NoMemory>>(
+        &self,
+        alloc: Global,
+        each: &F,
+    ) -> Result<PackedQueue<B>, NoMemory>
+    where
+        B: Drop,
+        requires keyed { IsKeyed self.now }
+        requires callable { F.IsAlwaysCallable each.now }
+        requires equal { (x : B) (r : _) → FnReturnsAt F.Fn each.now x r → IfOk r (λ y. y ≡ x) }
+        ensures { IfOk result (λ p. p ≡ pending_in self.now) }
+    {
+        let slots = self.slots.copy(alloc, each)?;
+        Ok(PackedQueue::of(slots))
+    }
+
+    /// The items in these slots, whose keys are made anew.
+    pub(crate) fn of(alloc: Global, slots: Slots<B>) -> Result<Store<B>, NoMemory>
     where
         B: Drop,
         requires { slots.base + length slots.items ≤ 2 ^ 40 }
