@@ -19,6 +19,7 @@ pub mod Indexes
 pub mod Looking
 pub mod LostIndex
 pub mod Others
+pub mod Packing
 pub mod Places
 pub mod Plain
 pub mod Purges

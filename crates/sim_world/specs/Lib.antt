@@ -5,6 +5,7 @@ pub mod Acts
 pub mod Clock
 pub mod Memory
 pub mod Looks
+pub mod Packed
 pub mod Records
 pub mod Sound
 pub mod Held

@@ -15,6 +15,8 @@ mod index;
 mod kept;
 mod look;
 mod occurrence;
+mod packed;
+mod packed_hosts;
 mod parts;
 mod record;
 mod saved;
@@ -26,6 +28,7 @@ mod trail;
 mod undo;
 mod world;
 
+pub use packed::PackedWorld;
 pub use record::Undo;
 pub use scenario::{BadLimits, Scenario};
 use sim_links::LinkState;

@@ -1,0 +1,69 @@
+-- Worlds that are kept for later, and their hosts without disks.
+use Rattle.std.specs.Prelude.{◌≡◌, ℕ, zero, suc, ◌+◌, ◌<◌, ◌≤◌, List, [], ◌∷◌, ◌++◌, length, map, take, Option, Some, refl}
+use Rattle.std.specs.List.{slice_get}
+use Rattle.std.proofs.Common.{sym, ap, subst, ◌∙◌, arith}
+use Rattle.std.proofs.lemmas.Option.{slice_get_within}
+use Rattle.std.proofs.lemmas.List.{map-append, length-map, length-take-le}
+use Rattle.sim_disk.specs.Disk.{Disk}
+use Rattle.sim_world.specs.declared.host.Host.{Host}
+use Rattle.sim_world.specs.declared.packed_hosts.KeptHost.{KeptHost}
+use Rattle.sim_node.specs.declared.Setup.{Setup}
+use Rattle.sim_world.specs.Index.{InHand}
+use Rattle.sim_world.specs.Held.{Held, IsHeld, in_hand}
+use Rattle.sim_world.specs.Packed.{hosts_in, IsPacked}
+use Rattle.sim_world.proofs.Copying.{index-of-same}
+
+-- the host of a kept one and a disk
+abbrev pub with_disk : {State : Type 0} → KeptHost State → Disk → Host State
+with_disk k d = record { node = k.node; disk = d; done = k.done }
+
+-- one more
+pub hosts-more : {State : Type 0} (kept : List (KeptHost State)) (disks : List Disk) (k : KeptHost State) (d : Disk)
+    → length disks ≡ length kept → hosts_in (kept ++ k ∷ []) (disks ++ d ∷ []) ≡ hosts_in kept disks ++ with_disk k d ∷ []
+hosts-more [] [] k d e = refl
+hosts-more [] (x ∷ disks) k d e = absurd (omega arith)
+hosts-more (x ∷ kept) [] k d e = absurd (omega arith)
+hosts-more (x ∷ kept) (y ∷ disks) k d e = ap (λ hosts. with_disk x y ∷ hosts) (hosts-more kept disks k d (omega arith))
+
+-- the one at a place
+pub hosts-at : {State : Type 0} (kept : List (KeptHost State)) (disks : List Disk) (i : ℕ) (k : KeptHost State) (d : Disk)
+    → slice_get kept i ≡ Some k → slice_get disks i ≡ Some d → slice_get (hosts_in kept disks) i ≡ Some (with_disk k d)
+hosts-at (x ∷ kept) (y ∷ disks) zero k d e f =
+    let kept_is : x ≡ k = cc e in
+    let disk_is : y ≡ d = cc f in
+    ap (λ z. Some (with_disk z y)) kept_is ∙ ap (λ z. Some (with_disk k z)) disk_is
+hosts-at (x ∷ kept) (y ∷ disks) (suc i) k d e f = hosts-at kept disks i k d e f
+hosts-at {State} [] disks i k d e f = let within : i < 0 = slice_get_within {A = KeptHost State} [] i k e in absurd (omega arith)
+hosts-at (x ∷ kept) [] i k d e f = let within : i < 0 = slice_get_within {A = Disk} [] i d f in absurd (omega arith)
+
+-- how many there are
+pub hosts-count : {State : Type 0} (kept : List (KeptHost State)) (disks : List Disk) → length disks ≡ length kept
+    → length (hosts_in kept disks) ≡ length kept
+hosts-count [] disks e = refl
+hosts-count (x ∷ kept) [] e = absurd (omega arith)
+hosts-count (x ∷ kept) (y ∷ disks) e = ap suc (hosts-count kept disks (omega arith))
+
+-- a host is kept without its disk, behind those before it
+pub kept-more : {State : Type 0} (hosts : List (Host State)) (i : ℕ) (host : Host State) (kept : List (KeptHost State)) (k : KeptHost State)
+    → hosts_in kept (map (λ h. h.disk) (take i hosts)) ≡ take i hosts → length kept ≡ i → i ≤ length hosts
+    → take (i + 1) hosts ≡ take i hosts ++ host ∷ [] → with_disk k host.disk ≡ host
+    → hosts_in (kept ++ k ∷ []) (map (λ h. h.disk) (take (i + 1) hosts)) ≡ take (i + 1) hosts
+kept-more {State} hosts i host kept k so_far count within more same =
+    let disk : Host State → Disk = λ h. h.disk in
+    let disks : map disk (take (i + 1) hosts) ≡ map disk (take i hosts) ++ host.disk ∷ [] = ap (map disk) more ∙ map-append disk (take i hosts) (host ∷ []) in
+    let as_many : length (map disk (take i hosts)) ≡ length kept = length-map (take i hosts) disk ∙ (length-take-le i hosts within ∙ sym count) in
+    ap (hosts_in (kept ++ k ∷ [])) disks
+    ∙ (hosts-more kept (map disk (take i hosts)) k host.disk as_many
+    ∙ (ap (λ hs. hs ++ with_disk k host.disk ∷ []) so_far
+    ∙ (ap (λ h. take i hosts ++ h ∷ []) same ∙ sym more)))
+
+-- what is kept of a world in hand is that of a world of a run
+pub packed-same : {State Msg : Type 0} (told : State → Setup) (k : Held State Msg) (key : List ℕ) (flying waiting : ℕ) (serials : List (Option ℕ))
+    (kept : InHand State Msg) → IsHeld told k → kept ≡ in_hand k → key ≡ k.parts.seed → flying ≡ k.index.in_flight → waiting ≡ k.index.held
+    → serials ≡ k.index.timers.items → IsPacked told key flying waiting serials kept
+packed-same told k key flying waiting serials kept is same words fly held timers =
+    subst (λ x. IsPacked told key flying waiting serials x) (sym same) (record {
+      sound = is.sound;
+      index = index-of-same k.index flying waiting serials k.parts.world is.index fly held timers;
+      seed = words ∙ is.seed;
+    })

@@ -1,0 +1,14 @@
+use Rattle.std.proofs.Common.{rules, ◌≡◌, ◌∙◌, ◌+◌, ◌<◌, ◌++◌, ◌∷◌, [], ap, sym, length, take, arith}
+use Rattle.std.proofs.lemmas.List.{take_more, map-append}
+use Rattle.sim_world.specs.Packed.{timers_in}
+use Rattle.sim_world.proofs.packed_hosts.PackedHosts.timers.Goals as goal
+
+pub loop-kept-preserved : goal.loop-kept-preserved
+loop-kept-preserved g c =
+    let kept = c.deref-kept-items.result.now in
+    let i = c.loop-kept.kept-index in
+    let k = c.kept-item.result in
+    let inside : i < length kept = omega arith in
+    let more : take (i + 1) kept ≡ take i kept ++ k ∷ [] = cc (c.kept-item.is, take_more kept i k inside) in
+    c.in_ok-push.ensures.items
+    ∙ (ap (λ ts. ts ++ k.timer ∷ []) c.loop-kept.invariant ∙ sym (ap timers_in more ∙ map-append (λ x. x.timer) (take i kept) (k ∷ [])))

@@ -1,0 +1,153 @@
+//! Worlds that are kept for later.
+ghost use Rattle.std.specs.Prelude.{◌≡◌, IfOk, OnOk};
+ghost use Rattle.sim_world.specs.Acts.{running, copied_by};
+ghost use Rattle.sim_world.specs.Held.{IsHeld, in_hand};
+ghost use Rattle.sim_world.specs.Index.{IsIndex};
+
+use crate::NoMemory;
+use crate::cluster::Cluster;
+use crate::copy::copied_occurrence;
+use crate::index::Index;
+use crate::occurrence::Occurrence;
+use crate::packed_hosts::PackedHosts;
+use crate::parts::Parts;
+use crate::scenario::Scenario;
+use crate::world::World;
+use sim_disk::SpareDisks;
+use sim_links::PackedLinks;
+use sim_node::{Effects, Node};
+use sim_queue::PackedQueue;
+use sim_streams::Streams;
+use std::alloc::Global;
+use std::marker::Model;
+use std::sync::Arc;
+
+/// A world that is kept for later, in less memory. Contracts see the world, its scenario and its age.
+#[derive(Drop)]
+pub struct PackedWorld<N: Node> {
+    clock: u64,
+    streams: Streams,
+    queue: PackedQueue<Occurrence<N::Msg>>,
+    links: PackedLinks<N::Msg>,
+    hosts: PackedHosts<N>,
+    in_flight: u32,
+    held: u32,
+    scenario: Arc<Scenario>,
+    age: u32,
+}
+
+impl<N: Node> Model for PackedWorld<N> {
+    ghost use Rattle.sim_world.specs.Index.{InHand};
+    ghost use Rattle.sim_world.specs.Packed.{IsPacked};
+
+    ghost Value = { InHand N N.Msg };
+
+    ghost view = { λ p. record {
+      world = record { clock = p.clock; places = p.streams.places; queue = p.queue; links = p.links; hosts = p.hosts.hosts };
+      scenario = p.scenario.value;
+      age = p.age;
+    } };
+
+    ghost invariant = { λ p. IsPacked N.told p.streams.seed p.in_flight p.held p.hosts.timers (record {
+      world = record { clock = p.clock; places = p.streams.places; queue = p.queue; links = p.links; hosts = p.hosts.hosts };
+      scenario = p.scenario.value;
+      age = p.age;
+    }) };
+}
+
+impl<N: Node> Cluster<N> {
+    // An equal world that is kept for later. The nodes of the hosts that run are copied.
+    fn pack(&self, alloc: Global, meter: &mut N::Meter) -> Result<PackedWorld<N>, NoMemory>
+        requires { IsHeld N.told self.now }
+        ensures same { IfOk result (λ packed. packed ≡ in_hand self.now) }
+        ensures work { OnOk result (N.Meter.work meter.new ≡ copied_by (running self.now.parts.world) (N.Meter.work meter.old)) }
+    {
+        let parts = &self.parts;
+        let queue = parts.queue.pack(
+            alloc,
+            |occurrence| copied_occurrence::<N>(alloc, occurrence),
+        )?;
+        let links = parts.links.pack(alloc, |msg| N::copy_msg(alloc, msg))?;
+        let timers = self.index.timers.as_slice();
+        let hosts = PackedHosts::pack(alloc, parts.hosts.as_slice(), timers, meter)?;
+        let scenario = Arc::try_clone(&self.scenario)?;
+        Ok(PackedWorld {
+            clock: parts.clock,
+            streams: parts.streams.copy(),
+            queue,
+            links,
+            hosts,
+            in_flight: self.index.in_flight,
+            held: self.index.held,
+            scenario,
+            age: self.age,
+        })
+    }
+}
+
+impl<N: Node> World<N> {
+    /// An equal world that is kept for later. The node of each host that runs is copied, and none is turned or taken back. The
+    /// scenario is shared. The only error is want of memory.
+    pub fn pack(&self, alloc: Global, meter: &mut N::Meter) -> Result<PackedWorld<N>, NoMemory>
+        ensures same { IfOk result (λ packed. packed ≡ self.now) }
+        ensures work { OnOk result (N.Meter.work meter.new ≡ copied_by (running self.now.world) (N.Meter.work meter.old)) }
+    {
+        self.cluster.pack(alloc, meter)
+    }
+}
+
+impl<N: Node> PackedWorld<N> {
+    // The parts of an equal world. The nodes of the hosts that run are copied.
+    fn parts(&self, alloc: Global, meter: &mut N::Meter) -> Result<Parts<N>, NoMemory>
+        ensures seed { IfOk result (λ parts. parts.seed ≡ self.now.scenario.seed) }
+        ensures world { IfOk result (λ parts. parts.world ≡ self.now.world) }
+        ensures work { OnOk result (N.Meter.work meter.new ≡ copied_by (running self.now.world) (N.Meter.work meter.old)) }
+    {
+        let streams = Box::new(alloc, self.streams.copy())?;
+        let queue = self.queue.open(
+            alloc,
+            |occurrence| copied_occurrence::<N>(alloc, occurrence),
+        )?;
+        let links = self.links.open(alloc, |msg| N::copy_msg(alloc, msg))?;
+        let hosts = self.hosts.hosts(alloc, meter)?;
+        Ok(Parts {
+            clock: self.clock,
+            streams,
+            queue,
+            links,
+            hosts,
+            spare_disks: SpareDisks::new(alloc),
+        })
+    }
+
+    // What stands beside the world.
+    fn index(&self, alloc: Global) -> Result<Index, NoMemory>
+        ensures { IfOk result (λ index. IsIndex index self.now.world) }
+    {
+        Ok(Index {
+            in_flight: self.in_flight,
+            held: self.held,
+            timers: self.hosts.timers(alloc)?,
+        })
+    }
+
+    /// An equal world. The node of each host that runs is copied, and none is turned or taken back. The scenario is shared. The
+    /// only error is want of memory.
+    pub fn open(&self, alloc: Global, meter: &mut N::Meter) -> Result<World<N>, NoMemory>
+        ensures same { IfOk result (λ world. world ≡ self.now) }
+        ensures work { OnOk result (N.Meter.work meter.new ≡ copied_by (running self.now.world) (N.Meter.work meter.old)) }
+    {
+        let setup = self.scenario.setup();
+        let parts = self.parts(alloc, meter)?;
+        let cluster = Cluster {
+            parts,
+            index: self.index(alloc)?,
+            effects: Effects::new(alloc, &setup)?,
+            scenario: Arc::try_clone(&self.scenario)?,
+            age: self.age,
+            spare: Vec::new(alloc),
+        };
+        let cluster = Box::new(alloc, cluster)?;
+        Ok(World { cluster })
+    }
+}

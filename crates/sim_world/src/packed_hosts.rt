@@ -1,0 +1,164 @@
+//! Hosts that are kept for later.
+ghost use Rattle.std.specs.Prelude.{◌≡◌, ◌<◌, length, map, slice_get, Some, is_some, IfOk, OnOk, if◌then◌else◌};
+ghost use Rattle.std.specs.List.{count_by};
+ghost use Rattle.sim_node.specs.Work.{copied};
+ghost use Rattle.sim_world.specs.Acts.{copied_by};
+ghost use Rattle.sim_world.specs.Packed.{hosts_in, timers_in};
+
+use crate::NoMemory;
+use crate::host::Host;
+use sim_disk::PackedDisks;
+use sim_node::Node;
+use std::alloc::Global;
+use std::marker::Model;
+
+/// A host without its disk, and the serial of its pending timer.
+#[derive(Drop)]
+pub struct KeptHost<S> {
+    pub node: Option<S>,
+    pub done: bool,
+    pub timer: Option<u64>,
+}
+
+/// Hosts with their disks in one place, and the serials of their pending timers.
+#[derive(Drop)]
+pub(crate) struct PackedHosts<S> {
+    kept: Vec<KeptHost<S>>,
+    disks: PackedDisks,
+}
+
+impl<S> Model for PackedHosts<S> {
+    ghost use Rattle.std.specs.Prelude.{◌≡◌, length};
+    ghost use Rattle.sim_world.specs.Packed.{HostsInHand, hosts_in, timers_in};
+
+    ghost Value = { HostsInHand S };
+
+    ghost view = { λ p. record { hosts = hosts_in p.kept.items p.disks; timers = timers_in p.kept.items } };
+
+    ghost invariant = { λ p. length p.disks ≡ length p.kept.items };
+}
+
+// How many stable bytes and how many writes the disks of hosts have together. It is told to make room alone.
+fn room_of<S>(hosts: &[Host<S>]) -> (usize, usize) {
+    let mut bytes: usize = 0;
+    let mut writes: usize = 0;
+    for host in hosts {
+        bytes = bytes.saturating_add(host.disk.stable().len());
+        writes = writes.saturating_add(host.disk.unsynced() as usize);
+    }
+    (bytes, writes)
+}
+
+// An equal node, where there is one.
+fn copied_node<N: Node>(
+    alloc: Global,
+    node: &Option<N>,
+    meter: &mut N::Meter,
+) -> Result<Option<N>, NoMemory>
+    ensures node { IfOk result (λ copy. copy ≡ node.now) }
+    ensures work { OnOk result (N.Meter.work meter.new ≡ (if is_some node.now then copied (N.Meter.work meter.old) else N.Meter.work meter.old)) }
+{
+    match node {
+        None => Ok(None),
+        Some(node) => Ok(Some(node.copy(alloc, meter)?)),
+    }
+}
+
+// The disks of hosts.
+fn packed_disks<S>(alloc: Global, hosts: &[Host<S>]) -> Result<PackedDisks, NoMemory>
+    ensures { IfOk result (λ disks. disks ≡ map (λ host. host.disk) hosts.now) }
+{
+    let (bytes, writes) = room_of(hosts);
+    let mut disks = PackedDisks::with_room(alloc, hosts.len(), bytes, writes)?;
+    for host in hosts {
+        disks.push(alloc, &host.disk)?;
+    }
+    Ok(disks)
+}
+
+// Hosts without their disks, whose pending timers have these serials. The nodes of those that run are copied.
+fn kept_hosts<N: Node>(
+    alloc: Global,
+    hosts: &[Host<N>],
+    timers: &[Option<u64>],
+    meter: &mut N::Meter,
+) -> Result<Vec<KeptHost<N>>, NoMemory>
+    requires { length timers.now ≡ length hosts.now }
+    ensures hosts { IfOk result (λ kept. hosts_in kept.items (map (λ host. host.disk) hosts.now) ≡ hosts.now) }
+    ensures timers { IfOk result (λ kept. timers_in kept.items ≡ timers.now) }
+    ensures count { IfOk result (λ kept. length kept.items ≡ length hosts.now) }
+    ensures work { OnOk result (N.Meter.work meter.new ≡ copied_by (count_by (λ host. is_some host.node) hosts.now) (N.Meter.work meter.old)) }
+{
+    let mut kept = Vec::with_capacity(alloc, hosts.len())?;
+    for i in 0..hosts.len() {
+        let host = &hosts[i];
+        let node = copied_node(alloc, &host.node, meter)?;
+        kept.push(KeptHost {
+            node,
+            done: host.done,
+            timer: timers[i],
+        })?;
+    }
+    Ok(kept)
+}
+
+impl<N: Node> PackedHosts<N> {
+    /// Equal hosts, whose pending timers have these serials. The nodes of those that run are copied.
+    pub(crate) fn pack(
+        alloc: Global,
+        hosts: &[Host<N>],
+        timers: &[Option<u64>],
+        meter: &mut N::Meter,
+    ) -> Result<PackedHosts<N>, NoMemory>
+        requires { length timers.now ≡ length hosts.now }
+        ensures hosts { IfOk result (λ p. p ≡ record { hosts = hosts.now; timers = timers.now }) }
+        ensures work { OnOk result (N.Meter.work meter.new ≡ copied_by (count_by (λ host. is_some host.node) hosts.now) (N.Meter.work meter.old)) }
+    {
+        let disks = packed_disks(alloc, hosts)?;
+        let kept = kept_hosts(alloc, hosts, timers, meter)?;
+        Ok(PackedHosts { kept, disks })
+    }
+
+    // A host equal to the one of this number.
+    fn host(&self, alloc: Global, number: usize, meter: &mut N::Meter) -> Result<Host<N>, NoMemory>
+        requires { number < length self.now.hosts }
+        ensures host { IfOk result (λ host. slice_get self.now.hosts number ≡ Some host) }
+        ensures work { IfOk result (λ host. N.Meter.work meter.new ≡ (if is_some host.node then copied (N.Meter.work meter.old) else N.Meter.work meter.old)) }
+    {
+        let kept = &self.kept[number];
+        let node = copied_node(alloc, &kept.node, meter)?;
+        let disk = self.disks.get(alloc, number)?;
+        Ok(Host {
+            node,
+            disk,
+            done: kept.done,
+        })
+    }
+
+    /// Equal hosts. The nodes of those that run are copied.
+    pub(crate) fn hosts(
+        &self,
+        alloc: Global,
+        meter: &mut N::Meter,
+    ) -> Result<Vec<Host<N>>, NoMemory>
+        ensures hosts { IfOk result (λ hosts. hosts.items ≡ self.now.hosts) }
+        ensures work { OnOk result (N.Meter.work meter.new ≡ copied_by (count_by (λ host. is_some host.node) self.now.hosts) (N.Meter.work meter.old)) }
+    {
+        let mut hosts = Vec::with_capacity(alloc, self.kept.len())?;
+        for number in 0..self.kept.len() {
+            hosts.push(self.host(alloc, number, meter)?)?;
+        }
+        Ok(hosts)
+    }
+
+    /// The serials of the hosts' pending timers.
+    pub(crate) fn timers(&self, alloc: Global) -> Result<Vec<Option<u64>>, NoMemory>
+        ensures { IfOk result (λ timers. timers.items ≡ self.now.timers) }
+    {
+        let mut timers = Vec::with_capacity(alloc, self.kept.len())?;
+        for kept in &self.kept {
+            timers.push(kept.timer)?;
+        }
+        Ok(timers)
+    }
+}
