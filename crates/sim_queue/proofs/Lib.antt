@@ -13,3 +13,4 @@ pub mod Counts
 pub mod Counting
 pub mod Marking
 pub mod Marked
+pub mod Packing

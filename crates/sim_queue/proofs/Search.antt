@@ -15,14 +15,14 @@ module _ {B : Type 0} where
     pub skipped : (k : ℕ) (x : Item B) → k < n → slice_get items k ≡ Some x → start ≤ x.serial - base → x.serial - base < least → p x.body ≡ false
     pub taken : least < length places → (start ≤ least) × (takes p (at (slots_of items places) least) ≡ true)
 
-  serial_of : (items : List (Item B)) (k : ℕ) (x : Item B) → slice_get items k ≡ Some x → serial_at items k ≡ Some x.serial
+  pub serial_of : (items : List (Item B)) (k : ℕ) (x : Item B) → slice_get items k ≡ Some x → serial_at items k ≡ Some x.serial
   serial_of items k x here = ap (λ o. option_map (λ (y : Item B). y.serial) o) here
 
   -- no item stands before the base, and each has its place
   pub from_base : (items : List (Item B)) (places : List (Option ℕ)) (base k : ℕ) (x : Item B) → IsSparse items places base → slice_get items k ≡ Some x → base ≤ x.serial
   from_base items places base k x sparse here = sparse.from k x.serial (serial_of items k x here)
 
-  placed : (items : List (Item B)) (places : List (Option ℕ)) (base k : ℕ) (x : Item B) → IsSparse items places base → slice_get items k ≡ Some x
+  pub placed : (items : List (Item B)) (places : List (Option ℕ)) (base k : ℕ) (x : Item B) → IsSparse items places base → slice_get items k ≡ Some x
       → index_at places (x.serial - base) ≡ Some k
   placed items places base k x sparse here = sparse.placed k x.serial (serial_of items k x here)
 

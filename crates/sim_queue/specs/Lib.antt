@@ -3,6 +3,7 @@ pub mod Items
 pub mod Keys
 pub mod Link
 pub mod Marks
+pub mod Packed
 pub mod Slots
 pub mod Sparse
 pub mod Spot

@@ -1,39 +1,43 @@
 //! Queues that are kept for later.
-ghost use Rattle.std.specs.Prelude.{◌≡◌, ◌+◌, ◌≤◌, ◌^◌, length, IfOk};
+ghost use Rattle.std.specs.Prelude.{◌≡◌, IfOk};
 ghost use Rattle.std.specs.Fn.{FnReturnsAt};
-ghost use Rattle.sim_queue.specs.Items.{pending};
+ghost use Rattle.sim_queue.specs.Packed.{packed, IsPacked};
 
-use crate::slots::Slots;
+use crate::slots::{Slots, copy_items, with_room};
 use crate::store::Store;
-use crate::{NoMemory, Queue};
+use crate::{Item, NoMemory, Queue};
 use std::alloc::Global;
 use std::marker::Model;
 
-/// A queue that is kept for later, in less memory: its items, without their keys. Contracts see the queue.
+/// A queue that is kept for later, in less memory: its items, without their keys and places. Contracts see the queue.
 #[derive(Drop)]
 pub struct PackedQueue<B> {
-    slots: Slots<B>,
+    // The items, in any order.
+    items: Vec<Item<B>>,
+    // The serial of the first slot.
+    base: u64,
+    // How many slots there are.
+    len: usize,
 }
 
 impl<B> Model for PackedQueue<B> {
-    ghost use Rattle.std.specs.Prelude.{◌+◌, ◌≤◌, ◌^◌, length};
     ghost use Rattle.sim_queue.specs.Pending.{Pending};
-    ghost use Rattle.sim_queue.specs.Items.{pending};
+    ghost use Rattle.sim_queue.specs.Packed.{packed, IsPacked};
 
     ghost Value = { Pending B };
 
-    ghost view = { λ p. pending p.slots.base p.slots.items };
+    ghost view = { λ p. packed p.items.items p.base p.len };
 
-    ghost invariant = { λ p. p.slots.base + length p.slots.items ≤ 2 ^ 40 };
+    ghost invariant = { λ p. IsPacked p.items.items p.base p.len };
 }
 
 impl<B> PackedQueue<B> {
-    // What is pending in these slots.
-    pub(crate) fn of(slots: Slots<B>) -> PackedQueue<B>
-        requires { slots.base + length slots.items ≤ 2 ^ 40 }
-        ensures { result ≡ pending slots.base slots.items }
+    // The queue of these items.
+    pub(crate) fn of(items: Vec<Item<B>>, base: u64, len: usize) -> PackedQueue<B>
+        requires { IsPacked items.items base len }
+        ensures { result ≡ packed items.items base len }
     {
-        PackedQueue { slots }
+        PackedQueue { items, base, len }
     }
 
     /// An equal queue, whose bodies are those that `each` answers.
@@ -50,7 +54,8 @@ impl<B> PackedQueue<B> {
         requires equal { (x : B) (r : _) → FnReturnsAt F.Fn each x r → IfOk r (λ y. y ≡ x) }
         ensures { IfOk result (λ q. q ≡ self.now) }
     {
-        let slots = self.slots.copy(alloc, &each)?;
+        let items = copy_items(alloc, &self.items, with_room(self.items.len()), &each)?;
+        let slots = Slots::of(alloc, items, self.base, self.len)?;
         Ok(Queue {
             store: Store::of(alloc, slots)?,
         })

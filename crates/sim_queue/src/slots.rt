@@ -3,8 +3,10 @@ ghost use Rattle.std.specs.Prelude.{◌≡◌, ℕ, ◌+◌, ◌-◌, ◌^◌, �
 ghost use Rattle.std.specs.Bool.{OnTrue};
 ghost use Rattle.std.specs.Fn.{FnReturnsAt};
 ghost use Rattle.std.specs.Option.{option_map, IsSome};
-ghost use Rattle.sim_queue.specs.Items.{item_of, items_from};
+ghost use Rattle.sim_queue.specs.Items.{item_of, items_from, pending};
+ghost use Rattle.sim_queue.specs.Packed.{packed, IsPacked};
 ghost use Rattle.sim_queue.specs.Slots.{at, Skips, IsFound};
+ghost use Rattle.sim_queue.specs.Sparse.{IsSparse};
 
 use crate::link::Link;
 use crate::{Item, NoMemory};
@@ -209,12 +211,49 @@ impl<B> Slots<B> {
         requires equal { (x : B) (r : _) → FnReturnsAt F.Fn each.now x r → IfOk r (λ y. y ≡ x) }
         ensures { IfOk result (λ copied. copied ≡ self.now) }
     {
-        let items = copy_items(alloc, &self.items, each)?;
+        let items = copy_items(alloc, &self.items, with_room(self.items.len()), each)?;
         let places = copy_places(alloc, &self.places)?;
         Ok(Slots {
             items,
             places,
             base: self.base,
+        })
+    }
+
+    /// The items that are there, in any order and with no room for more, each body as `each` copies it.
+    pub(crate) fn pack<F: Fn(&B) -> Result<B, NoMemory>>(
+        &self,
+        alloc: Global,
+        each: &F,
+    ) -> Result<Vec<Item<B>>, NoMemory>
+    where
+        B: Drop,
+        requires small { self.now.base + length self.now.items ≤ 2 ^ 40 }
+        requires callable { F.IsAlwaysCallable each.now }
+        requires equal { (x : B) (r : _) → FnReturnsAt F.Fn each.now x r → IfOk r (λ y. y ≡ x) }
+        ensures places { IfOk result (λ items. IsPacked items.items self.now.base (length self.now.items)) }
+        ensures pending { IfOk result (λ items. packed items.items self.now.base (length self.now.items) ≡ pending self.now.base self.now.items) }
+    {
+        copy_items(alloc, &self.items, self.items.len(), each)
+    }
+
+    /// The slots of these items, of which the first stands for the serial `base`.
+    pub(crate) fn of(
+        alloc: Global,
+        items: Vec<Item<B>>,
+        base: u64,
+        len: usize,
+    ) -> Result<Slots<B>, NoMemory>
+    where
+        B: Drop,
+        requires { IsPacked items.items base len }
+        ensures { IfOk result (λ slots. pending slots.base slots.items ≡ packed items.items base len) }
+    {
+        let places = make_places(alloc, &items, base, len)?;
+        Ok(Slots {
+            items,
+            places: VecDeque::from_vec(places),
+            base,
         })
     }
 }
@@ -238,17 +277,19 @@ pub(crate) fn with_room(len: usize) -> usize
     len.saturating_add(len / 8).saturating_add(8)
 }
 
-// Equal items.
-fn copy_items<B: Drop, F: Fn(&B) -> Result<B, NoMemory>>(
+/// Equal items, in a vector of this capacity.
+pub(crate) fn copy_items<B: Drop, F: Fn(&B) -> Result<B, NoMemory>>(
     alloc: Global,
     items: &Vec<Item<B>>,
+    capacity: usize,
     each: &F,
 ) -> Result<Vec<Item<B>>, NoMemory>
+    requires room { length items.now.items ≤ capacity }
     requires callable { F.IsAlwaysCallable each.now }
     requires equal { (x : B) (r : _) → FnReturnsAt F.Fn each.now x r → IfOk r (λ y. y ≡ x) }
     ensures { IfOk result (λ copied. copied.items ≡ items.now.items) }
 {
-    let mut copied = Vec::with_capacity(alloc, with_room(items.len()))?;
+    let mut copied = Vec::with_capacity(alloc, capacity)?;
     for index in 0..items.len() {
         let item = copy_item(&items[index], each)?;
         copied.push_reserved(item);
@@ -281,4 +322,27 @@ fn copy_places(alloc: Global, places: &VecDeque<Link>) -> Result<VecDeque<Link>,
     copied.extend_from_slice(head)?;
     copied.extend_from_slice(wrapped)?;
     Ok(VecDeque::from_vec(copied))
+}
+
+// The index of each slot's item among these, of which there are at most 2^32 - 1.
+fn make_places<B>(
+    alloc: Global,
+    items: &Vec<Item<B>>,
+    base: u64,
+    len: usize,
+) -> Result<Vec<Link>, NoMemory>
+    requires { IsPacked items.now.items base len }
+    ensures sparse { IfOk result (λ places. IsSparse items.now.items places.items base) }
+    ensures len { IfOk result (λ places. length places.items ≡ len) }
+{
+    let Ok(count) = u32::try_from(items.len()) else {
+        return Err(NoMemory);
+    };
+    let mut places = Vec::with_capacity(alloc, with_room(len))?;
+    places.resize(len, Link::none())?;
+    for index in 0..count {
+        let item = &items[index as usize];
+        places[(item.serial - base) as usize] = Link::to(index);
+    }
+    Ok(places)
 }

@@ -182,7 +182,7 @@ impl<B> Store<B> {
         })
     }
 
-    /// Equal pending items without their keys, each body as `each` copies it.
+    /// Equal pending items without their keys and places, each body as `each` copies it.
     pub(crate) fn pack<F: Fn(&B) -> Result<B, NoMemory>>(
         &self,
         alloc: Global,
@@ -195,8 +195,8 @@ impl<B> Store<B> {
         requires equal { (x : B) (r : _) → FnReturnsAt F.Fn each.now x r → IfOk r (λ y. y ≡ x) }
         ensures { IfOk result (λ p. p ≡ pending_in self.now) }
     {
-        let slots = self.slots.copy(alloc, each)?;
-        Ok(PackedQueue::of(slots))
+        let items = self.slots.pack(alloc, each)?;
+        Ok(PackedQueue::of(items, self.slots.base(), self.slots.len()))
     }
 
     /// The items in these slots, whose keys are made anew.
