@@ -1,2 +1,3 @@
 pub mod Laid
 pub mod Fit
+pub mod Spans

@@ -1,3 +1,4 @@
 pub mod Disk
 pub mod Change
 pub mod Light
+pub mod Spans

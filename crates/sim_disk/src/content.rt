@@ -1,10 +1,10 @@
 //! What a disk is made of, and what it becomes by a sync and by a crash.
-ghost use Rattle.std.specs.Prelude.{◌≡◌, ◌≤◌, length, OnOk};
+ghost use Rattle.std.specs.Prelude.{◌≡◌, ◌≤◌, length, IfOk, OnOk};
 ghost use Rattle.sim_disk.specs.Disk as disk;
 ghost use Rattle.sim_disk.specs.Change.{disk_in};
 
 use crate::NoMemory;
-use crate::lay::{all_laid, copy_all, kept_laid};
+use crate::lay::{all_laid, append_all, copy_all, kept_laid};
 use crate::write::Write;
 use std::alloc::Global;
 
@@ -27,6 +27,25 @@ impl Content {
             writes: Vec::new(alloc),
             asked: 0,
         }
+    }
+
+    /// Equal bytes and writes, and so many of these covered.
+    pub(crate) fn of(
+        alloc: Global,
+        bytes: &[u8],
+        writes: &[Write],
+        asked: u32,
+    ) -> Result<Content, NoMemory>
+        ensures { IfOk result (λ c. disk_in c ≡ record { stable = bytes.now; writes = writes.now; asked = asked }) }
+    {
+        let stable = Vec::from_slice(alloc, bytes)?;
+        let mut all = Vec::with_capacity(alloc, writes.len())?;
+        append_all(&mut all, writes)?;
+        Ok(Content {
+            stable,
+            writes: all,
+            asked,
+        })
     }
 
     /// Becomes what another content is once a sync of its first `count` writes came. After an error it can be anything.

@@ -91,13 +91,21 @@ pub(crate) fn kept_laid(
     Ok(())
 }
 
+// Adds writes equal to others behind those that are there. After an error some of them are added.
+pub(crate) fn append_all(all: &mut Vec<Write>, writes: &[Write]) -> Result<(), NoMemory>
+    ensures ok { OnOk result (all.new.items ≡ all.old.items ++ writes.now) }
+    ensures grown { (more : _) × (all.new.items ≡ all.old.items ++ more) }
+{
+    for write in writes {
+        all.push(write.copy())?;
+    }
+    Ok(())
+}
+
 // Makes writes equal to others.
 pub(crate) fn copy_all(all: &mut Vec<Write>, writes: &[Write]) -> Result<(), NoMemory>
     ensures { OnOk result (all.new.items ≡ writes.now) }
 {
     all.clear();
-    for write in writes {
-        all.push(write.copy())?;
-    }
-    Ok(())
+    append_all(all, writes)
 }

@@ -1,14 +1,32 @@
 //! Disks that are kept for later.
-ghost use Rattle.std.specs.Prelude.{◌≡◌, ◌<◌, [], ◌∷◌, ◌++◌, length, slice_get, Some, IfOk, OnOk};
+ghost use Rattle.std.specs.Prelude.{◌≡◌, ◌+◌, ◌<◌, ◌^◌, [], ◌∷◌, ◌++◌, length, slice_get, Some, IfOk, OnOk};
 
+use crate::content::Content;
+use crate::lay::append_all;
+use crate::write::Write;
 use crate::{Disk, NoMemory};
 use std::alloc::Global;
 use std::marker::Model;
 
-/// Disks that are kept for later, side by side. Contracts see the list of the disks.
+/// Disks that are kept for later, side by side, in three blocks of memory. Contracts see the list of the disks. Together they
+/// keep at most 2^32 - 1 stable bytes and as many writes; a disk more than that is refused as a want of memory.
 #[derive(Drop)]
 pub struct PackedDisks {
-    disks: Vec<Disk>,
+    // The stable bytes of all disks, and the writes of all.
+    bytes: Vec<u8>,
+    writes: Vec<Write>,
+    // Where each disk stands in these.
+    spans: Vec<Span>,
+}
+
+// Where the bytes and the writes of a disk stand, and how many of the writes the syncs in flight cover.
+#[derive(Clone, Copy)]
+struct Span {
+    from: u32,
+    to: u32,
+    first: u32,
+    last: u32,
+    asked: u32,
 }
 
 impl Model for PackedDisks {
@@ -17,7 +35,23 @@ impl Model for PackedDisks {
 
     ghost Value = { List disk.Disk };
 
-    ghost view = { λ p. p.disks.items };
+    ghost use Rattle.sim_disk.specs.Spans.{disks_at, AreSpans};
+
+    ghost view = { λ p. disks_at p.bytes.items p.writes.items p.spans.items };
+
+    ghost invariant = { λ p. AreSpans p.bytes.items p.writes.items p.spans.items };
+}
+
+// Where so many more end that stand behind these, in 32 bits. What ends past that is refused as a want of memory.
+fn end(before: usize, more: usize) -> Result<u32, NoMemory>
+    requires { before + more < 2 ^ 64 }
+    ensures { IfOk result (λ end. end ≡ before + more) }
+{
+    let end = before + more;
+    if end > u32::MAX as usize {
+        return Err(NoMemory);
+    }
+    Ok(end as u32)
 }
 
 impl PackedDisks {
@@ -31,15 +65,31 @@ impl PackedDisks {
         ensures { IfOk result (λ p. p ≡ []) }
     {
         Ok(PackedDisks {
-            disks: Vec::with_capacity(alloc, disks)?,
+            bytes: Vec::with_capacity(alloc, bytes)?,
+            writes: Vec::with_capacity(alloc, writes)?,
+            spans: Vec::with_capacity(alloc, disks)?,
         })
     }
 
     /// Adds an equal disk behind the others. After `NoMemory` nothing is said of the disks.
-    pub fn push(&mut self, alloc: Global, disk: &Disk) -> Result<(), NoMemory>
+    pub fn push(&mut self, disk: &Disk) -> Result<(), NoMemory>
         ensures { OnOk result (self.new ≡ self.old ++ disk.now ∷ []) }
     {
-        self.disks.push(disk.copy(alloc)?)?;
+        let content = &disk.content;
+        let from = self.bytes.len();
+        let to = end(from, content.stable.len())?;
+        let first = self.writes.len();
+        let last = end(first, content.writes.len())?;
+        let span = Span {
+            from: from as u32,
+            to,
+            first: first as u32,
+            last,
+            asked: content.asked,
+        };
+        self.bytes.extend_from_slice(content.stable.as_slice())?;
+        append_all(&mut self.writes, content.writes.as_slice())?;
+        self.spans.push(span)?;
         Ok(())
     }
 
@@ -48,6 +98,10 @@ impl PackedDisks {
         requires { place < length self.now }
         ensures { IfOk result (λ d. slice_get self.now place ≡ Some d) }
     {
-        self.disks[place].copy(alloc)
+        let span = self.spans[place];
+        let bytes = &self.bytes[span.from as usize..span.to as usize];
+        let writes = &self.writes[span.first as usize..span.last as usize];
+        let content = Content::of(alloc, bytes, writes, span.asked)?;
+        Ok(Disk { content })
     }
 }

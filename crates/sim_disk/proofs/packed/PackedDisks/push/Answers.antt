@@ -1,0 +1,26 @@
+use Rattle.std.proofs.Common.{length, refl, arith}
+use Rattle.sim_disk.specs.Change.{disk_in}
+use Rattle.sim_disk.proofs.Spans.{IsBehind, spans_pushed, disks_pushed}
+use Rattle.sim_disk.proofs.packed.PackedDisks.push.Goals as goal
+
+behind : (c : goal.In_ok-push) → IsBehind (length c.self.inside.bytes.items) (length c.self.inside.writes.items) (disk_in c.disk.inside.content)
+    (record { from = c.len-from.result; to = c.in_ok-to.to; first = c.len-first.result; last = c.in_ok-last.last; asked = c.disk.inside.content.asked })
+behind c = record { from = omega arith; to = omega arith; first = omega arith; last = omega arith; asked = refl }
+
+pub invariant_of-self-2 : goal.invariant_of-self-2
+invariant_of-self-2 c =
+    rw (c.in_ok-push.ensures.items, c.in_ok-append_all.ensures.ok, c.as_slice-2.ensures.value, c.in_ok-extend_from_slice.ensures.items, c.as_slice.ensures.value)
+    (spans_pushed _ _ _ (disk_in c.disk.inside.content) _ (behind c) c.self.invariant c.disk.invariant)
+
+pub returns : goal.returns
+returns c =
+    rw (
+      c.in_ok-push.ensures.items,
+      c.in_ok-append_all.ensures.ok,
+      c.as_slice-2.ensures.value,
+      c.in_ok-extend_from_slice.ensures.items,
+      c.as_slice.ensures.value,
+      ← c.self.view_is,
+      ← c.disk.view_is,
+    )
+    (disks_pushed _ _ _ (disk_in c.disk.inside.content) _ (behind c) c.self.invariant)
