@@ -1,4 +1,4 @@
-ghost use Rattle.std.specs.Prelude.{◌≡◌, ◌<◌, [], ◌∷◌, ◌++◌, length, IfOk, OnOk, OnErr};
+ghost use Rattle.std.specs.Prelude.{◌≡◌, ◌<◌, ◌↔◌, [], ◌∷◌, ◌++◌, length, IsTrue, IfOk, OnOk, OnErr};
 ghost use Rattle.std.specs.Fn.{FnReturnsAt};
 
 use crate::{Change, LinkState, LinkUndo, NoMemory};
@@ -81,6 +81,16 @@ impl<M> Direction<M> {
         ensures { result ≡ length self.now.held }
     {
         self.held.len()
+    }
+
+    /// Whether it is open, with nothing held.
+    pub fn is_open(&self) -> bool
+        ensures { IsTrue result ↔ (self.now ≡ open_link) }
+    {
+        match self.state {
+            LinkState::Through => self.held.is_empty(),
+            LinkState::Held | LinkState::Cut => false,
+        }
     }
 
     /// Changes it, and answers the messages that leave it.

@@ -2,6 +2,7 @@
 #![tactic(auto)]
 
 mod direction;
+mod kept;
 mod links;
 mod packed;
 mod table;

@@ -9,7 +9,7 @@ use std::marker::Model;
 /// The state and the held messages of every direction between 32 hosts.
 #[derive(Drop)]
 pub struct Links<M> {
-    table: Table<M>,
+    pub(crate) table: Table<M>,
 }
 
 impl<M> Model for Links<M> {
@@ -43,7 +43,7 @@ impl<M> Links<M> {
         M: Drop,
         ensures { IfOk result (λ links. links ≡ all_open) }
     {
-        let table = Table::new(alloc)?;
+        let table = Table::new(alloc, 0)?;
         Ok(Links { table })
     }
 

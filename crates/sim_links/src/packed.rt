@@ -1,24 +1,30 @@
 //! Links that are kept for later.
-ghost use Rattle.std.specs.Prelude.{◌≡◌, IfOk};
+ghost use Rattle.std.specs.Prelude.{◌≡◌, ◌<◌, slice_index_or, slice_set, IfOk, OnOk};
 ghost use Rattle.std.specs.Fn.{FnReturnsAt};
+ghost use Rattle.sim_links.specs.Link.{open_link};
 
 use crate::NoMemory;
+use crate::direction::Direction;
+use crate::kept::Kept;
 use crate::links::Links;
+use crate::table::Table;
 use std::alloc::Global;
 use std::marker::Model;
 
-/// Links that are kept for later, in less memory. Contracts see the links.
+/// Links that are kept for later, in less memory: the directions that are not open, and none where all are. Contracts see the
+/// links.
 #[derive(Drop)]
 pub struct PackedLinks<M> {
-    links: Links<M>,
+    kept: Vec<Kept<M>>,
 }
 
 impl<M> Model for PackedLinks<M> {
     ghost use Rattle.sim_links.specs.Link.{Links};
+    ghost use Rattle.sim_links.specs.Places.{links_of};
 
     ghost Value = { Links M };
 
-    ghost view = { λ p. p.links };
+    ghost view = { λ p. links_of p.kept.items };
 }
 
 impl<M> Links<M> {
@@ -35,13 +41,47 @@ impl<M> Links<M> {
         requires equal { (m : M) (r : _) → FnReturnsAt F.Fn each m r → IfOk r (λ copy. copy ≡ m) }
         ensures { IfOk result (λ packed. packed ≡ self.now) }
     {
-        Ok(PackedLinks {
-            links: self.copy(alloc, each)?,
-        })
+        let count = self.table.count();
+        let mut packed = PackedLinks {
+            kept: Vec::with_capacity(alloc, count)?,
+        };
+        // Where no direction was ever touched, all are open.
+        if self.table.touched.len() <= 1 {
+            return Ok(packed);
+        }
+        for place in 0..1024 {
+            let direction = self.table.direction(place as usize);
+            packed.keep(alloc, place, direction, &each)?;
+        }
+        Ok(packed)
     }
 }
 
 impl<M> PackedLinks<M> {
+    // Keeps an equal direction, where it is not open, at a place that was open.
+    fn keep<F: Fn(&M) -> Result<M, NoMemory>>(
+        &mut self,
+        alloc: Global,
+        place: u16,
+        direction: &Direction<M>,
+        each: &F,
+    ) -> Result<(), NoMemory>
+    where
+        M: Drop,
+        requires within { place < 1024 }
+        requires open { slice_index_or self.old place open_link ≡ open_link }
+        requires callable { F.IsAlwaysCallable each.now }
+        requires equal { (m : M) (r : _) → FnReturnsAt F.Fn each.now m r → IfOk r (λ copy. copy ≡ m) }
+        ensures { OnOk result (self.new ≡ slice_set self.old place direction.now) }
+    {
+        if direction.is_open() {
+            return Ok(());
+        }
+        let direction = direction.copy(alloc, each)?;
+        self.kept.push(Kept { place, direction })?;
+        Ok(())
+    }
+
     /// Equal links. `each` copies a message: it answers an equal one, or `NoMemory`, which is then the answer.
     pub fn open<F: Fn(&M) -> Result<M, NoMemory>>(
         &self,
@@ -54,6 +94,11 @@ impl<M> PackedLinks<M> {
         requires equal { (m : M) (r : _) → FnReturnsAt F.Fn each m r → IfOk r (λ copy. copy ≡ m) }
         ensures { IfOk result (λ links. links ≡ self.now) }
     {
-        self.links.copy(alloc, each)
+        let mut table = Table::new(alloc, self.kept.len())?;
+        for kept in &self.kept {
+            let copy = kept.direction.copy(alloc, &each)?;
+            table.put(kept.place as usize, copy)?;
+        }
+        Ok(Links { table })
     }
 }

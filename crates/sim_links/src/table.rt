@@ -1,6 +1,6 @@
 //! What a table of directions is made of. It keeps the directions that were ever touched, so that a copy and a drop of it cost
 //! what those cost.
-ghost use Rattle.std.specs.Prelude.{◌≡◌, ◌<◌, slice_index_or, IfOk};
+ghost use Rattle.std.specs.Prelude.{◌≡◌, ◌<◌, slice_index_or, slice_set, IfOk, OnOk, OnErr};
 ghost use Rattle.std.specs.Fn.{FnReturnsAt};
 ghost use Rattle.sim_links.specs.Link.{all_open, open_link};
 ghost use Rattle.sim_links.specs.Table.{links_in, slot_at, IsSound};
@@ -20,15 +20,15 @@ pub(crate) struct Table<M> {
 }
 
 impl<M> Table<M> {
-    /// All directions open, and nothing held.
-    pub(crate) fn new(alloc: Global) -> Result<Table<M>, NoMemory>
+    /// All directions open, and nothing held, with room to touch so many.
+    pub(crate) fn new(alloc: Global, room: usize) -> Result<Table<M>, NoMemory>
     where
         M: Drop,
         ensures links { IfOk result (λ table. links_in table ≡ all_open) }
         ensures sound { IfOk result IsSound }
     {
         let slots = Vec::from_slice(alloc, &[0; 1024])?;
-        let mut touched = Vec::new(alloc);
+        let mut touched = Vec::with_capacity(alloc, room.saturating_add(1))?;
         touched.push(Direction::open(alloc))?;
         Ok(Table { slots, touched })
     }
@@ -62,6 +62,29 @@ impl<M> Table<M> {
         self.touched.push(Direction::open(alloc))?;
         self.slots[place] = free as u16;
         Ok(free)
+    }
+
+    /// Sets the direction of a place. After `NoMemory` all are as they were.
+    pub(crate) fn put(&mut self, place: usize, direction: Direction<M>) -> Result<(), NoMemory>
+    where
+        M: Drop,
+        requires sound { IsSound self.old }
+        requires within { place < 1024 }
+        ensures ok { OnOk result (links_in self.new ≡ slice_set (links_in self.old) place direction) }
+        ensures err { OnErr result (links_in self.new ≡ links_in self.old) }
+        ensures sound { IsSound self.new }
+    {
+        let slot = self.touch(place)?;
+        self.touched[slot] = direction;
+        Ok(())
+    }
+
+    /// How many directions are not open. It serves as a capacity alone, so no more is said of it.
+    pub(crate) fn count(&self) -> usize {
+        self.touched
+            .iter()
+            .filter(|direction| !direction.is_open())
+            .count()
     }
 
     /// An equal table.

@@ -5,4 +5,4 @@ use Rattle.sim_links.proofs.table.Table.new.Goals as goal
 pub returns-clause-sound : goal.returns-clause-sound
 returns-clause-sound g c =
     sound_new _ c.in_ok-slots.ensures.items
-    (c.in_ok-push.ensures.items ∙ ap (λ xs. xs ++ c.open.result ∷ []) c.new-touched.ensures.items ∙ ap (λ x. x ∷ []) c.open.ensures)
+    (c.in_ok-push.ensures.items ∙ ap (λ xs. xs ++ c.open.result ∷ []) c.in_ok-touched.ensures.items ∙ ap (λ x. x ∷ []) c.open.ensures)
