@@ -1,17 +1,12 @@
 -- How links are packed, place after place, and what those are that were never touched.
-use Rattle.std.proofs.Common.{◌≡◌, ℕ, zero, suc, ◌+◌, ◌-◌, ◌<◌, ◌≤◌, List, [], ◌∷◌, ◌++◌, refl, sym, ap, ◌∙◌, get_or, set, length, take, replicate, arith}
-use Rattle.std.proofs.lemmas.List.{append_assoc, ext_get_or, get_or-map, length-map, length-replicate, length-take-le, set_at, take_more}
-use Rattle.sim_links.specs.Link.{Link, open_link, all_open}
+use Rattle.std.proofs.Common.{◌≡◌, ℕ, suc, ◌+◌, ◌-◌, ◌<◌, ◌≤◌, List, [], ◌∷◌, ◌++◌, sym, ap, ◌∙◌, get_or, set, length, take, drop, replicate, arith}
+use Rattle.std.proofs.lemmas.List.{append_assoc, ext_get_or, get_or-drop, get_or-map, length-drop, length-map, length-replicate, length-take-le, set_at, take-append-drop, take_more}
+use Rattle.sim_links.specs.Link.{Link, open_link}
 use Rattle.sim_links.specs.Table.{links_in, IsSound}
 use Rattle.sim_links.specs.declared.table.Table.{Table}
-use Rattle.sim_links.proofs.Slots.{below_at}
+use Rattle.sim_links.proofs.Slots.{get_or-same}
 
 module _ {X : Type 0} where
-  get_or-same : (n i : ℕ) (d : X) → get_or (replicate n d) i d ≡ d
-  get_or-same zero i d = refl
-  get_or-same (suc n) zero d = refl
-  get_or-same (suc n) (suc i) d = get_or-same n i d
-
   -- a list up to a place and d from there on, of which the next place gets what it has in the list
   pub one_more : (xs ys zs : List X) (i n : ℕ) (x d : X) → length xs ≡ n → i < n → ys ≡ take i xs ++ replicate (n - i) d → x ≡ get_or xs i d
       → zs ≡ set ys i x → zs ≡ take (i + 1) xs ++ replicate (n - (i + 1)) d
@@ -26,15 +21,17 @@ module _ {M : Type 0} where
   pub whole : (t : Table M) → IsSound t → length (links_in t) ≡ 1024
   whole t sound = length-map t.slots.items (λ s. get_or t.touched.items s open_link) ∙ sound.whole
 
-  -- where only slot 0 is there, all directions are open
-  pub none_touched : (t : Table M) → IsSound t → length t.touched.items ≤ 1 → links_in t ≡ all_open
-  none_touched t sound few =
-      ext_get_or open_link (links_in t) all_open (whole t sound ∙ sym (length-replicate {A = Link M} 1024 open_link)) at
+  -- from a place on all are open
+  pub rest_open : (t : Table M) → IsSound t → take t.past (links_in t) ++ replicate (1024 - t.past) open_link ≡ links_in t
+  rest_open t sound =
+      ap (λ ls. take t.past (links_in t) ++ ls) (sym (ext_get_or open_link (drop t.past (links_in t)) (replicate (1024 - t.past) open_link)
+      (length-drop t.past (links_in t) ∙ ap (λ n. n - t.past) (whole t sound) ∙ sym (length-replicate {A = Link M} (1024 - t.past) open_link)) at))
+      ∙ take-append-drop t.past (links_in t)
     where
-      at : (i : ℕ) → i < length (links_in t) → get_or (links_in t) i open_link ≡ get_or all_open i open_link
+      at : (i : ℕ) → i < length (drop t.past (links_in t)) → get_or (drop t.past (links_in t)) i open_link ≡ get_or (replicate (1024 - t.past) open_link) i open_link
       at i inside =
-          let within : i < length t.slots.items = omega (arith, inside, whole t sound, sound.whole) in
-          let less = below_at t.slots.items (length t.touched.items) i sound.slots within in
-          let first : get_or t.slots.items i 0 ≡ 0 = omega arith in
-          get_or-map (λ s. get_or t.touched.items s open_link) t.slots.items i 0 open_link within
-          ∙ ap (λ s. get_or t.touched.items s open_link) first ∙ sound.first ∙ sym (get_or-same 1024 i open_link)
+          let within : t.past + i < length t.slots.items = omega (arith, inside, length-drop t.past (links_in t), whole t sound, sound.whole) in
+          get_or-drop t.past (links_in t) i open_link
+          ∙ get_or-map (λ s. get_or t.touched.items s open_link) t.slots.items (t.past + i) 0 open_link within
+          ∙ ap (λ s. get_or t.touched.items s open_link) (sound.rest (t.past + i) (omega arith)) ∙ sound.first
+          ∙ sym (get_or-same (1024 - t.past) i open_link)

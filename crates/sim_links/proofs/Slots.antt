@@ -30,6 +30,11 @@ slots_new n = record {
     none p inside own = omega (arith, own, get_or-replicate {A = ℕ} n p 0 0 inside)
 
 module _ {X : Type 0} where
+  pub get_or-same : (n i : ℕ) (d : X) → get_or (replicate n d) i d ≡ d
+  get_or-same zero i d = refl
+  get_or-same (suc n) zero d = refl
+  get_or-same (suc n) (suc i) d = get_or-same n i d
+
   -- one place stands for x, and each other for what it did
   map_at_one : (f g : ℕ → X) (slots : List ℕ) (p : ℕ) (x : X) → p < length slots → g (get_or slots p 0) ≡ x
       → ((q : ℕ) → q < length slots → (q ≡ p → ⊥) → g (get_or slots q 0) ≡ f (get_or slots q 0)) → map g slots ≡ set (map f slots) p x
@@ -95,11 +100,13 @@ module _ {M : Type 0} where
   }
 
   -- at first all directions are in slot 0
-  pub sound_new : (t : Table M) → t.slots.items ≡ replicate 1024 0 → t.touched.items ≡ open_link ∷ [] → IsSound t
-  sound_new t slots touched = record {
+  pub sound_new : (t : Table M) → t.slots.items ≡ replicate 1024 0 → t.touched.items ≡ open_link ∷ [] → t.past ≡ 0 → IsSound t
+  sound_new t slots touched past = record {
     whole = ap (λ (ss : List ℕ). length ss) slots;
     slots = rw (slots, touched) (slots_new 1024);
     first = ap (λ (ls : List (Link M)). get_or ls 0 open_link) touched;
+    end = omega arith;
+    rest = λ place lt. ap (λ (ss : List ℕ). get_or ss place 0) slots ∙ get_or-same 1024 place 0;
   }
 
   -- a direction that holds a message has a slot of its own
@@ -129,7 +136,7 @@ module _ {M : Type 0} where
 
   -- and with another direction in that slot, all other links are as they were
   pub wrote : {t : Table M} {links : Links M} {i slot : ℕ} (x : Link M) → IsTouched t links i slot
-      → links_in (record { slots = t.slots; touched = with_item t.touched slot x }) ≡ set links i x
+      → links_in (record t { touched = with_item t.touched slot x }) ≡ set links i x
   wrote {t = t} {i = i} {slot = slot} x touched =
       written t.slots.items t.touched.items i slot x open_link touched.sound.slots (omega (arith, touched.within, touched.sound.whole)) touched.at touched.own
       ∙ ap (λ (ls : Links M). set ls i x) touched.same

@@ -45,11 +45,7 @@ impl<M> Links<M> {
         let mut packed = PackedLinks {
             kept: Vec::with_capacity(alloc, count)?,
         };
-        // Where no direction was ever touched, all are open.
-        if self.table.touched.len() <= 1 {
-            return Ok(packed);
-        }
-        for place in 0..1024 {
+        for place in 0..self.table.past {
             let direction = self.table.direction(place as usize);
             packed.keep(alloc, place, direction, &each)?;
         }

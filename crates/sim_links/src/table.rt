@@ -17,6 +17,8 @@ pub(crate) struct Table<M> {
     // The touched directions, in the order in which they were first touched, behind an open one that stands for all others. No
     // two have one slot.
     pub(crate) touched: Vec<Direction<M>>,
+    // From this place on no direction was ever touched.
+    pub(crate) past: u16,
 }
 
 impl<M> Table<M> {
@@ -30,7 +32,11 @@ impl<M> Table<M> {
         let slots = Vec::from_slice(alloc, &[0; 1024])?;
         let mut touched = Vec::with_capacity(alloc, room.saturating_add(1))?;
         touched.push(Direction::open(alloc))?;
-        Ok(Table { slots, touched })
+        Ok(Table {
+            slots,
+            touched,
+            past: 0,
+        })
     }
 
     /// The direction of a place.
@@ -61,6 +67,7 @@ impl<M> Table<M> {
         let free = self.touched.len();
         self.touched.push(Direction::open(alloc))?;
         self.slots[place] = free as u16;
+        self.past = self.past.max(place as u16 + 1);
         Ok(free)
     }
 
@@ -107,6 +114,10 @@ impl<M> Table<M> {
             let copy = direction.copy(alloc, each)?;
             touched.push(copy)?;
         }
-        Ok(Table { slots, touched })
+        Ok(Table {
+            slots,
+            touched,
+            past: self.past,
+        })
     }
 }

@@ -19,7 +19,7 @@ use crate::log::Log;
 use crate::shared_list::SharedList;
 use crate::walk::Walk;
 use sim_node::Node;
-use sim_world::{Event, Scenario, World};
+use sim_world::{Event, PackedWorld, Scenario, World};
 use std::alloc::Global;
 use std::marker::Model;
 use std::sync::Arc;
@@ -29,7 +29,7 @@ use std::sync::Arc;
 #[derive(Drop)]
 pub struct Tape<N: Node> {
     log: Log,
-    checkpoints: SharedList<World<N>>,
+    checkpoints: SharedList<PackedWorld<N>>,
     place: u32,
     walk: Walk<N>,
 }
@@ -69,7 +69,7 @@ impl<N: Node> Tape<N> {
         ensures { IfOk result (λ t. t ≡ opened scenario.now) }
     {
         let world = World::start(alloc, scenario, meter)?;
-        let first = Arc::new(alloc, world.copy(alloc, meter)?)?;
+        let first = Arc::new(alloc, world.pack(alloc, meter)?)?;
         let mut checkpoints = SharedList::new(alloc);
         checkpoints.reserve(alloc)?;
         checkpoints.push(first);
@@ -340,7 +340,7 @@ impl<N: Node> Tape<N> {
     pub(crate) fn cold(
         alloc: Global,
         log: Log,
-        checkpoints: SharedList<World<N>>,
+        checkpoints: SharedList<PackedWorld<N>>,
         place: u32,
     ) -> Result<Tape<N>, NoMemory>
         requires runs { IsRun (rules N.laws N.PROBES log.scenario) log.entries }
@@ -410,7 +410,7 @@ impl<N: Node> Tape<N> {
 fn make_room<N: Node>(
     alloc: Global,
     log: &mut Log,
-    worlds: &mut SharedList<World<N>>,
+    worlds: &mut SharedList<PackedWorld<N>>,
 ) -> Result<bool, NoMemory>
     ensures same { log.new ≡ record log.old { room = log.new.room } }
     ensures room { OnOk result (IsTrue log.new.room) }
@@ -429,7 +429,7 @@ fn make_room<N: Node>(
 }
 
 // Keeps a world, where there is one, as the last.
-fn keep<N: Node>(worlds: &mut SharedList<World<N>>, world: Option<Arc<World<N>>>)
+fn keep<N: Node>(worlds: &mut SharedList<PackedWorld<N>>, world: Option<Arc<PackedWorld<N>>>)
     requires room { IsSome world → IsTrue worlds.old.has_room }
     requires few { length worlds.old.items < 65537 }
     ensures { MatchOption world (worlds.new.items ≡ worlds.old.items) (λ w. worlds.new.items ≡ worlds.old.items ++ arc_value w ∷ []) }

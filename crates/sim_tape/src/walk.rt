@@ -19,7 +19,7 @@ use crate::NoMemory;
 use crate::log::Log;
 use crate::ring::Ring;
 use sim_node::Node;
-use sim_world::{Event, World};
+use sim_world::{Event, PackedWorld, World};
 use std::alloc::Global;
 use std::sync::Arc;
 
@@ -37,13 +37,13 @@ fn shared_copy<N: Node>(
     alloc: Global,
     world: &World<N>,
     meter: &mut N::Meter,
-) -> Result<Arc<World<N>>, NoMemory>
+) -> Result<Arc<PackedWorld<N>>, NoMemory>
     ensures copy { IfOk result (λ copy. arc_value copy ≡ world.now) }
     ensures work { OnOk result (N.Meter.work meter.new ≡ record (N.Meter.work meter.old) {
       copies = (N.Meter.work meter.old).copies + running world.now.world;
     }) }
 {
-    let copy = world.copy(alloc, meter)?;
+    let copy = world.pack(alloc, meter)?;
     Ok(Arc::new(alloc, copy)?)
 }
 
@@ -53,7 +53,7 @@ fn copied<N: Node>(
     world: &World<N>,
     asked: bool,
     meter: &mut N::Meter,
-) -> Result<Option<Arc<World<N>>>, NoMemory>
+) -> Result<Option<Arc<PackedWorld<N>>>, NoMemory>
     ensures copy { IfOk result (λ copy. MatchOption copy (asked ≡ false) (λ c. (asked ≡ true) × (arc_value c ≡ world.now))) }
     ensures work { OnOk result (N.Meter.work meter.new ≡ record (N.Meter.work meter.old) {
       copies = (N.Meter.work meter.old).copies + (if asked then running world.now.world else 0);
@@ -354,7 +354,7 @@ impl<N: Node> Walk<N> {
         &mut self,
         alloc: Global,
         log: &Log,
-        checkpoint: &World<N>,
+        checkpoint: &PackedWorld<N>,
         from: usize,
         to: usize,
         meter: &mut N::Meter,
@@ -372,7 +372,7 @@ impl<N: Node> Walk<N> {
         ensures err { OnErr result ((place : ℕ) → IsWalkIn N.told N.records N.laws N.PROBES log.now place self.old.world self.old.ring.items →
             IsWalkIn N.told N.records N.laws N.PROBES log.now place self.new.world self.new.ring.items) }
     {
-        let mut world = checkpoint.copy(alloc, meter)?;
+        let mut world = checkpoint.open(alloc, meter)?;
         self.give_way(&mut world);
         let world = log.play(alloc, from, to, world, &mut self.ring, meter);
         match world {
@@ -394,7 +394,7 @@ impl<N: Node> Walk<N> {
         world: &World<N>,
         asked: bool,
         meter: &mut N::Meter,
-    ) -> Result<Option<Arc<World<N>>>, NoMemory>
+    ) -> Result<Option<Arc<PackedWorld<N>>>, NoMemory>
         ensures copy { IfOk result (λ copy. MatchOption copy (asked ≡ false) (λ c. (asked ≡ true) × (arc_value c ≡ world.now))) }
         ensures work { OnOk result (N.Meter.work meter.new ≡ record (N.Meter.work meter.old) {
           copies = (N.Meter.work meter.old).copies + (if asked then running world.now.world else 0);
@@ -420,7 +420,7 @@ impl<N: Node> Walk<N> {
         event: Event,
         asked: bool,
         meter: &mut N::Meter,
-    ) -> Result<(u64, Option<Arc<World<N>>>), NoMemory>
+    ) -> Result<(u64, Option<Arc<PackedWorld<N>>>), NoMemory>
         requires runs { IsRun (rules_in N.laws N.PROBES log.now) log.now.entries }
         requires walk { IsWalkIn N.told N.records N.laws N.PROBES log.now (length log.now.entries) self.old.world self.old.ring.items }
         requires warm { IsSome self.old.world }

@@ -71,7 +71,7 @@ fn packed_disks<S>(alloc: Global, hosts: &[Host<S>]) -> Result<PackedDisks, NoMe
     let (bytes, writes) = room_of(hosts);
     let mut disks = PackedDisks::with_room(alloc, hosts.len(), bytes, writes)?;
     for host in hosts {
-        disks.push(alloc, &host.disk)?;
+        disks.push(&host.disk)?;
     }
     Ok(disks)
 }

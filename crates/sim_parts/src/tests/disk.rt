@@ -1,7 +1,7 @@
 //! What a disk holds after writes, syncs and crashes, and after these are undone.
 ghost use Rattle.std.specs.Prelude.{◌≡◌, ◌+◌, ◌≤◌, IfOk};
 
-use sim_disk::{Disk, NoMemory, SpareDisks, WriteFault};
+use sim_disk::{Disk, NoMemory, PackedDisks, SpareDisks, WriteFault};
 use std::alloc::Global;
 use std::process::Abort;
 use std::test::Fail;
@@ -198,6 +198,20 @@ fn syncs_in_flight(rt: HostRuntime) -> Result<(), Fail> {
     assert!(rt; is(&other, &[1, 2, 0, 0], 0));
     other.sync(alloc, 0, &mut spare)?;
     assert!(rt; is(&other, &[1, 2, 0, 0], 0));
+    Ok(())
+}
+
+#[test]
+fn kept_side_by_side(rt: HostRuntime) -> Result<(), Fail> {
+    let alloc = rt.alloc();
+    let mut disk = Disk::new(alloc);
+    walk(&rt, alloc, &mut disk, &ZEROS)?;
+    ask_twice(&mut disk)?;
+    let mut packed = PackedDisks::with_room(alloc, 2, 4, 2)?;
+    packed.push(&Disk::new(alloc))?;
+    packed.push(&disk)?;
+    assert!(rt; is(&packed.get(alloc, 0)?, &[], 0));
+    assert!(rt; is(&packed.get(alloc, 1)?, &[0; 4], 2));
     Ok(())
 }
 

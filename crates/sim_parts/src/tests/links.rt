@@ -169,6 +169,23 @@ fn a_copy_is_equal(rt: HostRuntime) -> Result<(), Fail> {
     Ok(())
 }
 
+#[test]
+fn kept_for_later(rt: HostRuntime) -> Result<(), Fail> {
+    let alloc = rt.alloc();
+    let mut links = Links::new(alloc)?;
+    walk(&rt, alloc, &mut links, &HELD)?;
+    let packed = links.pack(alloc, |message: &u32| Ok(*message))?;
+    let mut opened = packed.open(alloc, |message: &u32| Ok(*message))?;
+    assert!(rt; others_are_open(&opened));
+    walk(
+        &rt,
+        alloc,
+        &mut opened,
+        &[Act::Is(LinkState::Held, 2), Act::Unkeep(8)],
+    )?;
+    Ok(())
+}
+
 // Messages that a trait copies.
 trait Message: Drop + Sized {
     fn copy_of(alloc: Global, message: &Self) -> Result<Self, NoMemory>

@@ -231,6 +231,19 @@ fn copies(rt: HostRuntime) -> Result<(), Fail> {
 }
 
 #[test]
+fn kept_for_later(rt: HostRuntime) -> Result<(), Fail> {
+    let alloc = rt.alloc();
+    let mut queue = Queue::new(alloc);
+    walk(&rt, &mut queue, &FOUR)?;
+    assert!(rt; queue.pack(alloc, |_body| Err(NoMemory)).is_err());
+    let packed = queue.pack(alloc, |body| Ok(*body))?;
+    assert!(rt; packed.open(alloc, |_body| Err(NoMemory)).is_err());
+    let mut opened = packed.open(alloc, |body| Ok(*body))?;
+    walk(&rt, &mut opened, &HAS_FOUR)?;
+    Ok(())
+}
+
+#[test]
 fn many_dead_keys(rt: HostRuntime) -> Result<(), Fail> {
     let mut queue = Queue::new(rt.alloc());
     walk(&rt, &mut queue, &FOUR)?;

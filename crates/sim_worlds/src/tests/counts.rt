@@ -26,7 +26,7 @@ fn turns_and_undos_are_counted(rt: HostRuntime) -> Result<(), Fail> {
     Ok(())
 }
 
-// A copy of a world of so many hosts and probes shows the same.
+// A copy of a world of so many hosts and probes shows the same, and so does one that was kept for later and opened.
 fn copies_alike<N: Node>(
     rt: &impl Abort,
     alloc: Global,
@@ -41,6 +41,8 @@ fn copies_alike<N: Node>(
     let seen = looks(alloc, world, hosts, probes)?;
     let copy = world.copy(alloc, meter)?;
     assert_eq!(rt; looks(alloc, &copy, hosts, probes)?, seen);
+    let opened = world.pack(alloc, meter)?.open(alloc, meter)?;
+    assert_eq!(rt; looks(alloc, &opened, hosts, probes)?, seen);
     Ok(())
 }
 
@@ -51,10 +53,10 @@ fn the_hosts_that_run_are_copied(rt: HostRuntime) -> Result<(), Fail> {
     let mut meter = Counts::new(rt.clone()?);
     let world = CountedWorld::start(alloc, &echoes(10, 0)?, &mut meter)?;
     copies_alike(&rt, alloc, &world, 2, 2, &mut meter)?;
-    assert_eq!(rt; meter.counted(), (2, 2, 0));
+    assert_eq!(rt; meter.counted(), (2, 6, 0));
     let crash = Event::Fault(Fault::Crash(0));
     let (stopped, _undo) = applied(alloc, world, crash, &mut meter)?;
     copies_alike(&rt, alloc, &stopped, 2, 2, &mut meter)?;
-    assert_eq!(rt; meter.counted(), (2, 3, 0));
+    assert_eq!(rt; meter.counted(), (2, 9, 0));
     Ok(())
 }

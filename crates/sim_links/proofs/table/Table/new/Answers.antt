@@ -1,4 +1,4 @@
-use Rattle.std.proofs.Common.{◌∙◌, ap, [], ◌∷◌, ◌++◌}
+use Rattle.std.proofs.Common.{◌∙◌, refl, ap, [], ◌∷◌, ◌++◌}
 use Rattle.sim_links.proofs.Slots.{sound_new}
 use Rattle.sim_links.proofs.table.Table.new.Goals as goal
 
@@ -6,3 +6,4 @@ pub returns-clause-sound : goal.returns-clause-sound
 returns-clause-sound g c =
     sound_new _ c.in_ok-slots.ensures.items
     (c.in_ok-push.ensures.items ∙ ap (λ xs. xs ++ c.open.result ∷ []) c.in_ok-touched.ensures.items ∙ ap (λ x. x ∷ []) c.open.ensures)
+    refl
