@@ -1,5 +1,5 @@
 -- How links are packed, place after place, and what those are that were never touched.
-use Rattle.std.proofs.Common.{◌≡◌, ℕ, suc, ◌+◌, ◌-◌, ◌<◌, ◌≤◌, List, [], ◌∷◌, ◌++◌, sym, ap, ◌∙◌, get_or, set, length, take, drop, replicate, arith}
+use Rattle.std.proofs.Common.{◌≡◌, ℕ, suc, ◌+◌, ◌-◌, ◌<◌, List, [], ◌∷◌, ◌++◌, sym, ap, ◌∙◌, get_or, set, length, take, drop, replicate, arith}
 use Rattle.std.proofs.lemmas.List.{append_assoc, ext_get_or, get_or-drop, get_or-map, length-drop, length-map, length-replicate, length-take-le, set_at, take-append-drop, take_more}
 use Rattle.sim_links.specs.Link.{Link, open_link}
 use Rattle.sim_links.specs.Table.{links_in, IsSound}

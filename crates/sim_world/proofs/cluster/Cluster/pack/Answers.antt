@@ -1,5 +1,4 @@
 use Rattle.std.proofs.Common.{rules, ◌≡◌}
-use Rattle.sim_world.specs.World.{World}
 use Rattle.sim_world.specs.Held.{in_hand}
 use Rattle.sim_world.specs.Index.{InHand}
 use Rattle.sim_world.proofs.Packing.{packed-same}

@@ -1,6 +1,5 @@
-use Rattle.std.proofs.Common.{rules, ◌≡◌, ◌<◌, ◌∙◌, ap, sym, subst, length, slice_get, Some, arith}
+use Rattle.std.proofs.Common.{rules, ◌≡◌, ◌<◌, ◌∙◌, ap, sym, length, slice_get, Some}
 use Rattle.std.proofs.lemmas.Option.{slice_get-get_or}
-use Rattle.sim_world.specs.Packed.{hosts_in}
 use Rattle.sim_world.proofs.Packing.{hosts-count, hosts-at}
 use Rattle.sim_world.proofs.packed_hosts.PackedHosts.host.Goals as goal
 

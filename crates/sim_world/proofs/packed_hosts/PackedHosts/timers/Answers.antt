@@ -1,4 +1,4 @@
-use Rattle.std.proofs.Common.{rules, ◌≡◌, ◌∙◌, ◌+◌, ◌<◌, ◌++◌, ◌∷◌, [], ap, sym, length, take, arith}
+use Rattle.std.proofs.Common.{◌≡◌, ◌∙◌, ◌+◌, ◌<◌, ◌++◌, ◌∷◌, [], ap, sym, length, take, arith}
 use Rattle.std.proofs.lemmas.List.{take_more, map-append}
 use Rattle.sim_world.specs.Packed.{timers_in}
 use Rattle.sim_world.proofs.packed_hosts.PackedHosts.timers.Goals as goal
