@@ -1,10 +1,11 @@
 //! Events of a world, forwards and backwards.
-ghost use Rattle.std.specs.Prelude.{◌≡◌, ℕ, ◌+◌, ◌-◌, ◌^◌, ◌<◌, ◌≤◌, [], ◌++◌, length, IfOk, OnOk, IsOk, IsTrue, IsSome, Some, None, slice_index_or, if◌then◌else◌};
+ghost use Rattle.std.specs.Prelude.{◌≡◌, ℕ, ◌+◌, ◌-◌, ◌^◌, ◌<◌, ◌≤◌, [], ◌++◌, length, IfOk, OnOk, IsOk, IsTrue, IsFalse, IsSome, Some, None, slice_index_or, if◌then◌else◌};
 ghost use Rattle.std.specs.List.{count_by};
 ghost use Rattle.sim_queue.specs.Pending.{first};
 ghost use Rattle.sim_world.specs.World.{at_time};
+ghost use Rattle.sim_world.specs.declared.Event.TheVariants as event;
 ghost use Rattle.sim_world.specs.Events.{rules, after, next, refusal_of, stepped};
-ghost use Rattle.sim_world.specs.Acts.{acts, reactions_of, turns_of, turned_by};
+ghost use Rattle.sim_world.specs.Acts.{acts, reactions_of, turns_of, turned_by, turned_if};
 ghost use Rattle.sim_world.specs.Clock.{clock_after};
 ghost use Rattle.sim_world.specs.Memory.{is_for_stopped};
 ghost use Rattle.sim_world.specs.Index.{IsIndex, beside_of, stopped_host, changing_host, LeadsBack};
@@ -47,7 +48,7 @@ impl<N: Node> Parts<N> {
     #[inline(never)]
     fn advance(&mut self, trail: &mut Trail<N>, to: u64) -> Result<(), NoMemory>
         ensures world { OnOk result (self.new ≡ record self.old { world = at_time to self.old.world }) }
-        ensures trail { OnOk result (Extends N.records trail.old.items self.old.world trail.new.items self.new.world) }
+        ensures trail { OnOk result (Extends N.records trail.old self.old.world trail.new self.new.world) }
     {
         trail.push(Compact::Timed(self.clock))?;
         self.clock = to;
@@ -71,7 +72,7 @@ impl<N: Node> Parts<N> {
         requires index { IsIndex index.old self.old.world }
         ensures world { OnOk result (self.new ≡ record self.old { world = after (rules N.laws N.PROBES sc.now) (Event.Fault fault) self.old.world }) }
         ensures stopped { IsTrue (is_for_stopped (Event.Fault fault) self.old.world) → IsOk result }
-        ensures trail { OnOk result (Extends N.records trail.old.items self.old.world trail.new.items self.new.world) }
+        ensures trail { OnOk result (Extends N.records trail.old self.old.world trail.new self.new.world) }
         ensures lawful { OnOk result (IsLawfulEvent N.told (rules N.laws N.PROBES sc.now) (Event.Fault fault) self.old.world) }
         ensures index { OnOk result (IsIndex index.new self.new.world) }
         ensures work { OnOk result (N.Meter.work meter.new ≡ turned_by (turns_of self.old.world (Event.Fault fault)) (N.Meter.work meter.old)) }
@@ -106,19 +107,29 @@ impl<N: Node> Parts<N> {
         ensures spent { OnOk result (effects.new ≡ effects.old) }
         ensures work { OnOk result (N.Meter.work meter.new ≡ turned_by (turns_of self.old.world event) (N.Meter.work meter.old)) }
     {
+        undo.trail.clear();
         match event {
             Event::Step => {
-                self.step(alloc, sc, index, effects, undo, meter)?;
+                self.step(
+                    alloc,
+                    sc,
+                    index,
+                    effects,
+                    &mut undo.taken,
+                    &mut undo.trail,
+                    &mut undo.beside,
+                    meter,
+                )?;
                 Ok(())
             }
             Event::Advance(to) => {
-                undo.clear();
+                undo.taken = None;
                 undo.beside = index.beside(0);
                 self.advance(&mut undo.trail, to)?;
                 Ok(())
             }
             Event::Fault(fault) => {
-                undo.clear();
+                undo.taken = None;
                 undo.beside = index.beside(stopped_by(fault));
                 self.fail(alloc, sc, index, &mut undo.trail, fault, meter)?;
                 Ok(())
@@ -181,6 +192,29 @@ impl<N: Node> Cluster<N> {
             &mut self.effects,
             undo,
             event,
+            meter,
+        )?;
+        self.age += 1;
+        Ok(())
+    }
+
+    // A step that can happen, of which no record is kept.
+    fn step_for_good(&mut self, alloc: Global, meter: &mut N::Meter) -> Result<(), NoMemory>
+        requires held { IsHeld N.told self.old }
+        requires can { refusal_of (rules N.laws N.PROBES self.old.scenario) event.Step self.old.parts.world ≡ None }
+        requires young { self.old.age < 65536 }
+        ensures held { OnOk result (IsHeld N.told self.new) }
+        ensures next { OnOk result (next (rules N.laws N.PROBES self.old.scenario) self.old.parts.world event.Step ≡ Some self.new.parts.world) }
+        ensures scenario { OnOk result (self.new.scenario ≡ self.old.scenario) }
+        ensures age { OnOk result (self.new.age ≡ self.old.age + 1) }
+        ensures stopped { IsFalse (acts self.old.parts.world event.Step) → IsOk result }
+        ensures work { OnOk result (N.Meter.work meter.new ≡ turned_if (acts self.old.parts.world event.Step) (N.Meter.work meter.old)) }
+    {
+        self.parts.step_for_good(
+            alloc,
+            &self.scenario,
+            &mut self.index,
+            &mut self.effects,
             meter,
         )?;
         self.age += 1;
@@ -264,6 +298,26 @@ impl<N: Node> World<N> {
         let World { mut cluster } = self;
         cluster.take_over(undo);
         cluster.apply(alloc, event, undo, meter)?;
+        Ok(World { cluster })
+    }
+
+    /// As `apply` of a step, of which no record is kept: it can't be taken back. It takes less time, and no memory for a record. The
+    /// only error is want of memory; nothing is left then.
+    pub fn step_for_good(
+        self,
+        alloc: Global,
+        meter: &mut N::Meter,
+    ) -> Result<World<N>, NoMemory>
+        requires can { IsSome (next (rules N.laws N.PROBES self.scenario) self.world event.Step) }
+        requires young { self.age < 65536 }
+        ensures next { IfOk result (λ w. next (rules N.laws N.PROBES self.scenario) self.world event.Step ≡ Some w.world) }
+        ensures stopped { IsFalse (acts self.world event.Step) → IsOk result }
+        ensures scenario { IfOk result (λ w. w.scenario ≡ self.scenario) }
+        ensures age { IfOk result (λ w. w.age ≡ self.age + 1) }
+        ensures work { OnOk result (N.Meter.work meter.new ≡ turned_if (acts self.world event.Step) (N.Meter.work meter.old)) }
+    {
+        let World { mut cluster } = self;
+        cluster.step_for_good(alloc, meter)?;
         Ok(World { cluster })
     }
 

@@ -41,8 +41,7 @@ returns-clause-held g c =
     let is = ap (λ z. z.world) v.world ∙ ap (λ s. after (rules laws probes s) c.args.event i.parts.world) c.deref.ensures in
     let law = subst (λ s. IsLawfulEvent told (rules laws probes s) c.args.event i.parts.world) c.deref.ensures v.lawful in
     record {
-      sound = applied_sound told laws probes i.scenario.value i.age i.parts.world held.sound g.N.Node.records c.event.new.self.world c.args.event
-          c.event.new.undo.changes young can is law v.trail;
+      sound = applied_sound told laws probes i.scenario.value i.age i.parts.world held.sound c.event.new.self.world c.args.event young can is law;
       index = v.index;
       seed = ap (λ z. z.seed) v.world ∙ held.seed;
       effects = v.spent ∙ held.effects;
@@ -61,9 +60,7 @@ returns-clause-clock g c =
     let is = ap (λ z. z.world) v.world ∙ ap (λ s. after (rules laws probes s) c.args.event i.parts.world) c.deref.ensures in
     let law = subst (λ s. IsLawfulEvent told (rules laws probes s) c.args.event i.parts.world) c.deref.ensures v.lawful in
     subst (λ k. c.event.new.self.world.clock ≡ clock_after c.args.event k.parts.world) c.self.view_is
-    (applied_clock told laws probes i.scenario.value i.age i.parts.world held.sound g.N.Node.records c.event.new.self.world c.args.event
-    c.event.new.undo.changes
-    young can is law v.trail)
+    (applied_clock told laws probes i.scenario.value i.age i.parts.world held.sound c.event.new.self.world c.args.event young can is law)
 
 pub returns-clause-on : goal.returns-clause-on
 returns-clause-on g c =
@@ -78,9 +75,7 @@ returns-clause-on g c =
     let is = ap (λ z. z.world) v.world ∙ ap (λ s. after (rules laws probes s) c.args.event i.parts.world) c.deref.ensures in
     let law = subst (λ s. IsLawfulEvent told (rules laws probes s) c.args.event i.parts.world) c.deref.ensures v.lawful in
     subst (λ k. k.parts.world.clock ≤ c.event.new.self.world.clock) c.self.view_is
-    (applied_on told laws probes i.scenario.value i.age i.parts.world held.sound g.N.Node.records c.event.new.self.world c.args.event
-    c.event.new.undo.changes
-    young can is law v.trail)
+    (applied_on told laws probes i.scenario.value i.age i.parts.world held.sound c.event.new.self.world c.args.event young can is law)
 
 pub returns-clause-leads : goal.returns-clause-leads
 returns-clause-leads g c =
@@ -99,7 +94,6 @@ returns-clause-leads g c =
     let lt : changing_host c.args.event i.parts.world < length i.parts.world.hosts = omega arith in
     subst (λ b. LeadsBack told g.N.Node.records (record { changes = c.event.new.undo.changes; beside = b })
     (record { world = c.event.new.self.world; scenario = i.scenario.value; age = i.age + 1 })) (sym v.beside)
-    (applied_leads told laws probes i.scenario.value i.age i.parts.world held.sound g.N.Node.records c.event.new.self.world c.args.event
-    c.event.new.undo.changes
-    young can is law v.trail
+    (applied_leads told laws probes i.scenario.value i.age i.parts.world held.sound c.event.new.self.world c.args.event young can is law
+    g.N.Node.records c.event.new.undo.changes v.trail
     i.index (changing_host c.args.event i.parts.world) held.index refl lt)
