@@ -18,6 +18,7 @@ pub mod HostSteps
 pub mod Indexes
 pub mod Looking
 pub mod LostIndex
+pub mod OtherHosts
 pub mod Others
 pub mod Packing
 pub mod Places

@@ -1,8 +1,8 @@
 //! Events of a world, forwards and backwards.
-ghost use Rattle.std.specs.Prelude.{◌≡◌, ℕ, ◌+◌, ◌-◌, ◌^◌, ◌<◌, ◌≤◌, [], ◌++◌, length, IfOk, OnOk, IsOk, IsTrue, IsFalse, IsSome, Some, None, slice_index_or, if◌then◌else◌};
+ghost use Rattle.std.specs.Prelude.{◌≡◌, ◌≢◌, ℕ, ◌+◌, ◌-◌, ◌^◌, ◌<◌, ◌≤◌, [], ◌++◌, length, IfOk, OnOk, IsOk, IsTrue, IsFalse, IsSome, Some, None, slice_index_or, if◌then◌else◌};
 ghost use Rattle.std.specs.List.{count_by};
 ghost use Rattle.sim_queue.specs.Pending.{first};
-ghost use Rattle.sim_world.specs.World.{at_time};
+ghost use Rattle.sim_world.specs.World.{at_time, host_at};
 ghost use Rattle.sim_world.specs.declared.Event.TheVariants as event;
 ghost use Rattle.sim_world.specs.Events.{rules, after, next, refusal_of, stepped};
 ghost use Rattle.sim_world.specs.Acts.{acts, reactions_of, turns_of, turned_by, turned_if};
@@ -198,19 +198,21 @@ impl<N: Node> Cluster<N> {
         Ok(())
     }
 
-    // A step that can happen, of which no record is kept.
-    fn step_for_good(&mut self, alloc: Global, meter: &mut N::Meter) -> Result<(), NoMemory>
+    // A step that can happen, of which no record is kept. Answers the host for which it was.
+    fn step_for_good(&mut self, alloc: Global, meter: &mut N::Meter) -> Result<u16, NoMemory>
         requires held { IsHeld N.told self.old }
         requires can { refusal_of (rules N.laws N.PROBES self.old.scenario) event.Step self.old.parts.world ≡ None }
         requires young { self.old.age < 65536 }
         ensures held { OnOk result (IsHeld N.told self.new) }
         ensures next { OnOk result (next (rules N.laws N.PROBES self.old.scenario) self.old.parts.world event.Step ≡ Some self.new.parts.world) }
+        ensures there { IfOk result (λ h. h < 32) }
+        ensures others { IfOk result (λ h. (k : ℕ) → k ≢ h → host_at k self.new.parts.world ≡ host_at k self.old.parts.world) }
         ensures scenario { OnOk result (self.new.scenario ≡ self.old.scenario) }
         ensures age { OnOk result (self.new.age ≡ self.old.age + 1) }
         ensures stopped { IsFalse (acts self.old.parts.world event.Step) → IsOk result }
         ensures work { OnOk result (N.Meter.work meter.new ≡ turned_if (acts self.old.parts.world event.Step) (N.Meter.work meter.old)) }
     {
-        self.parts.step_for_good(
+        let host = self.parts.step_for_good(
             alloc,
             &self.scenario,
             &mut self.index,
@@ -218,7 +220,7 @@ impl<N: Node> Cluster<N> {
             meter,
         )?;
         self.age += 1;
-        Ok(())
+        Ok(host)
     }
 
     // The event before is taken back, by the record that it gave.
@@ -301,24 +303,26 @@ impl<N: Node> World<N> {
         Ok(World { cluster })
     }
 
-    /// As `apply` of a step, of which no record is kept: it can't be taken back. It takes less time, and no memory for a record. The
-    /// only error is want of memory; nothing is left then.
+    /// As `apply` of a step, of which no record is kept: it can't be taken back. It takes less time, and no memory for a record. With
+    /// the world comes the host for which it was: all others are as they were. The only error is want of memory; nothing is left then.
     pub fn step_for_good(
         self,
         alloc: Global,
         meter: &mut N::Meter,
-    ) -> Result<World<N>, NoMemory>
+    ) -> Result<(World<N>, u16), NoMemory>
         requires can { IsSome (next (rules N.laws N.PROBES self.scenario) self.world event.Step) }
         requires young { self.age < 65536 }
-        ensures next { IfOk result (λ w. next (rules N.laws N.PROBES self.scenario) self.world event.Step ≡ Some w.world) }
+        ensures next { IfOk result (λ r. next (rules N.laws N.PROBES self.scenario) self.world event.Step ≡ Some r.0.world) }
+        ensures there { IfOk result (λ r. r.1 < 32) }
+        ensures others { IfOk result (λ r. (h : ℕ) → h ≢ r.1 → host_at h r.0.world ≡ host_at h self.world) }
         ensures stopped { IsFalse (acts self.world event.Step) → IsOk result }
-        ensures scenario { IfOk result (λ w. w.scenario ≡ self.scenario) }
-        ensures age { IfOk result (λ w. w.age ≡ self.age + 1) }
+        ensures scenario { IfOk result (λ r. r.0.scenario ≡ self.scenario) }
+        ensures age { IfOk result (λ r. r.0.age ≡ self.age + 1) }
         ensures work { OnOk result (N.Meter.work meter.new ≡ turned_if (acts self.world event.Step) (N.Meter.work meter.old)) }
     {
         let World { mut cluster } = self;
-        cluster.step_for_good(alloc, meter)?;
-        Ok(World { cluster })
+        let host = cluster.step_for_good(alloc, meter)?;
+        Ok((World { cluster }, host))
     }
 
     /// The world before an event, by the record that the event gave. One undo is counted where a node reacted in the event,
