@@ -9,7 +9,7 @@ use crate::places::{Finding, Piece};
 use crate::{Cond, holds};
 use sim_node::{NoMemory, Node};
 use sim_tape::{Frozen, Tape};
-use sim_world::{Event, Scenario, Undo, World};
+use sim_world::{Event, Scenario, World};
 use std::alloc::Global;
 
 // Whether a condition, which was checked, fails at the place of a warm tape.
@@ -98,20 +98,20 @@ pub fn scan_seed<N: Node>(
     ensures { IfOk result (λ found. found ≡ first_failing (rules N.laws N.PROBES scenario.now) cond.now (replicate events Event.Step) 0 events) }
 {
     let mut world = World::<N>::start(alloc, scenario, meter)?;
-    let mut record = Undo::empty(alloc);
+    if !holds(cond, &world) {
+        return Ok(Some(0));
+    }
+    let asked = cond.asked();
     for place in 0..events {
-        if !holds(cond, &world) {
-            return Ok(Some(place));
-        }
         match world.can(Event::Step) {
             Err(_) => return Ok(None),
             Ok(()) => {}
         }
-        world = world.apply_over(alloc, Event::Step, &mut record, meter)?;
+        let (next, host) = world.step_for_good(alloc, meter)?;
+        world = next;
+        if asked[host as usize] && !holds(cond, &world) {
+            return Ok(Some(place + 1));
+        }
     }
-    if holds(cond, &world) {
-        Ok(None)
-    } else {
-        Ok(Some(events))
-    }
+    Ok(None)
 }

@@ -1,6 +1,6 @@
 -- A step changes one host alone.
 use Rattle.std.specs.Prelude.{◌≡◌, ◌≢◌, ℕ, true, List, [], ◌∷◌, Option, Some, None}
-use Rattle.std.proofs.Common.{refl, ◌∙◌, subst}
+use Rattle.std.proofs.Common.{refl, ◌∙◌}
 use Rattle.std.proofs.lemmas.List.{get_or-set_other}
 use Rattle.sim_queue.specs.declared.Item.{Item}
 use Rattle.sim_queue.specs.Pending.{first, take}
@@ -11,7 +11,7 @@ use Rattle.sim_disk.specs.Disk as disk
 use Rattle.sim_streams.specs.Word.{stream_of}
 use Rattle.sim_node.specs.Effects.{Effect}
 use Rattle.sim_world.specs.declared.host.Host.{Host}
-use Rattle.sim_world.specs.World.{World, Body, Occurrence, input_of, host_at, stopped, drawn, with_host, with_node, with_disk, timed, held_back, made_stable}
+use Rattle.sim_world.specs.World.{World, Body, Occurrence, input_of, host_at, stopped, drawn, with_host, with_node, timed, held_back, made_stable}
 use Rattle.sim_world.specs.Events.{Rules, sent_over, effect, effects, reaction, happened_to, stepped_by, stepped, asked}
 use Rattle.sim_world.specs.Index.{first_host}
 use Rattle.sim_world.proofs.Sends.{sent_any, open_any, wrote_any}

@@ -1,5 +1,7 @@
+use Rattle.std.proofs.Common.{◌≡◌, true}
+use Rattle.sim_watch.specs.Condition.{holds}
 use Rattle.sim_watch.specs.Scanning.{IsStepping}
 use Rattle.sim_watch.proofs.scanning.scan_seed.Given as goal
 
 abbrev pub invariant-loop-place : goal.invariant-loop-place
-invariant-loop-place g l = IsStepping g.N.Node.laws g.N.Node.PROBES l.cond l.scenario l.events l.place l.world
+invariant-loop-place g l = IsStepping g.N.Node.laws g.N.Node.PROBES l.cond l.scenario l.events l.place l.world × (holds g.N.Node.laws l.cond l.world.world ≡ true)
