@@ -70,7 +70,7 @@ fn look_near<N: Node>(
     Ok(None)
 }
 
-// Goes forward by so many events, with a look at each place from the first on. What is found is the last.
+// Goes forward by so many events, with a look at each place from the first on, and keeps no record. What is found is the last.
 fn last_failing<N: Node>(
     alloc: Global,
     tape: &mut Tape<N>,
@@ -90,7 +90,7 @@ fn last_failing<N: Node>(
 {
     let mut last = found_here(tape, watches, end);
     for _ in 0..count {
-        tape.forward(alloc, 1, meter)?;
+        tape.pass(alloc, meter)?;
         if let Some(found) = found_here(tape, watches, end) {
             last = Some(found);
         }
@@ -108,8 +108,8 @@ fn stretch_below(high: u32, interval: u32, to: u32) -> u32
     max(to, high - 1 - (high - 1) % interval)
 }
 
-// Looks through the places below the tape's, down to `to`, by one stretch after the other: each from its checkpoint forward, so that no
-// world is made twice. Goes to the last place at which a watch fails, or to `to`.
+// Looks through the places below the tape's, down to `to`, by one stretch after the other: each from its checkpoint forward, without
+// records. Goes to the last place at which a watch fails, or to `to`.
 fn look_far<N: Node>(
     alloc: Global,
     tape: &mut Tape<N>,

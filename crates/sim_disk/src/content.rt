@@ -4,7 +4,7 @@ ghost use Rattle.sim_disk.specs.Disk as disk;
 ghost use Rattle.sim_disk.specs.Change.{disk_in};
 
 use crate::NoMemory;
-use crate::lay::{all_laid, append_all, copy_all, kept_laid};
+use crate::lay::{all_laid, append_all, copy_all, kept_laid, lay_all};
 use crate::write::Write;
 use std::alloc::Global;
 
@@ -59,6 +59,34 @@ impl Content {
         copy_all(&mut self.writes, rest)?;
         self.asked = was.asked - count;
         Ok(())
+    }
+
+    /// A sync of its first `count` writes came: they are laid over the stable bytes where these stand. After an error it can be anything.
+    pub(crate) fn settle(&mut self, count: u32) -> Result<(), NoMemory>
+        requires asked { count ≤ self.old.asked }
+        requires there { count ≤ length self.old.writes.items }
+        ensures { OnOk result (disk_in self.new ≡ disk.synced count (disk_in self.old)) }
+    {
+        let covered = count as usize;
+        if covered == self.writes.len() {
+            lay_all(&mut self.stable, self.writes.as_slice())?;
+            self.writes.clear();
+        } else {
+            let rest = self.writes.split_off(covered)?;
+            lay_all(&mut self.stable, self.writes.as_slice())?;
+            self.writes = rest;
+        }
+        self.asked -= count;
+        Ok(())
+    }
+
+    /// There are no bytes and no writes any more.
+    pub(crate) fn clear(&mut self)
+        ensures { disk_in self.new ≡ disk.empty_disk }
+    {
+        self.stable.clear();
+        self.writes.clear();
+        self.asked = 0;
     }
 
     /// Becomes what another content is once it crashed, by a word for each of its writes. After an error it can be anything.

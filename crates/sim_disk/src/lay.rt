@@ -60,15 +60,22 @@ fn set_to(bytes: &mut Vec<u8>, others: &[u8]) -> Result<(), NoMemory>
     Ok(())
 }
 
+// Lays writes in order over bytes. After an error some of them may be laid.
+pub(crate) fn lay_all(bytes: &mut Vec<u8>, writes: &[Write]) -> Result<(), NoMemory>
+    ensures { OnOk result (bytes.new.items ≡ disk.all_laid bytes.old.items writes.now) }
+{
+    for write in writes {
+        lay(bytes, write.offset(), write.bytes())?;
+    }
+    Ok(())
+}
+
 // Makes bytes what the writes are that are laid in order over others.
 pub(crate) fn all_laid(bytes: &mut Vec<u8>, over: &[u8], writes: &[Write]) -> Result<(), NoMemory>
     ensures { OnOk result (bytes.new.items ≡ disk.all_laid over.now writes.now) }
 {
     set_to(bytes, over)?;
-    for write in writes {
-        lay(bytes, write.offset(), write.bytes())?;
-    }
-    Ok(())
+    lay_all(bytes, writes)
 }
 
 // Makes bytes what the words keep of the writes, laid in order over others.

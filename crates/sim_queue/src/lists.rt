@@ -245,7 +245,7 @@ impl Lists {
         self.count -= 1;
         self.ends[(first.due % 256) as usize].first = first.next;
         self.marks.clear_if(first.next.is_none(), first.due);
-        let _ = self.free.push(place);
+        note_free(&mut self.free, place);
     }
 
     /// Takes out the node of a key, if its list leads to it.
@@ -321,7 +321,7 @@ impl Lists {
         self.nodes[before as usize] = Spot::of(Node { due, serial, next });
         self.nodes[place as usize] = Spot::free();
         self.count -= 1;
-        let _ = self.free.push(place);
+        note_free(&mut self.free, place);
         if next.is_none() {
             self.ends[list].last = before;
         }
@@ -397,6 +397,23 @@ impl Lists {
         }
         Some(place as u32)
     }
+}
+
+// Notes a place that is free again, where there is room.
+#[inline(always)]
+fn note_free(free: &mut Vec<u32>, place: u32) {
+    if free.len() < free.capacity() {
+        free.push_reserved(place);
+    } else {
+        note_in_more_room(free, place);
+    }
+}
+
+// Notes a place that is free again, where there is memory. Where there is none, it isn't used again.
+#[cold]
+#[inline(never)]
+fn note_in_more_room(free: &mut Vec<u32>, place: u32) {
+    let _ = free.push(place);
 }
 
 // Equal elements, in one piece.

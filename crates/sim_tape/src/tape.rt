@@ -262,6 +262,23 @@ impl<N: Node> Tape<N> {
         Ok(())
     }
 
+    /// Goes forward by an event of which no record is kept, nor of those before it: it takes less time than `forward`, and the reach is
+    /// 0 then. The only error is want of memory; the tape is cold then.
+    pub fn pass(&mut self, alloc: Global, meter: &mut N::Meter) -> Result<(), NoMemory>
+        requires warm { IsTrue self.old.warm }
+        requires more { self.old.place < length self.old.events }
+        ensures ok { OnOk result (self.new ≡ with_world true self.new.reach (at (self.old.place + 1) self.old)) }
+        ensures reach { self.new.reach ≡ 0 }
+        ensures work { OnOk result (OnlyTurns 1 (N.Meter.work meter.old) (N.Meter.work meter.new)) }
+        ensures err { OnErr result (self.new ≡ with_world self.new.warm self.new.reach self.old) }
+        ensures cold { OnErr result (self.new.warm ≡ false) }
+    {
+        self.walk
+            .pass(alloc, &self.log, self.place as usize, meter)?;
+        self.place += 1;
+        Ok(())
+    }
+
     /// Adds an event that can happen, at the end. The clock never goes back. On a tape that is warm a refused growth of the lists
     /// leaves it so. After another error the tape may be cold. The only error is want of memory.
     #[inline(always)]

@@ -65,6 +65,33 @@ fn copied<N: Node>(
     Ok(Some(shared_copy(alloc, world, meter)?))
 }
 
+// The world after an event that can happen, of which no record is kept.
+#[inline(always)]
+fn passed<N: Node>(
+    alloc: Global,
+    world: World<N>,
+    event: Event,
+    meter: &mut N::Meter,
+) -> Result<World<N>, NoMemory>
+    requires can { IsSome (next (rules N.laws N.PROBES world.scenario) world.world event) }
+    requires young { world.age < 65536 }
+    ensures next { IfOk result (λ w. next (rules N.laws N.PROBES world.scenario) world.world event ≡ Some w.world) }
+    ensures scenario { IfOk result (λ w. w.scenario ≡ world.scenario) }
+    ensures age { IfOk result (λ w. w.age ≡ world.age + 1) }
+    ensures work { OnOk result (OnlyTurns 1 (N.Meter.work meter.old) (N.Meter.work meter.new)) }
+{
+    match event {
+        Event::Step => {
+            let (after, _) = world.step_for_good(alloc, meter)?;
+            Ok(after)
+        }
+        Event::Advance(_) | Event::Fault(_) => {
+            let (after, _) = world.apply(alloc, event, meter)?;
+            Ok(after)
+        }
+    }
+}
+
 impl Log {
     // The world after the events from a place up to `to`, or up to the end of the segment that holds the place, whose records are
     // kept. It answers the place that it came to, too.
@@ -271,6 +298,35 @@ impl<N: Node> Walk<N> {
                 Err(refused)
             }
         }
+    }
+
+    /// Walks on by an event whose record is not kept, nor are those of the events before it. After an error, which can only be want
+    /// of memory, there is no world.
+    pub fn pass(
+        &mut self,
+        alloc: Global,
+        log: &Log,
+        place: usize,
+        meter: &mut N::Meter,
+    ) -> Result<(), NoMemory>
+        requires runs { IsRun (rules_in N.laws N.PROBES log.now) log.now.entries }
+        requires walk { IsWalkIn N.told N.records N.laws N.PROBES log.now place self.old.world self.old.ring.items }
+        requires warm { IsSome self.old.world }
+        requires within { place < length log.now.entries }
+        ensures ok { OnOk result (IsWalkIn N.told N.records N.laws N.PROBES log.now (place + 1) self.new.world []) }
+        ensures warm { OnOk result (IsSome self.new.world) }
+        ensures work { OnOk result (OnlyTurns 1 (N.Meter.work meter.old) (N.Meter.work meter.new)) }
+        ensures ring { self.new.ring ≡ buffer [] self.old.ring.capacity }
+        ensures err { OnErr result (self.new.world ≡ None) }
+    {
+        let Some(world) = self.world.take() else {
+            unreachable!()
+        };
+        self.ring.clear();
+        let event = log.entry(place).event;
+        let after = passed(alloc, world, event, meter)?;
+        self.world = Some(after);
+        Ok(())
     }
 
     /// Walks back by so many events, of which there are the records. After an error, which can only be want of memory, there is

@@ -101,7 +101,7 @@ pub fn scan_seed<N: Node>(
     if !holds(cond, &world) {
         return Ok(Some(0));
     }
-    let asked = cond.asked();
+    let concerned = cond.concerned();
     for place in 0..events {
         match world.can(Event::Step) {
             Err(_) => return Ok(None),
@@ -109,7 +109,7 @@ pub fn scan_seed<N: Node>(
         }
         let (next, host) = world.step_for_good(alloc, meter)?;
         world = next;
-        if asked[host as usize] && !holds(cond, &world) {
+        if concerned[host as usize] && !holds(cond, &world) {
             return Ok(Some(place + 1));
         }
     }

@@ -1,5 +1,6 @@
 pub mod Applied
 pub mod Arrivals
+pub mod Beginning
 pub mod Begun
 pub mod Bodies
 pub mod Changes

@@ -199,6 +199,7 @@ impl<N: Node> Cluster<N> {
     }
 
     // A step that can happen, of which no record is kept. Answers the host for which it was.
+    #[inline(always)]
     fn step_for_good(&mut self, alloc: Global, meter: &mut N::Meter) -> Result<u16, NoMemory>
         requires held { IsHeld N.told self.old }
         requires can { refusal_of (rules N.laws N.PROBES self.old.scenario) event.Step self.old.parts.world ≡ None }
@@ -216,6 +217,7 @@ impl<N: Node> Cluster<N> {
             alloc,
             &self.scenario,
             &mut self.index,
+            &mut self.forgetful,
             &mut self.effects,
             meter,
         )?;
@@ -305,6 +307,7 @@ impl<N: Node> World<N> {
 
     /// As `apply` of a step, of which no record is kept: it can't be taken back. It takes less time, and no memory for a record. With
     /// the world comes the host for which it was: all others are as they were. The only error is want of memory; nothing is left then.
+    #[inline(always)]
     pub fn step_for_good(
         self,
         alloc: Global,

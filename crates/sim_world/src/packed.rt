@@ -8,6 +8,7 @@ use crate::NoMemory;
 use crate::cluster::Cluster;
 use crate::copy::copied_occurrence;
 use crate::index::Index;
+use crate::kept::Trail;
 use crate::occurrence::Occurrence;
 use crate::packed_hosts::PackedHosts;
 use crate::parts::Parts;
@@ -146,6 +147,7 @@ impl<N: Node> PackedWorld<N> {
             scenario: Arc::try_clone(&self.scenario)?,
             age: self.age,
             spare: Vec::new(alloc),
+            forgetful: Trail::forgetful(alloc),
         };
         let cluster = Box::new(alloc, cluster)?;
         Ok(World { cluster })

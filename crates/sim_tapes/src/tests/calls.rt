@@ -80,6 +80,17 @@ pub fn forward<N: Node>(
     Ok(tape.forward(alloc, count, meter)?)
 }
 
+/// Goes forward by an event of which no record is kept.
+pub fn pass<N: Node>(alloc: Global, tape: &mut Tape<N>, meter: &mut N::Meter) -> Result<(), Fail> {
+    if !tape.warm() {
+        return Err(Fail::from("cold"));
+    }
+    if tape.len() <= tape.place() {
+        return Err(Fail::from("past the end"));
+    }
+    Ok(tape.pass(alloc, meter)?)
+}
+
 /// A tape of the first events.
 pub fn split<N: Node>(alloc: Global, tape: &Tape<N>, to: u32) -> Result<Tape<N>, Fail> {
     if tape.len() < to {

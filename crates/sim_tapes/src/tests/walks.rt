@@ -344,6 +344,30 @@ impl Walk {
         self.is_made_anew(self.place, before)
     }
 
+    // Goes forward by an event without a record, where there is one, and looks at the work.
+    fn pass(&mut self) -> Result<(), Fail> {
+        self.warm_up()?;
+        if self.place == self.plain.len() {
+            return Ok(());
+        }
+        let before = self.meter.counted();
+        calls::pass(self.alloc, &mut self.tape, &mut self.meter)?;
+        is_work(
+            self.meter.since(before),
+            1,
+            0,
+            0,
+            "the work of passing an event",
+        )?;
+        same(
+            &self.tape.reach(),
+            &0,
+            "the reach behind an event without a record",
+        )?;
+        self.is_put(self.place.saturating_add(1), true);
+        Ok(())
+    }
+
     // Sets the place alone.
     fn rest(&mut self, to: u32) -> Result<(), Fail> {
         calls::rest(&mut self.tape, to)?;
@@ -365,12 +389,13 @@ impl Walk {
             self.place.saturating_sub(near),
             self.place.saturating_add(near).min(len),
         );
-        match self.dice.below(8) {
+        match self.dice.below(9) {
             0 | 1 => self.go(back, Way::BackOrForward),
             2 => self.go(on, Way::BackOrForward),
             3 => self.go(any, Way::BackOrForward),
             4 | 5 => self.go(any, Way::Goto),
             6 => self.rest(any),
+            7 => self.pass(),
             _ => self.warm_up(),
         }
     }

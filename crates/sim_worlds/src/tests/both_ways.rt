@@ -80,6 +80,33 @@ fn walk<N: Node, R: Abort>(
     Ok(back)
 }
 
+// The same step for good leads an equal world to one that looks the same.
+fn is_passed<N: Node>(
+    rt: &impl Abort,
+    alloc: Global,
+    copy: World<N>,
+    next: &World<N>,
+    hosts: u16,
+    probes: u8,
+    meter: &mut N::Meter,
+) -> Result<(), Fail>
+    requires copy { copy.scenario.setup.hosts ≡ hosts }
+    requires next { next.now.scenario.setup.hosts ≡ hosts }
+    requires probes { probes ≤ N.PROBES }
+{
+    if 65_536 <= copy.age() {
+        return Err(Fail::from("too old"));
+    }
+    copy.can(Event::Step)?;
+    let (passed, host) = copy.step_for_good(alloc, meter)?;
+    assert!(rt; host < hosts);
+    assert_eq!(rt;
+        looks(alloc, &passed, hosts, probes)?,
+        looks(alloc, next, hosts, probes)?
+    );
+    Ok(())
+}
+
 /// Walks both ways from places that lie a few events after one another.
 pub fn walks<N: Node, R: Abort>(
     rt: &R,
@@ -99,7 +126,11 @@ pub fn walks<N: Node, R: Abort>(
         let depth = if round % 5 == 0 { 150 } else { 0 };
         let here = walk(rt, alloc, now, hosts, probes, &mut words, depth, meter)?;
         let event = chosen(&here, hosts, &mut words)?;
+        let copy = here.copy(alloc, meter)?;
         let (next, _undo) = applied(alloc, here, event, meter)?;
+        if matches!(event, Event::Step) {
+            is_passed(rt, alloc, copy, &next, hosts, probes, meter)?;
+        }
         now = next;
     }
     Ok(now)

@@ -10,14 +10,14 @@ loop-init g c = looking_none g.N.Node.laws g.N.Node.PROBES c.args.watches.now c.
 
 pub loop-preserved : goal.loop-preserved
 loop-preserved g c =
-    let is_at = λ (o : Option Found). IsLooking g.N.Node.laws g.N.Node.PROBES c.args.watches.now c.args.tape.now (c.loop.counter + 1) o c.forward.new.self in
+    let is_at = λ (o : Option Found). IsLooking g.N.Node.laws g.N.Node.PROBES c.args.watches.now c.args.tape.now (c.loop.counter + 1) o c.pass.new.self in
     elim c.match-found_here.branch [
       | in-Some w ↦ subst is_at (sym w.last-is)
-          (looking_found g.N.Node.laws g.N.Node.PROBES c.args.watches.now c.args.tape.now c.loop.tape c.forward.new.self c.loop.counter c.loop.last w.in-Some.found c.loop.invariant
-          c.in_ok-forward.ensures.ok (sym w.in-Some.is ∙ c.found_here.ensures))
+          (looking_found g.N.Node.laws g.N.Node.PROBES c.args.watches.now c.args.tape.now c.loop.tape c.pass.new.self c.loop.counter c.loop.last w.in-Some.found c.loop.invariant
+          c.in_ok-pass.ensures.ok (sym w.in-Some.is ∙ c.found_here.ensures))
       | in_default w ↦ subst is_at (sym w.last-is)
-          (looking_same g.N.Node.laws g.N.Node.PROBES c.args.watches.now c.args.tape.now c.loop.tape c.forward.new.self c.loop.counter c.loop.last c.found_here.result c.loop.invariant
-          c.in_ok-forward.ensures.ok w.in_default.is c.found_here.ensures)
+          (looking_same g.N.Node.laws g.N.Node.PROBES c.args.watches.now c.args.tape.now c.loop.tape c.pass.new.self c.loop.counter c.loop.last c.found_here.result c.loop.invariant
+          c.in_ok-pass.ensures.ok w.in_default.is c.found_here.ensures)
     ]
 
 pub returns-clause-last : goal.returns-clause-last

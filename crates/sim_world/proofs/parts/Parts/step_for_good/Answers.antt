@@ -1,10 +1,41 @@
-use Rattle.std.proofs.Common.{◌∙◌, sym, ap}
-use Rattle.sim_world.specs.World.{host_at}
-use Rattle.sim_world.specs.Events.{rules}
+use Rattle.std.proofs.Common.{sym, ap, ◌∙◌}
+use Rattle.sim_queue.specs.Pending.{first}
+use Rattle.sim_world.specs.World.{host_at, on_world}
+use Rattle.sim_world.specs.Events.{rules, happened, begun, stepped_by}
+use Rattle.sim_world.specs.Index.{first_host}
+use Rattle.sim_world.proofs.Beginning.{given_first}
 use Rattle.sim_world.proofs.OtherHosts.{host_after_step}
+use Rattle.sim_world.proofs.Plain.{seeded, world}
 use Rattle.sim_world.proofs.parts.Parts.step_for_good.Goals as goal
+
+pub happen-requires-clause-given : goal.happen-requires-clause-given
+happen-requires-clause-given g c =
+    let i = c.self.inside in
+    let p = c.args.self.now in
+    let x = c.in-Some.item in
+    let t = c.in-Some.ensures in
+    let o = c.occurrence.inside in
+    let n = c.forget.ensures in
+    let v = seeded i.streams.value.seed (world x.due i.streams.value.places c.take_first.new.self i.links i.hosts.items) in
+    let first_is = ap (λ z. first z.world.queue.items) (sym c.self.view_is) ∙ sym t.item in
+    let b = ap (λ q. seeded i.streams.value.seed (world x.due i.streams.value.places q i.links i.hosts.items)) t.rest ∙ ap (on_world (begun x)) c.self.view_is in
+    given_first g.N.Node.told c.args.sc.now p v x o.host o.covered o.input c.args.index.now c.forget.new.self c.args.effects.now
+    c.occurrence.view_is first_is b c.requires.seed c.requires.ready c.requires.index c.requires.spent n.in_flight n.held n.timers
 
 pub returns-clause-others : goal.returns-clause-others
 returns-clause-others g c = λ k apart.
-    ap (λ v. host_at k v.world) c.in_ok-step.ensures.world
-    ∙ host_after_step (rules g.N.Node.laws g.N.Node.PROBES c.args.sc.now) k c.args.self.now.world (λ e. apart (e ∙ sym (ap (λ b. b.host) c.in_ok-step.ensures.beside)))
+    let i = c.self.inside in
+    let rule = rules g.N.Node.laws g.N.Node.PROBES c.args.sc.now in
+    let w = c.args.self.now.world in
+    let x = c.in-Some.item in
+    let t = c.in-Some.ensures in
+    let now = world x.due i.streams.value.places c.take_first.new.self i.links i.hosts.items in
+    let first_is = ap (λ v. first v.world.queue.items) (sym c.self.view_is) ∙ sym t.item in
+    let host_is = ap first_host first_is ∙ sym (ap (λ z. z.host) c.occurrence.view_is) in
+    let b = ap (λ q. seeded i.streams.value.seed (world x.due i.streams.value.places q i.links i.hosts.items)) t.rest ∙ ap (on_world (begun x)) c.self.view_is in
+    let stepped_is =
+    ap (λ v. v.world) c.in_ok-happen.ensures.world
+    ∙ (ap (λ z. happened rule z now) c.occurrence.view_is
+    ∙ (ap (λ v. happened rule x.body v.world) b
+    ∙ ap (λ f. stepped_by rule f w) (sym first_is))) in
+    ap (host_at k) stepped_is ∙ host_after_step rule k w (λ e. apart (e ∙ host_is))
