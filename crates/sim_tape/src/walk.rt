@@ -65,10 +65,11 @@ fn copied<N: Node>(
     Ok(Some(shared_copy(alloc, world, meter)?))
 }
 
-// The world after an event that can happen, of which no record is kept.
+// The world after an event that can happen, of which no record is needed. What is in the ring is of no use then.
 #[inline(always)]
 fn passed<N: Node>(
     alloc: Global,
+    ring: &mut Ring<N>,
     world: World<N>,
     event: Event,
     meter: &mut N::Meter,
@@ -79,16 +80,14 @@ fn passed<N: Node>(
     ensures scenario { IfOk result (λ w. w.scenario ≡ world.scenario) }
     ensures age { IfOk result (λ w. w.age ≡ world.age + 1) }
     ensures work { OnOk result (OnlyTurns 1 (N.Meter.work meter.old) (N.Meter.work meter.new)) }
+    ensures capacity { ring.new.capacity ≡ ring.old.capacity }
 {
     match event {
         Event::Step => {
             let (after, _) = world.step_for_good(alloc, meter)?;
             Ok(after)
         }
-        Event::Advance(_) | Event::Fault(_) => {
-            let (after, _) = world.apply(alloc, event, meter)?;
-            Ok(after)
-        }
+        Event::Advance(_) | Event::Fault(_) => ring.apply(alloc, world, event, meter),
     }
 }
 
@@ -322,9 +321,10 @@ impl<N: Node> Walk<N> {
         let Some(world) = self.world.take() else {
             unreachable!()
         };
-        self.ring.clear();
         let event = log.entry(place).event;
-        let after = passed(alloc, world, event, meter)?;
+        let passed = passed(alloc, &mut self.ring, world, event, meter);
+        self.ring.clear();
+        let after = passed?;
         self.world = Some(after);
         Ok(())
     }

@@ -6,8 +6,8 @@ use Rattle.sim_tape.proofs.Placing.{can_play, passed_at, no_records}
 use Rattle.sim_tape.proofs.Turning.{walk_here}
 use Rattle.sim_tape.proofs.walk.Walk.pass.Goals as goal
 
-pub passed-requires-clause-can : goal.passed-requires-clause-can
-passed-requires-clause-can g c =
+pub passed-passed-requires-clause-can : goal.passed-passed-requires-clause-can
+passed-passed-requires-clause-can g c =
     let log = c.args.log.now in
     let old = c.args.self.now in
     let r = rules g.N.Node.laws g.N.Node.PROBES log.scenario in
