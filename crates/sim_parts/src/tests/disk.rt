@@ -1,5 +1,5 @@
 //! What a disk holds after writes, syncs and crashes, and after these are undone.
-ghost use Rattle.std.specs.Prelude.{◌≡◌, ◌+◌, ◌≤◌, IfOk};
+ghost use Rattle.std.specs.Prelude.{◌≡◌, ◌+◌, length, IfOk};
 
 use sim_disk::{Disk, NoMemory, PackedDisks, SpareDisks, WriteFault};
 use std::alloc::Global;
@@ -66,12 +66,14 @@ fn write_and_back(
     first == count && second == count
 }
 
-// The record is done with.
-fn sync(alloc: Global, disk: &mut Disk, spare: &mut SpareDisks) -> Result<u32, NoMemory> {
+// The record is done with. A sync for good of a copy leaves the same.
+fn sync(alloc: Global, disk: &mut Disk, spare: &mut SpareDisks) -> Result<Option<u32>, NoMemory> {
     let (count, _asked) = disk.ask();
+    let mut other = disk.copy(alloc)?;
     let synced = disk.sync(alloc, count, spare)?;
     synced.leave(spare);
-    Ok(count)
+    other.sync_for_good(count)?;
+    Ok(is(&other, disk.stable(), disk.unsynced()).then_some(count))
 }
 
 fn crash(
@@ -116,7 +118,7 @@ fn goes(
             Ok(write_and_back(disk, spare, offset, bytes, count))
         }
         Act::OutOfDisk(offset, bytes) => Ok(!write(disk, offset, bytes)?),
-        Act::Sync(count) => Ok(sync(alloc, disk, spare)? == count),
+        Act::Sync(count) => Ok(sync(alloc, disk, spare)? == Some(count)),
         Act::Crash(words) => crash(alloc, disk, spare, words),
         Act::CrashAndBack(words, stable) => crash_and_back(alloc, disk, spare, words, stable),
         Act::Is(stable, unsynced) => Ok(is(disk, stable, unsynced)),
@@ -132,8 +134,13 @@ fn walk(rt: &impl Abort, alloc: Global, disk: &mut Disk, acts: &[Act]) -> Result
     Ok(())
 }
 
-// Four stable bytes, all 0.
-const ZEROS: [Act; 3] = [Act::Write(0, &[0; 4]), Act::Sync(1), Act::Is(&[0; 4], 0)];
+// A disk of four stable bytes, all 0.
+fn zeros(rt: &impl Abort, alloc: Global) -> Result<Disk, NoMemory> {
+    let acts = [Act::Write(0, &[0; 4]), Act::Sync(1), Act::Is(&[0; 4], 0)];
+    let mut disk = Disk::new(alloc);
+    walk(rt, alloc, &mut disk, &acts)?;
+    Ok(disk)
+}
 
 #[test]
 fn torn_write(rt: HostRuntime) -> Result<(), Fail> {
@@ -146,8 +153,7 @@ fn torn_write(rt: HostRuntime) -> Result<(), Fail> {
         Act::Is(&[0; 4], 1),
         Act::Read(&[0x11, 0x22, 0x33, 0x44]),
     ];
-    let mut disk = Disk::new(rt.alloc());
-    walk(&rt, rt.alloc(), &mut disk, &ZEROS)?;
+    let mut disk = zeros(&rt, rt.alloc())?;
     Ok(walk(&rt, rt.alloc(), &mut disk, &acts)?)
 }
 
@@ -162,31 +168,25 @@ fn gap(rt: HostRuntime) -> Result<(), Fail> {
         Act::CrashAndBack(&[], &[0, 0, 0, 0, 0, 0, 7]),
         Act::Is(&[0, 0, 0, 0, 0, 0, 7], 0),
     ];
-    let mut disk = Disk::new(rt.alloc());
-    walk(&rt, rt.alloc(), &mut disk, &ZEROS)?;
+    let mut disk = zeros(&rt, rt.alloc())?;
     Ok(walk(&rt, rt.alloc(), &mut disk, &acts)?)
 }
 
-// Two writes, for each of which a sync asks: how many writes each of these covers. Where they do not cover all, 0.
-fn ask_twice(disk: &mut Disk) -> Result<(u32, u32), NoMemory>
-    ensures { IfOk result (λ counts. counts.0 + counts.1 ≤ disk.new.asked) }
+// A write for which a sync asks: how many writes this covers.
+fn write_and_ask(disk: &mut Disk, offset: u32, byte: u8) -> Result<u32, NoMemory>
+    ensures { IfOk result (λ count. disk.new.asked ≡ disk.old.asked + count) }
 {
-    write(disk, 0, &[1])?;
-    let (first, _asked) = disk.ask();
-    write(disk, 1, &[2])?;
-    let (second, _asked) = disk.ask();
-    if first.checked_add(second) != Some(disk.unsynced()) {
-        return Ok((0, 0));
-    }
-    Ok((first, second))
+    write(disk, offset, &[byte])?;
+    let (count, _asked) = disk.ask();
+    Ok(count)
 }
 
 #[test]
 fn syncs_in_flight(rt: HostRuntime) -> Result<(), Fail> {
     let alloc = rt.alloc();
-    let mut disk = Disk::new(alloc);
-    walk(&rt, alloc, &mut disk, &ZEROS)?;
-    let (first, second) = ask_twice(&mut disk)?;
+    let mut disk = zeros(&rt, alloc)?;
+    let first = write_and_ask(&mut disk, 0, 1)?;
+    let second = write_and_ask(&mut disk, 1, 2)?;
     assert_eq!(rt; (first, second), (1, 1));
     let mut spare = SpareDisks::new(alloc);
     let synced = disk.sync(alloc, first, &mut spare)?;
@@ -201,17 +201,25 @@ fn syncs_in_flight(rt: HostRuntime) -> Result<(), Fail> {
     Ok(())
 }
 
+// A disk with nothing on it and the other, side by side.
+fn beside_an_empty_one(alloc: Global, disk: &Disk) -> Result<PackedDisks, NoMemory>
+    ensures { IfOk result (λ packed. length packed ≡ 2) }
+{
+    let mut packed = PackedDisks::with_room(alloc, 2, 4, 2)?;
+    packed.push(&Disk::new(alloc))?;
+    packed.push(disk)?;
+    Ok(packed)
+}
+
 #[test]
 fn kept_side_by_side(rt: HostRuntime) -> Result<(), Fail> {
     let alloc = rt.alloc();
-    let mut disk = Disk::new(alloc);
-    walk(&rt, alloc, &mut disk, &ZEROS)?;
-    ask_twice(&mut disk)?;
-    let mut packed = PackedDisks::with_room(alloc, 2, 4, 2)?;
-    packed.push(&Disk::new(alloc))?;
-    packed.push(&disk)?;
-    assert!(rt; is(&packed.get(alloc, 0)?, &[], 0));
-    assert!(rt; is(&packed.get(alloc, 1)?, &[0; 4], 2));
+    let mut disk = zeros(&rt, alloc)?;
+    write_and_ask(&mut disk, 0, 1)?;
+    write_and_ask(&mut disk, 1, 2)?;
+    let packed = beside_an_empty_one(alloc, &disk)?;
+    let (empty, disk) = (packed.get(alloc, 0)?, packed.get(alloc, 1)?);
+    assert!(rt; is(&empty, &[], 0) && is(&disk, &[0; 4], 2));
     Ok(())
 }
 

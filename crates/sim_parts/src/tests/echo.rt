@@ -58,29 +58,49 @@ fn four_hosts() -> Setup
     }
 }
 
-/// The record of a reaction of one of four hosts, and what the host asks for first.
-/// Before that the host reacts in the same way and is taken back: it shows what it showed before.
-fn react<T: Meter>(
-    rt: &impl Abort,
+/// Whether one of four hosts, which reacts and is taken back, shows what it showed before.
+fn shows_the_same<T: Meter>(
+    alloc: Global,
+    node: &mut Echo<T>,
+    input: &Input<EchoMsg>,
+    meter: &mut T,
+) -> Result<bool, NoMemory>
+    requires hosts { node.old.setup.hosts ≡ 4 }
+    requires sender { IsFrom 4 input.now }
+    ensures { OnOk result (node.new ≡ node.old) }
+{
+    let shown = (node.probe(0), node.probe(1));
+    let mut effects = Effects::new(alloc, &four_hosts())?;
+    there_and_back(node, alloc, 0, input, 0, &mut effects, meter)?;
+    Ok((node.probe(0), node.probe(1)) == shown)
+}
+
+/// Whether the record of a reaction of one of four hosts, what the host asks for first and its two probes then are these.
+/// Before that the host reacts in the same way and is taken back.
+fn reacts<T: Meter>(
     alloc: Global,
     node: &mut Echo<T>,
     input: Input<EchoMsg>,
     meter: &mut T,
-) -> Result<(EchoUndo, Option<Effect<EchoMsg>>), NoMemory>
+    want: (EchoUndo, Option<Effect<EchoMsg>>, u64, u64),
+) -> Result<bool, NoMemory>
     requires hosts { node.old.setup.hosts ≡ 4 }
     requires sender { IsFrom 4 input }
     ensures { OnOk result (node.new.setup.hosts ≡ 4) }
 {
-    let shown = (node.probe(0), node.probe(1));
-    let mut effects = Effects::new(alloc, &four_hosts())?;
-    there_and_back(node, alloc, 0, &input, 0, &mut effects, meter)?;
-    assert_eq!(rt; (node.probe(0), node.probe(1)), shown);
-
+    let is_same = shows_the_same(alloc, node, &input, meter)?;
     let mut effects = Effects::new(alloc, &four_hosts())?;
     let undo = node.act(alloc, 0, &input, 0, &mut effects, meter)?;
     let first = effects.take_first();
-    assert_eq!(rt; effects.len(), 0);
-    Ok((undo, first))
+    let seen = (undo, first, node.probe(0), node.probe(1));
+    Ok(is_same && effects.len() == 0 && seen == want)
+}
+
+fn ping(n: u64) -> Option<Effect<EchoMsg>> {
+    Some(Effect::Send {
+        to: 1,
+        msg: EchoMsg::Ping(n),
+    })
 }
 
 #[test]
@@ -88,34 +108,22 @@ fn a_client_goes_by_its_rows(rt: HostRuntime) -> Result<(), Fail> {
     let alloc = rt.alloc();
     let mut meter = Counts::new(&rt);
     let mut node = Echo::boot(alloc, &four_hosts(), 3, &[9], &mut meter)?;
-    let (undo, asked) = react(&rt, alloc, &mut node, Input::Start, &mut meter)?;
-    assert_eq!(rt; undo, EchoUndo::Next(0));
-    assert_eq!(rt;
-        asked,
-        Some(Effect::Send {
-            to: 1,
-            msg: EchoMsg::Ping(1)
-        })
-    );
-
-    let ping = Effect::Send {
-        to: 1,
-        msg: EchoMsg::Ping(2),
-    };
+    let want = (EchoUndo::Next(0), ping(1), 1, 0);
+    assert!(rt; reacts(alloc, &mut node, Input::Start, &mut meter, want)?);
     let rows = [
-        (2, EchoUndo::Nothing, 1, None),
-        (1, EchoUndo::Next(1), 2, Some(ping)),
-        (2, EchoUndo::Next(2), 3, Some(Effect::Done)),
+        (2, (EchoUndo::Nothing, None, 1, 0)),
+        (1, (EchoUndo::Next(1), ping(2), 2, 0)),
+        (2, (EchoUndo::Next(2), Some(Effect::Done), 3, 0)),
     ];
-    for (n, record, next, effect) in rows {
+    for (n, want) in rows {
         let pong = Input::Message {
             sender: 1,
             msg: EchoMsg::Pong(n),
         };
-        let (undo, asked) = react(&rt, alloc, &mut node, pong, &mut meter)?;
-        assert_eq!(rt; undo, record, "pong {n}");
-        assert_eq!(rt; asked, effect, "pong {n}");
-        assert_eq!(rt; node.probe(0), next, "pong {n}");
+        assert!(rt;
+            reacts(alloc, &mut node, pong, &mut meter, want)?,
+            "pong {n}"
+        );
     }
     assert_eq!(rt; (meter.turns, meter.copies, meter.undos), (9, 0, 4));
     Ok(())
@@ -126,24 +134,18 @@ fn a_server_goes_by_its_row(rt: HostRuntime) -> Result<(), Fail> {
     let alloc = rt.alloc();
     let mut meter = Counts::new(&rt);
     let mut node = Echo::boot(alloc, &four_hosts(), 0, &[], &mut meter)?;
-
     let ping = Input::Message {
         sender: 3,
         msg: EchoMsg::Ping(7),
     };
-    let (undo, asked) = react(&rt, alloc, &mut node, ping, &mut meter)?;
-    assert_eq!(rt; undo, EchoUndo::Served(0));
-    assert_eq!(rt;
-        asked,
-        Some(Effect::Send {
-            to: 3,
-            msg: EchoMsg::Pong(7)
-        })
-    );
-
-    let (undo, asked) = react(&rt, alloc, &mut node, Input::Synced, &mut meter)?;
-    assert_eq!(rt; undo, EchoUndo::Nothing);
-    assert_eq!(rt; asked, None);
+    let pong = Effect::Send {
+        to: 3,
+        msg: EchoMsg::Pong(7),
+    };
+    let want = (EchoUndo::Served(0), Some(pong), 0, 1);
+    assert!(rt; reacts(alloc, &mut node, ping, &mut meter, want)?);
+    let want = (EchoUndo::Nothing, None, 0, 1);
+    assert!(rt; reacts(alloc, &mut node, Input::Synced, &mut meter, want)?);
 
     let copy = node.copy(alloc, &mut meter)?;
     assert_eq!(rt; (copy.probe(0), copy.probe(1)), (0, 1));

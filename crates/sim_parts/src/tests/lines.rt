@@ -1,5 +1,5 @@
 use sim_lines::{Ahead, HeadFault, NextLine, Outlet, next_line, put, read_head};
-use std::alloc::Global;
+use std::alloc::{AllocError, Global};
 use std::io;
 use std::io::{ErrorKind, Read, Write};
 use std::test::Fail;
@@ -51,6 +51,32 @@ impl Write for Narrow {
     }
 }
 
+// How an input ended, if it did.
+fn ended(next: NextLine) -> Option<&'static str> {
+    match next {
+        NextLine::Line => None,
+        NextLine::Last => Some("last"),
+        NextLine::End => Some("end"),
+        NextLine::Failed => Some("failed"),
+        NextLine::NoMemory => Some("no memory"),
+    }
+}
+
+// The next line of an input, put at the text's end with a bar after it, and how the input ended, if it did.
+fn add_line<R: Read>(
+    reader: &mut R,
+    ahead: &mut Ahead,
+    line: &mut Vec<u8>,
+    text: &mut Vec<u8>,
+) -> Result<Option<&'static str>, AllocError> {
+    let next = next_line(reader, ahead, line);
+    if matches!(next, NextLine::Line | NextLine::Last) {
+        text.extend_from_slice(line.as_slice())?;
+        text.push(b'|')?;
+    }
+    Ok(ended(next))
+}
+
 /// The head and the lines of an input, each with a bar after it, and how the input ended.
 fn cut<R: Read>(alloc: Global, reader: &mut R) -> Result<(Vec<u8>, &'static str), Fail> {
     let mut ahead = Ahead::new();
@@ -62,18 +88,7 @@ fn cut<R: Read>(alloc: Global, reader: &mut R) -> Result<(Vec<u8>, &'static str)
     text.push(b'|')?;
     let mut line = Vec::new(alloc);
     for _ in 0..100 {
-        let end = match next_line(reader, &mut ahead, &mut line) {
-            NextLine::Line => "",
-            NextLine::Last => "last",
-            NextLine::End => "end",
-            NextLine::Failed => "failed",
-            NextLine::NoMemory => "no memory",
-        };
-        if end == "" || end == "last" {
-            text.extend_from_slice(line.as_slice())?;
-            text.push(b'|')?;
-        }
-        if end != "" {
+        if let Some(end) = add_line(reader, &mut ahead, &mut line, &mut text)? {
             return Ok((text, end));
         }
     }

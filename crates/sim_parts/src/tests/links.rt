@@ -78,9 +78,31 @@ fn walk(
     Ok(())
 }
 
-const HELD: [Act; 3] = [Act::Change(Change::Hold, &[]), Act::Keep(7), Act::Keep(8)];
+// Links of which the direction is held, and holds two messages.
+fn held(rt: &impl Abort, alloc: Global) -> Result<Links<u32>, NoMemory> {
+    let acts = [Act::Change(Change::Hold, &[]), Act::Keep(7), Act::Keep(8)];
+    let mut links = Links::new(alloc)?;
+    walk(rt, alloc, &mut links, &acts)?;
+    Ok(links)
+}
 
-const CUT: [Act; 1] = [Act::Change(Change::Cut, &[])];
+// Links of which the direction is cut.
+fn cut(rt: &impl Abort, alloc: Global) -> Result<Links<u32>, NoMemory> {
+    let mut links = Links::new(alloc)?;
+    walk(rt, alloc, &mut links, &[Act::Change(Change::Cut, &[])])?;
+    Ok(links)
+}
+
+// Ends the test where the direction is not held with two messages, or another is not open; it takes the newest message.
+fn take_held(rt: &impl Abort, alloc: Global, links: &mut Links<u32>) -> Result<(), NoMemory> {
+    assert!(rt; others_are_open(links));
+    walk(
+        rt,
+        alloc,
+        links,
+        &[Act::Is(LinkState::Held, 2), Act::Unkeep(8)],
+    )
+}
 
 #[test]
 fn an_open_direction_by_the_table(rt: HostRuntime) -> Result<(), Fail> {
@@ -108,8 +130,7 @@ fn a_held_direction_by_the_table(rt: HostRuntime) -> Result<(), Fail> {
         Act::Unkeep(7),
         Act::Is(LinkState::Held, 0),
     ];
-    let mut links = Links::new(rt.alloc())?;
-    walk(&rt, rt.alloc(), &mut links, &HELD)?;
+    let mut links = held(&rt, rt.alloc())?;
     Ok(walk(&rt, rt.alloc(), &mut links, &acts)?)
 }
 
@@ -122,8 +143,7 @@ fn a_cut_direction_by_the_table(rt: HostRuntime) -> Result<(), Fail> {
         Act::ChangeAndBack(Change::Repair, &[], LinkState::Through, 0),
         Act::Is(LinkState::Cut, 0),
     ];
-    let mut links = Links::new(rt.alloc())?;
-    walk(&rt, rt.alloc(), &mut links, &CUT)?;
+    let mut links = cut(&rt, rt.alloc())?;
     Ok(walk(&rt, rt.alloc(), &mut links, &acts)?)
 }
 
@@ -140,8 +160,7 @@ fn others_are_open(links: &Links<u32>) -> bool {
 
 #[test]
 fn other_directions_stay(rt: HostRuntime) -> Result<(), Fail> {
-    let mut links = Links::new(rt.alloc())?;
-    walk(&rt, rt.alloc(), &mut links, &HELD)?;
+    let mut links = held(&rt, rt.alloc())?;
     assert!(rt; others_are_open(&links));
     walk(
         &rt,
@@ -155,16 +174,9 @@ fn other_directions_stay(rt: HostRuntime) -> Result<(), Fail> {
 
 #[test]
 fn a_copy_is_equal(rt: HostRuntime) -> Result<(), Fail> {
-    let mut links = Links::new(rt.alloc())?;
-    walk(&rt, rt.alloc(), &mut links, &HELD)?;
+    let mut links = held(&rt, rt.alloc())?;
     let mut copy = links.copy(rt.alloc(), |message: &u32| Ok(*message))?;
-    assert!(rt; others_are_open(&copy));
-    walk(
-        &rt,
-        rt.alloc(),
-        &mut copy,
-        &[Act::Is(LinkState::Held, 2), Act::Unkeep(8)],
-    )?;
+    take_held(&rt, rt.alloc(), &mut copy)?;
     walk(&rt, rt.alloc(), &mut links, &[Act::Is(LinkState::Held, 2)])?;
     Ok(())
 }
@@ -172,18 +184,10 @@ fn a_copy_is_equal(rt: HostRuntime) -> Result<(), Fail> {
 #[test]
 fn kept_for_later(rt: HostRuntime) -> Result<(), Fail> {
     let alloc = rt.alloc();
-    let mut links = Links::new(alloc)?;
-    walk(&rt, alloc, &mut links, &HELD)?;
+    let links = held(&rt, alloc)?;
     let packed = links.pack(alloc, |message: &u32| Ok(*message))?;
     let mut opened = packed.open(alloc, |message: &u32| Ok(*message))?;
-    assert!(rt; others_are_open(&opened));
-    walk(
-        &rt,
-        alloc,
-        &mut opened,
-        &[Act::Is(LinkState::Held, 2), Act::Unkeep(8)],
-    )?;
-    Ok(())
+    Ok(take_held(&rt, alloc, &mut opened)?)
 }
 
 // Messages that a trait copies.
@@ -206,8 +210,7 @@ fn copy_of<M: Message>(alloc: Global, links: &Links<M>) -> Result<Links<M>, NoMe
 
 #[test]
 fn a_copy_by_a_trait_is_equal(rt: HostRuntime) -> Result<(), Fail> {
-    let mut links = Links::new(rt.alloc())?;
-    walk(&rt, rt.alloc(), &mut links, &CUT)?;
+    let mut links = cut(&rt, rt.alloc())?;
     let copy = copy_of(rt.alloc(), &links)?;
     assert!(rt; is_in(&copy, LinkState::Cut, 0));
     Ok(())

@@ -1,5 +1,5 @@
 //! The order in which items are taken, and that each change is taken back.
-ghost use Rattle.std.specs.Prelude.{◌≡◌};
+ghost use Rattle.std.specs.Prelude.{◌≡◌, IfOk};
 
 use sim_queue::{Item, NoMemory, Queue};
 use std::alloc::Global;
@@ -132,17 +132,23 @@ fn walk(rt: &impl Abort, queue: &mut Queue<char>, acts: &[Act]) -> Result<(), No
     Ok(())
 }
 
-// From four items on the acts, and then what is left.
-fn walk_from_four(
-    rt: &impl Abort,
-    alloc: Global,
-    acts: &[Act],
-    left: &[Act],
-) -> Result<(), NoMemory> {
+// A queue of the four items.
+fn four(rt: &impl Abort, alloc: Global) -> Result<Queue<char>, NoMemory> {
     let mut queue = Queue::new(alloc);
     walk(rt, &mut queue, &FOUR)?;
+    Ok(queue)
+}
+
+// Ends the test where the queue is not one of exactly the four items; it takes them.
+fn take_four(rt: &impl Abort, queue: &mut Queue<char>) -> Result<(), NoMemory> {
+    walk(rt, queue, &HAS_FOUR)
+}
+
+// The acts on a queue of the four items.
+fn walk_from_four(rt: &impl Abort, alloc: Global, acts: &[Act]) -> Result<Queue<char>, NoMemory> {
+    let mut queue = four(rt, alloc)?;
     walk(rt, &mut queue, acts)?;
-    walk(rt, &mut queue, left)
+    Ok(queue)
 }
 
 const LOOKS: [Act; 7] = [
@@ -157,7 +163,8 @@ const LOOKS: [Act; 7] = [
 
 #[test]
 fn looks(rt: HostRuntime) -> Result<(), Fail> {
-    Ok(walk_from_four(&rt, rt.alloc(), &LOOKS, &[])?)
+    walk_from_four(&rt, rt.alloc(), &LOOKS)?;
+    Ok(())
 }
 
 const INSERTIONS_TAKEN_BACK: [Act; 3] = [
@@ -168,7 +175,8 @@ const INSERTIONS_TAKEN_BACK: [Act; 3] = [
 
 #[test]
 fn insertions_taken_back(rt: HostRuntime) -> Result<(), Fail> {
-    Ok(walk_from_four(&rt, rt.alloc(), &INSERTIONS_TAKEN_BACK, &HAS_FOUR)?)
+    let mut queue = walk_from_four(&rt, rt.alloc(), &INSERTIONS_TAKEN_BACK)?;
+    Ok(take_four(&rt, &mut queue)?)
 }
 
 const TAKING_TAKEN_BACK: [Act; 5] = [
@@ -181,7 +189,8 @@ const TAKING_TAKEN_BACK: [Act; 5] = [
 
 #[test]
 fn taking_taken_back(rt: HostRuntime) -> Result<(), Fail> {
-    Ok(walk_from_four(&rt, rt.alloc(), &TAKING_TAKEN_BACK, &HAS_FOUR)?)
+    let mut queue = walk_from_four(&rt, rt.alloc(), &TAKING_TAKEN_BACK)?;
+    Ok(take_four(&rt, &mut queue)?)
 }
 
 const SEARCHES: [Act; 7] = [
@@ -196,7 +205,8 @@ const SEARCHES: [Act; 7] = [
 
 #[test]
 fn searches(rt: HostRuntime) -> Result<(), Fail> {
-    Ok(walk_from_four(&rt, rt.alloc(), &SEARCHES, &[])?)
+    walk_from_four(&rt, rt.alloc(), &SEARCHES)?;
+    Ok(())
 }
 
 #[test]
@@ -215,41 +225,63 @@ fn put_back_before_all_others(rt: HostRuntime) -> Result<(), Fail> {
     Ok(walk(&rt, &mut Queue::new(rt.alloc()), &acts)?)
 }
 
+fn same(body: &char) -> Result<char, NoMemory>
+    ensures { IfOk result (λ copy. copy ≡ body.now) }
+{
+    Ok(*body)
+}
+
+fn none(_body: &char) -> Result<char, NoMemory>
+    ensures { IfOk result (λ copy. copy ≡ _body.now) }
+{
+    Err(NoMemory)
+}
+
+// Whether a queue of which no body can be copied is neither copied nor kept, nor opened where it is kept.
+fn wants_bodies(alloc: Global, queue: &Queue<char>) -> Result<bool, NoMemory> {
+    let packed = queue.pack(alloc, same)?;
+    Ok(
+        queue.copy(alloc, none).is_err()
+            && queue.pack(alloc, none).is_err()
+            && packed.open(alloc, none).is_err(),
+    )
+}
+
+// A copy of a queue of four items, which is dropped.
+fn copied(rt: &impl Abort, alloc: Global) -> Result<Queue<char>, NoMemory> {
+    four(rt, alloc)?.copy(alloc, same)
+}
+
+// A queue of four items as it was kept.
+fn opened(rt: &impl Abort, alloc: Global) -> Result<Queue<char>, NoMemory> {
+    let packed = four(rt, alloc)?.pack(alloc, same)?;
+    packed.open(alloc, same)
+}
+
 #[test]
 fn copies(rt: HostRuntime) -> Result<(), Fail> {
-    let mut queue = Queue::new(rt.alloc());
-    walk(&rt, &mut queue, &FOUR)?;
-    let mut copied = queue.copy(rt.alloc(), |body| Ok(*body))?;
-    assert!(rt; queue.copy(rt.alloc(), |_body| Err(NoMemory)).is_err());
-    walk(
-        &rt,
-        &mut queue,
-        &[Act::TakeFirst(Some((10, 1, 'b'))), Act::Counts(3, 4)],
-    )?;
-    walk(&rt, &mut copied, &HAS_FOUR)?;
+    let mut queue = copied(&rt, rt.alloc())?;
+    Ok(take_four(&rt, &mut queue)?)
+}
+
+#[test]
+fn no_copy_without_bodies(rt: HostRuntime) -> Result<(), Fail> {
+    let queue = four(&rt, rt.alloc())?;
+    assert!(rt; wants_bodies(rt.alloc(), &queue)?);
     Ok(())
 }
 
 #[test]
 fn kept_for_later(rt: HostRuntime) -> Result<(), Fail> {
-    let alloc = rt.alloc();
-    let mut queue = Queue::new(alloc);
-    walk(&rt, &mut queue, &FOUR)?;
-    assert!(rt; queue.pack(alloc, |_body| Err(NoMemory)).is_err());
-    let packed = queue.pack(alloc, |body| Ok(*body))?;
-    assert!(rt; packed.open(alloc, |_body| Err(NoMemory)).is_err());
-    let mut opened = packed.open(alloc, |body| Ok(*body))?;
-    walk(&rt, &mut opened, &HAS_FOUR)?;
-    Ok(())
+    let mut queue = opened(&rt, rt.alloc())?;
+    Ok(take_four(&rt, &mut queue)?)
 }
 
 #[test]
 fn many_dead_keys(rt: HostRuntime) -> Result<(), Fail> {
-    let mut queue = Queue::new(rt.alloc());
-    walk(&rt, &mut queue, &FOUR)?;
+    let mut queue = four(&rt, rt.alloc())?;
     for due in 100..400 {
         insert_and_back(&mut queue, due, 'e')?;
     }
-    walk(&rt, &mut queue, &HAS_FOUR)?;
-    Ok(())
+    Ok(take_four(&rt, &mut queue)?)
 }
