@@ -1,10 +1,10 @@
 -- How links are packed, place after place, and what those are that were never touched.
 use Rattle.std.proofs.Common.{◌≡◌, ℕ, suc, ◌+◌, ◌-◌, ◌<◌, List, [], ◌∷◌, ◌++◌, sym, ap, ◌∙◌, get_or, set, length, take, drop, replicate, arith}
-use Rattle.std.proofs.lemmas.List.{append_assoc, ext_get_or, get_or-drop, get_or-map, length-drop, length-map, length-replicate, length-take-le, set_at, take-append-drop, take_more}
+use Rattle.std.proofs.lemmas.List.{append_assoc, ext_get_or, get_or-drop, get_or-map, length-drop, length-replicate, length-take-le, set_at, take-append-drop, take_more}
 use Rattle.sim_links.specs.Link.{Link, open_link}
 use Rattle.sim_links.specs.Table.{links_in, IsSound}
 use Rattle.sim_links.specs.declared.table.Table.{Table}
-use Rattle.sim_links.proofs.Slots.{get_or-same}
+use Rattle.sim_links.proofs.Slots.{get_or-same, whole}
 
 module _ {X : Type 0} where
   -- a list up to a place and d from there on, of which the next place gets what it has in the list
@@ -18,9 +18,6 @@ module _ {X : Type 0} where
       ∙ append_assoc (take i xs) (x ∷ []) (replicate (n - (i + 1)) d))
 
 module _ {M : Type 0} where
-  pub whole : (t : Table M) → IsSound t → length (links_in t) ≡ 1024
-  whole t sound = length-map t.slots.items (λ s. get_or t.touched.items s open_link) ∙ sound.whole
-
   -- from a place on all are open
   pub rest_open : (t : Table M) → IsSound t → take t.past (links_in t) ++ replicate (1024 - t.past) open_link ≡ links_in t
   rest_open t sound =

@@ -1,11 +1,13 @@
 -- The slots of directions, and what they stand for.
-use Rattle.std.proofs.Common.{◌≡◌, ◌==◌, ◌⊎◌, ℕ, zero, suc, ◌<◌, List, [], ◌∷◌, ◌++◌, cond, inl, inr, refl, sym, ap, ◌∙◌, subst, get_or, set, length, map, replicate, arith}
+use Rattle.std.proofs.Common.{◌≡◌, ◌==◌, ◌⊎◌, ℕ, zero, suc, ◌+◌, ◌<◌, ◌≤◌, List, [], ◌∷◌, ◌++◌, cond, inl, inr, refl, sym, ap, ◌∙◌, subst, max, take, get_or, set, length, map, replicate, arith}
+use Rattle.std.proofs.lemmas.Bool.Decides.{nat_tests}
 use Rattle.std.proofs.Math.ListN.{length-set}
 use Rattle.std.proofs.Math.Seq.{map-set_same}
 use Rattle.std.proofs.lemmas.Bool.{cases_eq}
-use Rattle.std.proofs.lemmas.List.{same_lists, get_or-map, length-map, length-replicate, get_or-replicate, get_or_default, get_or-set_same, get_or-set_other, get_or_past}
-use Rattle.std.proofs.lemmas.List.Elements.{All-get_or, All-replicate}
+use Rattle.std.proofs.lemmas.List.{same_lists, get_or-map, length-append, length-map, length-replicate, get_or-replicate, get_or_default, get_or-set_same, get_or-set_other, get_or_past, get_or_read_under, take_all}
+use Rattle.std.proofs.lemmas.List.Elements.{All-get_or, All-replicate, All-set, All-weaker}
 use Rattle.std.proofs.lemmas.List.Folds.{sum_by-replicate}
+use Rattle.std.proofs.lemmas.List.Sums.{sum_by-set}
 use Rattle.std.specs.Vec.{with_item}
 use Rattle.sim_links.specs.Link.{Link, Links, open_link}
 use Rattle.sim_links.specs.Table.{links_in, slot_at, AreSlots, IsSound}
@@ -28,6 +30,31 @@ slots_new n = record {
   where
     none : (p : ℕ) → p < n → 0 < get_or (replicate n 0) p 0 → ⊥
     none p inside own = omega (arith, own, get_or-replicate {A = ℕ} n p 0 0 inside)
+
+-- slots in which a place that had none got the next one
+pub slots_taken : (slots : List ℕ) (p n : ℕ) → AreSlots slots n → p < length slots → get_or slots p 0 ≡ 0 → AreSlots (set slots p n) (n + 1)
+slots_taken slots p n are inside none = record {
+  below = All-set (λ slot. slot < n + 1) slots p n (omega arith) (All-weaker (λ slot. slot < n) (λ slot. slot < n + 1) (λ slot less. omega arith) slots are.below);
+  apart = λ i j i_in j_in own same. apart i j (rw length-set at i_in) (rw length-set at j_in) own same (cases_eq i p) (cases_eq j p);
+  free = omega (arith, are.free, sum_by-set in_none slots p n 0 inside, ap in_none none, length-set slots p n, used n (omega (arith, below_at slots n p are inside)));
+}
+  where
+    used : (slot : ℕ) → 0 < slot → in_none slot ≡ 0
+    used slot own = grind (arith, nat_tests)
+
+    new : (i : ℕ) → i ≡ p → get_or (set slots p n) i 0 ≡ n
+    new i at = ap (λ k. get_or (set slots p n) k 0) at ∙ get_or-set_same slots p n 0 inside
+
+    old : (i : ℕ) → (i ≡ p → ⊥) → get_or (set slots p n) i 0 ≡ get_or slots i 0
+    old i off = get_or-set_other slots p i n 0 off
+
+    apart : (i j : ℕ) → i < length slots → j < length slots → 0 < get_or (set slots p n) i 0 → get_or (set slots p n) i 0 ≡ get_or (set slots p n) j 0
+        → (i ≡ p) ⊎ (i ≡ p → ⊥) → (j ≡ p) ⊎ (j ≡ p → ⊥) → i ≡ j
+    apart i j i_in j_in own same (inl at) (inl at_too) = at ∙ sym at_too
+    apart i j i_in j_in own same (inl at) (inr off) = absurd (omega (arith, same, new i at, old j off, below_at slots n j are j_in))
+    apart i j i_in j_in own same (inr off) (inl at) = absurd (omega (arith, same, old i off, new j at, below_at slots n i are i_in))
+    apart i j i_in j_in own same (inr off) (inr off_too) =
+        are.apart i j i_in j_in (subst (λ k. 0 < k) (old i off) own) (sym (old i off) ∙ same ∙ old j off_too)
 
 module _ {X : Type 0} where
   pub get_or-same : (n i : ℕ) (d : X) → get_or (replicate n d) i d ≡ d
@@ -88,7 +115,26 @@ pub record IsTouched {M : Type 0} (t : Table M) (links : Links M) (i slot : ℕ)
   pub at : slot ≡ slot_at i t
   pub own : 0 < slot
 
+pub record IsCopy {M : Type 0} (t u : Table M) : Type 0 where
+  pub same : links_in u ≡ links_in t
+  pub sound : IsSound u
+
 module _ {M : Type 0} where
+  -- a table of the same slots and directions
+  same_parts : (t u : Table M) → u.slots.items ≡ t.slots.items → u.touched.items ≡ t.touched.items → u.past ≡ t.past → IsSound t → IsCopy t u
+  same_parts t u slots touched past sound = record {
+    same =
+        ap (λ (ss : List ℕ). map (λ s. get_or u.touched.items s open_link) ss) slots
+        ∙ ap (λ (ls : List (Link M)). map (λ s. get_or ls s open_link) t.slots.items) touched;
+    sound = record {
+      whole = ap (λ (ss : List ℕ). length ss) slots ∙ sound.whole;
+      slots = rw (slots, touched) sound.slots;
+      first = ap (λ (ls : List (Link M)). get_or ls 0 open_link) touched ∙ sound.first;
+      end = rw past sound.end;
+      rest = λ place from. ap (λ (ss : List ℕ). get_or ss place 0) slots ∙ sound.rest place (rw past at from);
+    };
+  }
+
   pub is_touched : (t : Table M) (old links : Links M) (place i slot : ℕ) → IsSound t → links_in t ≡ old → old ≡ links → place < 1024 → place ≡ i
       → slot ≡ slot_at place t → 0 < slot → IsTouched t links i slot
   is_touched t old links place i slot sound same is inside at here own = record {
@@ -109,8 +155,28 @@ module _ {M : Type 0} where
     rest = λ place lt. ap (λ (ss : List ℕ). get_or ss place 0) slots ∙ get_or-same 1024 place 0;
   }
 
+  -- the table after a place got the next slot
+  pub sound_taken : (t u : Table M) (place n : ℕ) → IsSound t → place < 1024 → slot_at place t ≡ 0 → n ≡ length t.touched.items
+      → u.slots.items ≡ set t.slots.items place n → u.touched.items ≡ t.touched.items ++ open_link ∷ [] → u.past ≡ max t.past (place + 1) → IsSound u
+  sound_taken t u place n sound inside none count slots touched past = record {
+    whole = ap (λ (ss : List ℕ). length ss) slots ∙ length-set t.slots.items place n ∙ sound.whole;
+    slots = rw (slots, long) (slots_taken t.slots.items place n (rw (← count) at sound.slots) (omega (arith, inside, sound.whole)) none);
+    first = ap (λ (ls : List (Link M)). get_or ls 0 open_link) touched ∙ get_or-one_more t.touched.items 0 open_link ∙ sound.first;
+    end = omega (arith, past, inside, sound.end);
+    rest = λ q from. ap (λ (ss : List ℕ). get_or ss q 0) slots ∙ get_or-set_other t.slots.items place q n 0 (λ at. absurd (omega (arith, past, from, at)))
+        ∙ sound.rest q (omega (arith, past, from));
+  }
+    where
+      long : length u.touched.items ≡ n + 1
+      long = ap (λ (ls : List (Link M)). length ls) touched ∙ length-append t.touched.items (open_link ∷ []) ∙ sym (ap (λ k. k + 1) count)
+
+  -- the copy of a table of which a view shows the slots, and another the directions
+  pub is_copy : (t u : Table M) (slots : List ℕ) (all : List (Link M)) (i : ℕ) → u.slots.items ≡ slots → slots ≡ t.slots.items
+      → u.touched.items ≡ take i all → length all ≤ i → all ≡ t.touched.items → u.past ≡ t.past → IsSound t → IsCopy t u
+  is_copy t u slots all i from is taken past touched end sound = same_parts t u (from ∙ is) (taken ∙ take_all i all past ∙ touched) end sound
+
   -- a direction that holds a message has a slot of its own
-  pub own_of_held : (t : Table M) (links : Links M) (place i : ℕ) → IsSound t → links_in t ≡ links → place < 1024 → place ≡ i
+  own_of_held : (t : Table M) (links : Links M) (place i : ℕ) → IsSound t → links_in t ≡ links → place < 1024 → place ≡ i
       → 0 < length (get_or links i open_link).held → 0 < slot_at place t
   own_of_held t links place i sound same inside at some = go (slot_at place t) here
     where
@@ -122,8 +188,30 @@ module _ {M : Type 0} where
       go zero e = absurd (omega (arith, some, ap (λ (l : Link M). length l.held) (e ∙ sound.first)))
       go (suc slot) e = omega arith
 
+  pub held_touched : (t : Table M) {links : Links M} {place i slot : ℕ} → IsSound t → links_in t ≡ links → place < 1024 → place ≡ i
+      → 0 < length (get_or links i open_link).held → slot ≡ get_or t.slots.items place slot → IsTouched t links i slot
+  held_touched t {links = links} {place = place} {i = i} {slot = slot} sound same inside at some is =
+      let here = get_or_read_under t.slots.items place 1024 slot 0 is inside (sym sound.whole) in
+      is_touched t (links_in t) links place i slot sound refl same inside at here (rw here (own_of_held t links place i sound same inside at some))
+
   pub inside : {t : Table M} {links : Links M} {i slot : ℕ} → IsTouched t links i slot → i < length links
   inside {t = t} touched = omega (arith, touched.within, touched.sound.whole, length-map t.slots.items (λ s. get_or t.touched.items s open_link), ap (λ (ls : Links M). length ls) touched.same)
+
+  pub whole : (t : Table M) → IsSound t → length (links_in t) ≡ 1024
+  whole t sound = length-map t.slots.items (λ s. get_or t.touched.items s open_link) ∙ sound.whole
+
+  pub whole_links : (t : Table M) {links : Links M} → IsSound t → links_in t ≡ links → length links ≡ 1024
+  whole_links t sound is = ap (λ (ls : Links M). length ls) (sym is) ∙ whole t sound
+
+  -- a table is as sound with another direction in a slot of its own
+  pub sound_with : (t : Table M) (slot : ℕ) (x : Link M) → IsSound t → 0 < slot → IsSound (record t { touched = with_item t.touched slot x })
+  sound_with t slot x sound own = record {
+    whole = sound.whole;
+    slots = subst (AreSlots t.slots.items) (sym (length-set t.touched.items slot x)) sound.slots;
+    first = get_or-set_other t.touched.items slot 0 x open_link (λ same. absurd (omega arith)) ∙ sound.first;
+    end = sound.end;
+    rest = sound.rest;
+  }
 
   -- the direction in the slot is the link of that place
   pub read : {t : Table M} {links : Links M} {i slot : ℕ} (x : Link M) → IsTouched t links i slot → x ≡ get_or t.touched.items slot x → x ≡ get_or links i open_link

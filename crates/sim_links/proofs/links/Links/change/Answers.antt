@@ -1,20 +1,30 @@
-use Rattle.std.proofs.Common.{◌∙◌, refl}
-use Rattle.sim_links.proofs.RoundTrips.{undone}
-use Rattle.sim_links.proofs.Slots.{is_touched, inside, read, wrote}
+use Rattle.std.proofs.Common.{ap}
+use Rattle.sim_links.specs.Link.{direction}
+use Rattle.sim_links.proofs.RoundTrips.{is_changed}
+use Rattle.sim_links.proofs.Slots.{is_touched, inside, read, wrote, sound_with, whole_links}
 use Rattle.sim_links.proofs.links.Links.change.Goals as goal
 
-pub returns-clause-after : goal.returns-clause-after
-returns-clause-after g c =
-    let e = c.in_ok-slot.ensures in
-    let touched = is_touched _ _ _ _ _ _ e.sound e.links c.self.view_is c.place.ensures.within c.place.ensures.value e.slot e.own in
-    wrote c.change-messages.new.self touched
-    ∙ rw (c.change-messages.ensures.after, read c.index_mut-direction.result.now touched c.index_mut-direction.ensures.value) refl
+pub invariant_of-self-2 : goal.invariant_of-self-2
+invariant_of-self-2 g c = sound_with c.touch.new.self c.in_ok-slot.slot c.change-messages.new.self c.in_ok-slot.ensures.sound c.in_ok-slot.ensures.own
 
-pub returns-clause-back : goal.returns-clause-back
-returns-clause-back g c =
+pub returns : goal.returns
+returns g c =
     let e = c.in_ok-slot.ensures in
+    let a = c.args.a in
+    let b = c.args.b in
+    let old = c.index_mut-direction.result.now in
+    let new = c.change-messages.new.self in
     let touched = is_touched _ _ _ _ _ _ e.sound e.links c.self.view_is c.place.ensures.within c.place.ensures.value e.slot e.own in
-    rw (wrote c.change-messages.new.self touched)
-    (undone c.args.self.now c.args.a c.args.b _ _ c.index_mut-direction.result.now _ _ _ (inside touched)
-    (read c.index_mut-direction.result.now touched c.index_mut-direction.ensures.value) c.state-was.ensures
-    c.change-messages.ensures.after c.change-messages.ensures.left)
+    let done = is_changed c.args.self.now _ (direction a b) (record { a = a; b = b; change = c.args.change; was = c.state-was.result })
+    c.change-messages.result.items old new (inside touched) (read old touched c.index_mut-direction.ensures.value) c.state-was.ensures
+    c.change-messages.ensures.after c.change-messages.ensures.left (wrote new touched) in
+    record {
+      after = done.after;
+      left = done.left;
+      whole = whole_links c.self.inside.table c.self.invariant c.self.view_is;
+      undo = ap (λ s. record { a = a; b = b; change = c.args.change; was = s }) done.was;
+      err = tt;
+      fits = done.fits;
+      none_left = done.none_left;
+      back = done.back;
+    }

@@ -3,8 +3,11 @@ use Rattle.std.proofs.lemmas.List.{set-get_or, get_or-set_same}
 use Rattle.std.proofs.lemmas.Result.{on_ok_weaker, on_err_weaker}
 use Rattle.sim_links.specs.Link.{open_link, direction, with_held}
 use Rattle.sim_links.proofs.RoundTrips.{some_held, unkept}
-use Rattle.sim_links.proofs.Slots.{is_touched, inside, read, wrote}
+use Rattle.sim_links.proofs.Slots.{is_touched, inside, read, wrote, sound_with}
 use Rattle.sim_links.proofs.links.Links.keep.Goals as goal
+
+pub invariant_of-self-2 : goal.invariant_of-self-2
+invariant_of-self-2 g c = sound_with c.touch.new.self c.in_ok-slot.slot c.keep.new.self c.in_ok-slot.ensures.sound c.in_ok-slot.ensures.own
 
 pub returns : goal.returns
 returns g c =

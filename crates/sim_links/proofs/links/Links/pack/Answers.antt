@@ -1,7 +1,8 @@
 use Rattle.std.proofs.Common.{◌≡◌, ◌∙◌, ◌≤◌, ◌-◌, ◌++◌, ap, take, replicate, arith}
 use Rattle.sim_links.specs.Link.{open_link}
 use Rattle.sim_links.specs.Table.{links_in}
-use Rattle.sim_links.proofs.Places.{one_more, rest_open, whole}
+use Rattle.sim_links.proofs.Places.{one_more, rest_open}
+use Rattle.sim_links.proofs.Slots.{whole}
 use Rattle.sim_links.proofs.links.Links.pack.Goals as goal
 
 pub loop-place-preserved : goal.loop-place-preserved

@@ -1,13 +1,31 @@
-use Rattle.std.proofs.Common.{◌≡◌, ◌∙◌, refl, sym, get_or}
-use Rattle.std.proofs.lemmas.List.{get_or_read_under}
-use Rattle.sim_links.proofs.Slots.{is_touched, own_of_held, read, wrote}
+use Rattle.std.proofs.Common.{◌∙◌, ◌<◌, ap, set, sym, subst, length}
+use Rattle.std.proofs.lemmas.List.{get_or-set_same}
+use Rattle.sim_links.specs.Link.{open_link, direction, without_newest}
+use Rattle.sim_links.proofs.Slots.{held_touched, inside, read, wrote, sound_with}
 use Rattle.sim_links.proofs.links.Links.unkeep.Goals as goal
 
-pub returns-clause-rest : goal.returns-clause-rest
-returns-clause-rest g c =
+pub unkeep-requires : goal.unkeep-requires
+unkeep-requires g c =
     let t = c.self.inside.table in
-    let slot : c.index.result.now ≡ get_or t.slots.items c.place.result 0 =
-    get_or_read_under t.slots.items c.place.result 1024 c.index.result.now 0 c.index.ensures c.place.ensures.within (sym c.self.invariant.whole) in
-    let own = own_of_held t c.args.self.now c.place.result _ c.self.invariant c.self.view_is c.place.ensures.within c.place.ensures.value c.requires.some in
-    let touched = is_touched t _ _ _ _ _ c.self.invariant refl c.self.view_is c.place.ensures.within c.place.ensures.value slot (rw slot own) in
-    wrote c.unkeep.new.self touched ∙ rw (c.unkeep.ensures.rest, read c.index_mut-direction.result.now touched c.index_mut-direction.ensures.value) refl
+    let touched = held_touched t c.self.invariant c.self.view_is c.place.ensures.within c.place.ensures.value c.requires.some c.index.ensures in
+    subst (λ link. 0 < length link.held) (sym (read c.index_mut-direction.result.now touched c.index_mut-direction.ensures.value)) c.requires.some
+
+pub invariant_of-self : goal.invariant_of-self
+invariant_of-self g c =
+    let t = c.self.inside.table in
+    let touched = held_touched t c.self.invariant c.self.view_is c.place.ensures.within c.place.ensures.value c.requires.some c.index.ensures in
+    sound_with t c.index.result.now c.unkeep.new.self c.self.invariant touched.own
+
+pub returns : goal.returns
+returns g c =
+    let t = c.self.inside.table in
+    let links = c.args.self.now in
+    let i = direction c.args.a c.args.b in
+    let new = c.unkeep.new.self in
+    let touched = held_touched t c.self.invariant c.self.view_is c.place.ensures.within c.place.ensures.value c.requires.some c.index.ensures in
+    let was = read c.index_mut-direction.result.now touched c.index_mut-direction.ensures.value in
+    let now = wrote new touched in
+    record {
+      rest = now ∙ ap (set links i) (c.unkeep.ensures.rest ∙ ap without_newest was);
+      message = rw (now, get_or-set_same links i new open_link (inside touched), ← was) c.unkeep.ensures.message;
+    }

@@ -1,8 +1,12 @@
 use Rattle.std.proofs.Common.{refl}
-use Rattle.sim_links.proofs.Slots.{is_touched, wrote}
+use Rattle.sim_links.proofs.Slots.{is_touched, wrote, sound_with}
 use Rattle.sim_links.proofs.table.Table.put.Goals as goal
 
-pub returns-clause-ok : goal.returns-clause-ok
-returns-clause-ok g c =
+pub returns : goal.returns
+returns g c =
     let e = c.in_ok-slot.ensures in
-    wrote c.args.direction (is_touched _ _ _ _ _ _ e.sound e.links refl c.requires.within refl e.slot e.own)
+    record {
+      ok = wrote c.args.direction (is_touched _ _ _ _ _ _ e.sound e.links refl c.requires.within refl e.slot e.own);
+      err = tt;
+      sound = sound_with c.touch.new.self c.in_ok-slot.slot c.args.direction e.sound e.own;
+    }
