@@ -1,8 +1,11 @@
 -- How links are packed, place after place, and what those are that were never touched.
 use Rattle.std.proofs.Common.{◌≡◌, ℕ, suc, ◌+◌, ◌-◌, ◌<◌, List, [], ◌∷◌, ◌++◌, sym, ap, ◌∙◌, get_or, set, length, take, drop, replicate, arith}
-use Rattle.std.proofs.lemmas.List.{append_assoc, ext_get_or, get_or-drop, get_or-map, length-drop, length-replicate, length-take-le, set_at, take-append-drop, take_more}
-use Rattle.sim_links.specs.Link.{Link, open_link}
+use Rattle.std.proofs.lemmas.List.{append_assoc, at_drop_more, ext_get_or, get_or-drop, get_or-map, length-drop, length-replicate, length-take-le, set_at, take-append-drop, take_more}
+use Rattle.std.specs.List.{fold}
+use Rattle.sim_links.specs.Link.{Link, Links, open_link}
+use Rattle.sim_links.specs.Places.{with_kept, links_of}
 use Rattle.sim_links.specs.Table.{links_in, IsSound}
+use Rattle.sim_links.specs.declared.kept.Kept.{Kept}
 use Rattle.sim_links.specs.declared.table.Table.{Table}
 use Rattle.sim_links.proofs.Slots.{get_or-same, whole}
 
@@ -32,3 +35,12 @@ module _ {M : Type 0} where
           ∙ get_or-map (λ s. get_or t.touched.items s open_link) t.slots.items (t.past + i) 0 open_link within
           ∙ ap (λ s. get_or t.touched.items s open_link) (sound.rest (t.past + i) (omega arith)) ∙ sound.first
           ∙ sym (get_or-same (1024 - t.past) i open_link)
+
+  -- one more direction that was kept is put where it stood
+  pub next_put : (before now : Links M) (all : List (Kept M)) (i : ℕ) (item : Kept M) (copy : Link M) → fold with_kept before (drop i all) ≡ links_of all
+      → i < length all → item ≡ get_or all i item → copy ≡ item.direction → now ≡ set before item.place copy
+      → fold with_kept now (drop (i + 1) all) ≡ links_of all
+  next_put before now all i item copy rest inside is same put =
+      let step : fold with_kept before (drop i all) ≡ fold with_kept (with_kept before (get_or all i item)) (drop (i + 1) all) =
+      at_drop_more (fold with_kept before) all i item inside in
+      ap (λ (links : Links M). fold with_kept links (drop (i + 1) all)) (put ∙ ap (set before item.place) same ∙ ap (with_kept before) is) ∙ sym step ∙ rest

@@ -62,6 +62,10 @@ module _ {X : Type 0} where
   get_or-same (suc n) zero d = refl
   get_or-same (suc n) (suc i) d = get_or-same n i d
 
+  same_map : (f : ℕ → X) (n i : ℕ) → map f (replicate n i) ≡ replicate n (f i)
+  same_map f zero i = refl
+  same_map f (suc n) i = ap (λ xs. f i ∷ xs) (same_map f n i)
+
   -- one place stands for x, and each other for what it did
   map_at_one : (f g : ℕ → X) (slots : List ℕ) (p : ℕ) (x : X) → p < length slots → g (get_or slots p 0) ≡ x
       → ((q : ℕ) → q < length slots → (q ≡ p → ⊥) → g (get_or slots q 0) ≡ f (get_or slots q 0)) → map g slots ≡ set (map f slots) p x
@@ -144,6 +148,12 @@ module _ {M : Type 0} where
     at = here ∙ ap (λ k. slot_at k t) at;
     own = own;
   }
+
+  pub links_new : (slots : List ℕ) (touched : List (Link M)) → slots ≡ replicate 1024 0 → touched ≡ open_link ∷ []
+      → map (λ s. get_or touched s open_link) slots ≡ replicate 1024 open_link
+  links_new slots touched slots_are touched_are =
+      ap (λ (ss : List ℕ). map (λ s. get_or touched s open_link) ss) slots_are
+      ∙ ap (λ (ls : List (Link M)). map (λ s. get_or ls s open_link) (replicate 1024 0)) touched_are ∙ same_map (λ s. get_or (open_link ∷ []) s open_link) 1024 0
 
   -- at first all directions are in slot 0
   pub sound_new : (t : Table M) → t.slots.items ≡ replicate 1024 0 → t.touched.items ≡ open_link ∷ [] → t.past ≡ 0 → IsSound t
