@@ -1,9 +1,11 @@
 -- Disks that are kept side by side stay as they are when more bytes and writes come behind the others.
-use Rattle.std.proofs.Common.{◌≡◌, ℕ, ◌+◌, ◌-◌, ◌≤◌, List, [], ◌∷◌, ◌++◌, length, take, drop, refl, ap, sym, subst, ◌∙◌, arith, length-append, length-drop}
+use Rattle.std.proofs.Common.{◌≡◌, ℕ, ◌+◌, ◌-◌, ◌<◌, ◌≤◌, List, [], ◌∷◌, ◌++◌, get_or, length, take, drop, refl, ap, sym, subst, ◌∙◌, arith, length-append, length-drop}
 use Rattle.std.proofs.Math.Seq.{drop-append_seam}
-use Rattle.std.proofs.lemmas.List.{take-append-le, drop-append-le, map-append, take_all}
+use Rattle.std.proofs.lemmas.List.{take-append-le, drop-append-le, length-map, map-append, take_all}
 use Rattle.std.proofs.lemmas.List.Elements.{All-head, All-tail, All-push}
-use Rattle.std.specs.List.{slice_range}
+use Rattle.std.proofs.lemmas.Option.{slice_get-map, slice_get_read}
+use Rattle.std.specs.Prelude.{Some, option_map}
+use Rattle.std.specs.List.{slice_get, slice_range}
 use Rattle.sim_disk.specs.Disk.{Disk, Write, IsDisk}
 use Rattle.sim_disk.specs.Spans.{disk_at, disks_at, IsSpan, AreSpans}
 use Rattle.sim_disk.specs.declared.packed.Span.{Span}
@@ -78,3 +80,20 @@ pub disks_pushed : (bytes : List ℕ) (writes : List Write) (spans : List Span) 
 disks_pushed bytes writes spans d s is are =
     map-append (disk_at (bytes ++ d.stable) (writes ++ d.writes)) spans (s ∷ [])
     ∙ rw (disks_grown bytes d.stable writes d.writes spans are, new_disk bytes writes d s is) refl
+
+-- the disk at a place is the one that its span marks
+pub inside : (bytes : List ℕ) (writes : List Write) (spans : List Span) (place : ℕ) (all : List Disk) → disks_at bytes writes spans ≡ all
+    → place < length all → place < length spans
+inside bytes writes spans place all are within = omega (arith, within, ap (λ (ds : List Disk). length ds) are, length-map spans (disk_at bytes writes))
+
+pub disk_kept : (bytes : List ℕ) (writes : List Write) (spans : List Span) (place : ℕ) (s : Span) (d : Disk) → AreSpans bytes writes spans
+    → place < length spans → s ≡ get_or spans place s → d ≡ disk_at bytes writes s → IsDisk d
+disk_kept bytes writes spans place s d are within at is =
+    subst IsDisk (sym is) (subst (λ x. IsDisk (disk_at bytes writes x)) (sym at) (are place s within).disk)
+
+pub disk_got : (bytes : List ℕ) (writes : List Write) (spans : List Span) (place : ℕ) (s : Span) (d : Disk) (all : List Disk)
+    → disks_at bytes writes spans ≡ all → place < length all → s ≡ get_or spans place s → d ≡ disk_at bytes writes s → slice_get all place ≡ Some d
+disk_got bytes writes spans place s d all are within at is =
+    ap (λ (ds : List Disk). slice_get ds place) (sym are) ∙ slice_get-map (disk_at bytes writes) spans place
+    ∙ ap (option_map (disk_at bytes writes)) (slice_get_read spans (length spans) place s refl (inside bytes writes spans place all are within) at)
+    ∙ ap (λ x. Some x) (sym is)
