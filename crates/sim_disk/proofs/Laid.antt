@@ -49,7 +49,7 @@ next_kept now more source to words writes i offset n w rest in_words inside is l
     let of_word : all_laid now (all_kept (drop i words) (drop i writes)) ≡ all_laid now (all_kept (word ∷ drop (i + 1) words) (drop i writes)) =
     at_drop_more (λ ks. all_laid now (all_kept ks (drop i writes))) words i 0 in_words in
     let of_write : all_laid now (all_kept (word ∷ drop (i + 1) words) (drop i writes))
-        ≡ all_laid (laid now (kept word (get_or writes i w))) (all_kept (drop (i + 1) words) (drop (i + 1) writes)) =
+    ≡ all_laid (laid now (kept word (get_or writes i w))) (all_kept (drop (i + 1) words) (drop (i + 1) writes)) =
     at_drop_more (λ ws. all_laid now (all_kept (word ∷ drop (i + 1) words) ws)) writes i w inside in
     ap (λ over. all_laid over (all_kept (drop (i + 1) words) (drop (i + 1) writes)))
     (new ∙ ap (λ m. laid_at offset (take m source) now) len ∙ ap (λ o. laid_at o (take (kept_len word (length source)) source) now) from

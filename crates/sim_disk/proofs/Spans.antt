@@ -40,6 +40,11 @@ pub spans_grown : (bytes more : List ℕ) (writes others : List Write) (spans : 
     → AreSpans (bytes ++ more) (writes ++ others) spans
 spans_grown bytes more writes others spans are = λ k s inside. span_grown bytes more writes others _ (are k s inside)
 
+pub spans_still : {bytes new_bytes : List ℕ} {writes new_writes : List Write} {spans new_spans : List Span} (more : List ℕ) (others : List Write)
+    → new_bytes ≡ bytes ++ more → new_writes ≡ writes ++ others → new_spans ≡ spans → AreSpans bytes writes spans → AreSpans new_bytes new_writes new_spans
+spans_still {bytes = bytes} {writes = writes} {spans = spans} more others bytes_are writes_are spans_are are =
+    rw (bytes_are, writes_are, spans_are) (spans_grown bytes more writes others spans are)
+
 disks_grown : (bytes more : List ℕ) (writes others : List Write) (spans : List Span) → AreSpans bytes writes spans
     → disks_at (bytes ++ more) (writes ++ others) spans ≡ disks_at bytes writes spans
 disks_grown bytes more writes others [] are = refl

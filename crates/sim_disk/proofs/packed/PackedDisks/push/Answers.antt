@@ -1,6 +1,7 @@
-use Rattle.std.proofs.Common.{length, refl, arith}
+use Rattle.std.proofs.Common.{length, refl, sym, subst, arith}
 use Rattle.sim_disk.specs.Change.{disk_in}
-use Rattle.sim_disk.proofs.Spans.{IsBehind, spans_pushed, disks_pushed}
+use Rattle.sim_disk.specs.Spans.{AreSpans}
+use Rattle.sim_disk.proofs.Spans.{IsBehind, spans_still, spans_pushed, disks_pushed}
 use Rattle.sim_disk.proofs.packed.PackedDisks.push.Goals as goal
 
 behind : (c : goal.In_ok-push) → IsBehind (length c.self.inside.bytes.items) (length c.self.inside.writes.items) (disk_in c.disk.inside.content)
@@ -24,3 +25,18 @@ returns c =
       ← c.disk.view_is,
     )
     (disks_pushed _ _ _ (disk_in c.disk.inside.content) _ (behind c) c.self.invariant)
+
+pub invariant_of-self : goal.invariant_of-self
+invariant_of-self c =
+    let p = c.self.inside in
+    subst (λ bytes. AreSpans bytes p.writes.items p.spans.items) (sym c.in_err-extend_from_slice.ensures.items) c.self.invariant
+
+pub invariant_of-self-in_err-append_all : goal.invariant_of-self-in_err-append_all
+invariant_of-self-in_err-append_all c =
+    let grown = c.in_err-append_all.ensures.grown in
+    spans_still c.as_slice.result.now grown.0 c.in_ok-extend_from_slice.ensures.items grown.1 refl c.self.invariant
+
+pub invariant_of-self-in_err-push : goal.invariant_of-self-in_err-push
+invariant_of-self-in_err-push c =
+    spans_still c.as_slice.result.now c.as_slice-2.result.now c.in_ok-extend_from_slice.ensures.items c.in_ok-append_all.ensures.ok
+    c.in_err-push.ensures.items c.self.invariant
