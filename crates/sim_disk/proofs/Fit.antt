@@ -1,5 +1,6 @@
 -- Every disk stays within its limits.
-use Rattle.std.proofs.Common.{◌≡◌, ℕ, zero, suc, ◌+◌, ◌^◌, ◌<◌, ◌≤◌, List, [], ◌∷◌, ◌++◌, length, take, drop, sym, subst, arith, length-append, length-drop, length-take}
+use Rattle.std.proofs.Common.{◌≡◌, ℕ, zero, suc, ◌+◌, ◌-◌, ◌^◌, ◌<◌, ◌≤◌, List, [], ◌∷◌, ◌++◌, length, take, drop, ap, sym, ◌∙◌, subst, arith, length-append, length-drop, length-take}
+use Rattle.std.proofs.Math.Seq.{take-append_seam}
 use Rattle.std.proofs.lemmas.Grind.{common_steps}
 use Rattle.sim_disk.specs.Disk.{Write, Disk, DiskUndo, fits, AllFit, IsDisk, laid, laid_at, all_laid, all_kept, kept, kept_len, empty_disk, written, all_asked, synced, crashed}
 
@@ -85,3 +86,13 @@ added_fits undo d e is same fit =
     let P : DiskUndo → Type 0 = λ u. fits u e in
     let Q : Disk → Type 0 = λ x. x.asked < length x.writes in
     subst Q (sym same) (subst P (sym is) fit)
+
+-- with one more write there are more than were asked for
+pub one_added : (d : Disk) (w : Write) (writes : List Write) → IsDisk d → writes ≡ d.writes ++ w ∷ [] → d.asked < length writes
+one_added d w writes is added = omega (arith, is.asked, ap (λ (ws : List Write). length ws) added, length-append d.writes (w ∷ []))
+
+-- and without it the disk is as it was
+pub without_added : (d : Disk) (w : Write) (writes : List Write) → writes ≡ d.writes ++ w ∷ [] → record d { writes = take (length writes - 1) writes } ≡ d
+without_added d w writes added =
+    let count : length writes - 1 ≡ length d.writes = omega (arith, ap (λ (ws : List Write). length ws) added, length-append d.writes (w ∷ [])) in
+    ap (λ (ws : List Write). record d { writes = ws }) (ap (λ n. take n writes) count ∙ ap (take (length d.writes)) added ∙ take-append_seam d.writes (w ∷ []))
