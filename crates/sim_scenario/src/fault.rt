@@ -1,8 +1,9 @@
 //! What is wrong with the text of a scenario.
-ghost use Rattle.std.specs.Prelude.{◌≡◌};
+ghost use Rattle.std.specs.Prelude.{◌≡◌, Some};
 ghost use Rattle.sim_scenario.specs.Faults.{key_text, fault_of};
 
 use std::alloc::{AllocError, AllocFailed};
+use std::fmt;
 use thiserror::Error;
 
 /// The keys of a scenario, in the order in which their faults are looked for.
@@ -46,6 +47,14 @@ impl Key {
     }
 }
 
+impl fmt::Display for Key {
+    ghost output = { λ key. Some (key_text key) };
+
+    fn fmt<W: fmt::Write>(&self, f: &mut fmt::Formatter<W>) -> fmt::Result {
+        f.write_str(self.text())
+    }
+}
+
 /// The first thing that is wrong with the text of a scenario, or that memory was wanted and not there.
 #[derive(Debug, Drop, Error)]
 pub enum ScenarioFault {
@@ -59,9 +68,9 @@ pub enum ScenarioFault {
     UnknownClientKey,
     #[error("a link has an unknown key")]
     UnknownLinkKey,
-    #[error("there is no key `{}`", .0.text())]
+    #[error("there is no key `{0}`")]
     Missing(Key),
-    #[error("a value has the wrong type, at `{}`", .0.text())]
+    #[error("a value has the wrong type, at `{0}`")]
     WrongType(Key),
     #[error("the seed is not 64 hexadecimal digits")]
     BadSeed,
@@ -69,13 +78,13 @@ pub enum ScenarioFault {
     UnknownProtocol,
     #[error("the format is unknown")]
     UnknownFormat,
-    #[error("a number or a count is out of range, at `{}`", .0.text())]
+    #[error("a number or a count is out of range, at `{0}`")]
     OutOfRange(Key),
-    #[error("a name is bad, at `{}`", .0.text())]
+    #[error("a name is bad, at `{0}`")]
     BadName(Key),
     #[error("there are more than 32 hosts, or too few servers for the protocol")]
     HostCount,
-    #[error("two names are equal, the second at `{}`", .0.text())]
+    #[error("two names are equal, the second at `{0}`")]
     EqualNames(Key),
     #[error("a link's source or target is no host, or both are one")]
     BadLink,
