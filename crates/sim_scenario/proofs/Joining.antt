@@ -115,6 +115,9 @@ last = record { same = refl }
 given : {A B : Type 0} {part : Result A Fault} {value : A} (next : A → Result B Fault) {end : Result B Fault} → part ≡ Ok value → Ends (next value) end → Ends (part >>= next) end
 given next p e = record { same = ap (λ r. r >>= next) p ∙ e.same }
 
+stopped : {A B : Type 0} {part : Result A Fault} {fault : Fault} (next : A → Result B Fault) → part ≡ Err fault → Ends (part >>= next) (Err fault)
+stopped next p = record { same = ap (λ r. r >>= next) p }
+
 -- what a document says after its first parts
 pub scenario_in-said : (doc : Members) (seed : List ℕ) (protocol : Protocol) (tick latency_min latency_max loss : ℕ)
     → keys_of doc ≡ Ok tt → format_of doc ≡ Ok tt → seed_of doc ≡ Ok seed → protocol_in doc ≡ Ok protocol
@@ -160,6 +163,40 @@ pub joined_in-said : (opening : Opening) (servers : ℕ) (hosts : List (List ℕ
     })
 unfolding joined_in
 joined_in-said opening servers hosts operations rest texts names links ways a b c d = (given _ a (given _ b (given _ c (given _ d last)))).same
+
+-- where their number is not that of a scenario
+pub joined_in-count : (opening : Opening) (servers : ℕ) (hosts : List (List ℕ)) (operations : List ℕ) (rest : Rest) (texts : List LinkText) (fault : Fault)
+    → count_of opening.protocol servers (length hosts) ≡ Err fault
+    → joined_in opening servers hosts operations rest texts ≡ Err fault
+unfolding joined_in
+joined_in-count opening servers hosts operations rest texts fault a = (stopped _ a).same
+
+-- where two names are equal
+pub joined_in-equal : (opening : Opening) (servers : ℕ) (hosts : List (List ℕ)) (operations : List ℕ) (rest : Rest) (texts : List LinkText) (fault : Fault)
+    → count_of opening.protocol servers (length hosts) ≡ Ok tt
+    → differing servers hosts ≡ Err fault
+    → joined_in opening servers hosts operations rest texts ≡ Err fault
+unfolding joined_in
+joined_in-equal opening servers hosts operations rest texts fault a b = (given _ a (stopped _ b)).same
+
+-- where a link is not between two hosts
+pub joined_in-apart : (opening : Opening) (servers : ℕ) (hosts : List (List ℕ)) (operations : List ℕ) (rest : Rest) (texts : List LinkText) (names : List (List ℕ)) (fault : Fault)
+    → count_of opening.protocol servers (length hosts) ≡ Ok tt
+    → differing servers hosts ≡ Ok names
+    → placed names texts ≡ Err fault
+    → joined_in opening servers hosts operations rest texts ≡ Err fault
+unfolding joined_in
+joined_in-apart opening servers hosts operations rest texts names fault a b c = (given _ a (given _ b (stopped _ c))).same
+
+-- where two links are of one pair
+pub joined_in-repeated : (opening : Opening) (servers : ℕ) (hosts : List (List ℕ)) (operations : List ℕ) (rest : Rest) (texts : List LinkText) (names : List (List ℕ)) (links : List Link) (fault : Fault)
+    → count_of opening.protocol servers (length hosts) ≡ Ok tt
+    → differing servers hosts ≡ Ok names
+    → placed names texts ≡ Ok links
+    → linked_ways opening.way links ≡ Err fault
+    → joined_in opening servers hosts operations rest texts ≡ Err fault
+unfolding joined_in
+joined_in-repeated opening servers hosts operations rest texts names links fault a b c d = (given _ a (given _ b (given _ c (stopped _ d)))).same
 
 -- a scenario with the same servers and operations
 pub said_as : (s : ScenarioText) (servers : ℕ) (ops : List ℕ) → s.servers ≡ servers → s.ops ≡ ops
