@@ -31,16 +31,12 @@ impl Protocol {
     pub fn named(name: &str) -> Option<Protocol>
         ensures { result ≡ scenario.protocol_named name.now }
     {
-        if name == "echo" {
-            Some(Protocol::Echo)
-        } else if name == "primary_backup" {
-            Some(Protocol::PrimaryBackup)
-        } else if name == "abd" {
-            Some(Protocol::Abd)
-        } else if name == "two_phase" {
-            Some(Protocol::TwoPhase)
-        } else {
-            None
+        match name {
+            "echo" => Some(Protocol::Echo),
+            "primary_backup" => Some(Protocol::PrimaryBackup),
+            "abd" => Some(Protocol::Abd),
+            "two_phase" => Some(Protocol::TwoPhase),
+            _ => None,
         }
     }
 
