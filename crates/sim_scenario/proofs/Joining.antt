@@ -14,7 +14,7 @@ use Rattle.sim_scenario.specs.Scenario.{Fault, ScenarioText, first_some, key_fau
 use Rattle.sim_links.specs.declared.Way.{Way}
 use Rattle.sim_links.specs.Ways.{Ways, all}
 use Rattle.sim_scenario.proofs.Saying.{IsPart, Say, and, done, after}
-use Rattle.sim_scenario.specs.Parts.{checked, ◌>>=◌, disk_latency_of, links_in, placed, linked_ways, keys_of, format_of, seed_of, protocol_in, number_of, servers_of, clients_of, count_of, differing, joined_in, hosts_in, scenario_in}
+use Rattle.sim_scenario.specs.Parts.{checked, ◌>>=◌, disk_latency_of, links_in, placed, linked_ways, ways_in, keys_of, format_of, seed_of, protocol_in, number_of, servers_of, clients_of, count_of, differing, joined_in, hosts_in, scenario_in}
 
 keys_part : (doc : Members) → IsPart (keys_of doc) (option_map (λ key. record { number = 3; key = key }) (unknown_key (known_keys doc) doc)) tt
 unfolding keys_of
@@ -118,6 +118,12 @@ given next p e = record { same = ap (λ r. r >>= next) p ∙ e.same }
 stopped : {A B : Type 0} {part : Result A Fault} {fault : Fault} (next : A → Result B Fault) → part ≡ Err fault → Ends (part >>= next) (Err fault)
 stopped next p = record { same = ap (λ r. r >>= next) p }
 
+-- two parts as one
+within : {A B C : Type 0} (part : Result A Fault) (middle : A → Result B Fault) (next : B → Result C Fault) {end : Result C Fault}
+    → Ends ((part >>= middle) >>= next) end → Ends (part >>= (λ a. middle a >>= next)) end
+within (Ok a) middle next e = e
+within (Err fault) middle next e = e
+
 -- what a document says after its first parts
 pub scenario_in-said : (doc : Members) (seed : List ℕ) (protocol : Protocol) (tick latency_min latency_max loss : ℕ)
     → keys_of doc ≡ Ok tt → format_of doc ≡ Ok tt → seed_of doc ≡ Ok seed → protocol_in doc ≡ Ok protocol
@@ -144,11 +150,10 @@ hosts_in-said opening doc servers checkpoint window hosts operations disk_latenc
     (given _ a (given _ b (given _ c (given _ d (given _ e (given _ f last)))))).same
 
 -- what it says where the hosts and the links are joined
-pub joined_in-said : (opening : Opening) (servers : ℕ) (hosts : List (List ℕ)) (operations : List ℕ) (rest : Rest) (texts : List LinkText) (names : List (List ℕ)) (links : List Link) (ways : Ways)
+pub joined_in-said : (opening : Opening) (servers : ℕ) (hosts : List (List ℕ)) (operations : List ℕ) (rest : Rest) (texts : List LinkText) (names : List (List ℕ)) (ways : Ways)
     → count_of opening.protocol servers (length hosts) ≡ Ok tt
     → differing servers hosts ≡ Ok names
-    → placed names texts ≡ Ok links
-    → linked_ways opening.way links ≡ Ok ways
+    → ways_in opening.way names texts ≡ Ok ways
     → joined_in opening servers hosts operations rest texts ≡ Ok (record {
       names = names;
       protocol = opening.protocol;
@@ -161,8 +166,9 @@ pub joined_in-said : (opening : Opening) (servers : ℕ) (hosts : List (List ℕ
       checkpoint = rest.checkpoint;
       window = rest.window;
     })
-unfolding joined_in
-joined_in-said opening servers hosts operations rest texts names links ways a b c d = (given _ a (given _ b (given _ c (given _ d last)))).same
+unfolding joined_in ways_in
+joined_in-said opening servers hosts operations rest texts names ways a b c =
+    (given _ a (given _ b (within (placed names texts) (linked_ways opening.way) _ (given _ c last)))).same
 
 -- where their number is not that of a scenario
 pub joined_in-count : (opening : Opening) (servers : ℕ) (hosts : List (List ℕ)) (operations : List ℕ) (rest : Rest) (texts : List LinkText) (fault : Fault)
@@ -179,24 +185,15 @@ pub joined_in-equal : (opening : Opening) (servers : ℕ) (hosts : List (List �
 unfolding joined_in
 joined_in-equal opening servers hosts operations rest texts fault a b = (given _ a (stopped _ b)).same
 
--- where a link is not between two hosts
-pub joined_in-apart : (opening : Opening) (servers : ℕ) (hosts : List (List ℕ)) (operations : List ℕ) (rest : Rest) (texts : List LinkText) (names : List (List ℕ)) (fault : Fault)
+-- where the links between them make no ways
+pub joined_in-astray : (opening : Opening) (servers : ℕ) (hosts : List (List ℕ)) (operations : List ℕ) (rest : Rest) (texts : List LinkText) (names : List (List ℕ)) (fault : Fault)
     → count_of opening.protocol servers (length hosts) ≡ Ok tt
     → differing servers hosts ≡ Ok names
-    → placed names texts ≡ Err fault
+    → ways_in opening.way names texts ≡ Err fault
     → joined_in opening servers hosts operations rest texts ≡ Err fault
-unfolding joined_in
-joined_in-apart opening servers hosts operations rest texts names fault a b c = (given _ a (given _ b (stopped _ c))).same
-
--- where two links are of one pair
-pub joined_in-repeated : (opening : Opening) (servers : ℕ) (hosts : List (List ℕ)) (operations : List ℕ) (rest : Rest) (texts : List LinkText) (names : List (List ℕ)) (links : List Link) (fault : Fault)
-    → count_of opening.protocol servers (length hosts) ≡ Ok tt
-    → differing servers hosts ≡ Ok names
-    → placed names texts ≡ Ok links
-    → linked_ways opening.way links ≡ Err fault
-    → joined_in opening servers hosts operations rest texts ≡ Err fault
-unfolding joined_in
-joined_in-repeated opening servers hosts operations rest texts names links fault a b c d = (given _ a (given _ b (given _ c (stopped _ d)))).same
+unfolding joined_in ways_in
+joined_in-astray opening servers hosts operations rest texts names fault a b c =
+    (given _ a (given _ b (within (placed names texts) (linked_ways opening.way) _ (stopped _ c)))).same
 
 -- a scenario with the same servers and operations
 pub said_as : (s : ScenarioText) (servers : ℕ) (ops : List ℕ) → s.servers ≡ servers → s.ops ≡ ops

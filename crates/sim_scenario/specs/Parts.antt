@@ -114,6 +114,12 @@ placed names links = checked (host_fault (links_between names links)) (unwrap_or
 unfoldable pub linked_ways : Way → List Link → Result Ways Fault
 linked_ways way links = checked (pair_fault links) (with_links links (all way))
 
+-- the links between the hosts, and the ways that they make
+unfoldable pub ways_in : Way → List (List ℕ) → List LinkText → Result Ways Fault
+ways_in way names links = do
+  between ← placed names links
+  linked_ways way between
+
 -- there are as many hosts, and servers, as may be
 unfoldable pub count_of : Protocol → ℕ → ℕ → Result (Unit {0}) Fault
 count_of protocol servers hosts = checked (if nat_lt 32 hosts || nat_lt servers (least_servers protocol) then Some (record { number = 11; key = codes "servers" }) else None) tt

@@ -138,7 +138,7 @@ fn link_between(names: &IndexMap<String, u16>, link: &LinkText) -> Option<Link>
 }
 
 /// The links by the numbers of their hosts, each from one host to another.
-pub fn placed(
+fn placed(
     alloc: Global,
     names: &IndexMap<String, u16>,
     links: &[LinkText],
@@ -182,7 +182,7 @@ fn is_repeated(links: &[Link]) -> bool
 }
 
 /// The ways, where each link has its own and all other pairs have one.
-pub fn linked_ways(way: Way, links: &[Link]) -> Result<Ways, ScenarioFault>
+fn linked_ways(way: Way, links: &[Link]) -> Result<Ways, ScenarioFault>
     requires { All IsInTable links.now }
     ensures { faults.Gives (λ ways. ways) result (parts.linked_ways way (map link_seen links.now)) }
 {
@@ -194,4 +194,20 @@ pub fn linked_ways(way: Way, links: &[Link]) -> Result<Ways, ScenarioFault>
         ways.set(link.source, link.target, link.way);
     }
     Ok(ways)
+}
+
+/// The ways of some hosts: the links between them have their own, and all other pairs have one.
+#[tactic(auto, unfolding(crate::specs::Parts::ways_in))]
+pub fn ways(
+    alloc: Global,
+    way: Way,
+    names: &IndexMap<String, u16>,
+    links: &[LinkText],
+) -> Result<Ways, ScenarioFault>
+    requires numbered { IsNumbered names.now }
+    requires few { length (names_in names.now) ≤ 32 }
+    ensures { faults.Gives (λ ways. ways) result (parts.ways_in way (names_in names.now) (map link_said links.now)) }
+{
+    let between = placed(alloc, names, links)?;
+    linked_ways(way, between.as_slice())
 }

@@ -12,7 +12,7 @@ ghost use Rattle.sim_scenario.specs.Seen.{seen};
 use crate::fault::{Key, ScenarioFault};
 use crate::fields::{disk_latency, format, known_keys, number, protocol, seed};
 use crate::hosts::{Hosts, all_hosts, fitting, host_operations, number_hosts, server_names};
-use crate::links::{LinkText, linked_ways, links, placed};
+use crate::links::{LinkText, links, ways};
 use crate::{Protocol, ScenarioText};
 use sim_links::Way;
 use std::alloc::Global;
@@ -134,8 +134,7 @@ fn joined(
     fitting(protocol, servers, hosts.names.len())?;
     let ops = host_operations(servers, hosts.operations.as_slice());
     let names = number_hosts(alloc, hosts.names, servers)?;
-    let between = placed(alloc, &names, links)?;
-    let ways = linked_ways(way, between.as_slice())?;
+    let ways = ways(alloc, way, &names, links)?;
     Ok(ScenarioText {
         names,
         protocol,
