@@ -106,16 +106,16 @@ read_of_document text doc short parsed =
     ∙ sym (in_order doc).same
 
 -- parts that say what is left of them
-record Ends {A : Type 0} (parts end : Result A Fault) : Type 0 where
-  same : parts ≡ end
+pub record Ends {A : Type 0} (parts end : Result A Fault) : Type 0 where
+  pub same : parts ≡ end
 
 last : {A : Type 0} {end : Result A Fault} → Ends end end
 last = record { same = refl }
 
-given : {A B : Type 0} {part : Result A Fault} {value : A} (next : A → Result B Fault) {end : Result B Fault} → part ≡ Ok value → Ends (next value) end → Ends (part >>= next) end
+pub given : {A B : Type 0} {part : Result A Fault} {value : A} (next : A → Result B Fault) {end : Result B Fault} → part ≡ Ok value → Ends (next value) end → Ends (part >>= next) end
 given next p e = record { same = ap (λ r. r >>= next) p ∙ e.same }
 
-stopped : {A B : Type 0} {part : Result A Fault} {fault : Fault} (next : A → Result B Fault) → part ≡ Err fault → Ends (part >>= next) (Err fault)
+pub stopped : {A B : Type 0} {part : Result A Fault} {fault : Fault} (next : A → Result B Fault) → part ≡ Err fault → Ends (part >>= next) (Err fault)
 stopped next p = record { same = ap (λ r. r >>= next) p }
 
 -- two parts as one
