@@ -274,6 +274,17 @@ left_there nodes p i x f last is = (apart, sym (node_other nodes p i None apart)
     apart q =
         let both : None ≡ Some x = sym (node_same nodes p None (within nodes p f last)) ∙ ap (λ (n : ℕ). node (set nodes p None) n) (sym q) ∙ is in cc both
 
+-- the nodes that stay
+pub same_without : (due serial : ℕ) (nodes : List (Option Node)) → IsWithout due serial nodes nodes
+same_without due serial nodes = record {
+  kept = λ i x h. inr (rw h (refl, refl));
+  only = λ i x h. rw h (refl, refl);
+}
+
+-- the key of a node that left
+pub key_without : (due serial : ℕ) (x : Node) (old new : List (Option Node)) → x.due ≡ due → x.serial ≡ serial → IsWithout x.due x.serial old new → IsWithout due serial old new
+key_without due serial x old new d s w = subst (λ (n : ℕ). IsWithout n serial old new) d (subst (λ (n : ℕ). IsWithout x.due n old new) s w)
+
 pub left_without : (nodes : List (Option Node)) (p : ℕ) (f : Node) → node nodes p ≡ Some f → IsWithout f.due f.serial nodes (set nodes p None)
 left_without nodes p f there = record {
   kept = λ i x is. ⊎_elim

@@ -5,7 +5,7 @@ use Rattle.std.proofs.lemmas.Bool.{cases_eq, cases_lt}
 use Rattle.std.proofs.lemmas.List.{ext_get_or, get_or-set_same, get_or-set_other, map_push, map-set, length_push, length-map, set-get_or, set-set, set_at, get_or_default}
 use Rattle.std.proofs.lemmas.Option.{slice_get_past, same_Some, none-some}
 use Rattle.std.specs.List.{slice_get}
-use Rattle.std.specs.Option.{option_map, option_to_list}
+use Rattle.std.specs.Option.{option_map, option_to_list, is_some, IsSome}
 use Rattle.sim_queue.specs.declared.Item.{Item}
 use Rattle.sim_queue.specs.Pending.{with_serial}
 use Rattle.sim_queue.specs.Items.{item_of, items_from}
@@ -23,7 +23,7 @@ spot_within [] i x h = absurd (none-some x h)
 spot_within (y ∷ xs) zero x h = omega arith
 spot_within (y ∷ xs) (suc i) x h = let l = spot_within xs i x h in omega arith
 
-spot_pushed : {X : Type 0} (i : ℕ) (xs : List (Option X)) (x y : X) → get_or (xs ++ Some x ∷ []) i None ≡ Some y → (get_or xs i None ≡ Some y) ⊎ ((i ≡ length xs) × (x ≡ y))
+pub spot_pushed : {X : Type 0} (i : ℕ) (xs : List (Option X)) (x y : X) → get_or (xs ++ Some x ∷ []) i None ≡ Some y → (get_or xs i None ≡ Some y) ⊎ ((i ≡ length xs) × (x ≡ y))
 spot_pushed zero [] x y h = inr (refl, same_Some x y h)
 spot_pushed (suc i) [] x y h = absurd (none-some y h)
 spot_pushed zero (z ∷ xs) x y h = inl h
@@ -37,6 +37,13 @@ spot_front (suc i) (z ∷ xs) x y h = spot_front i xs x y h
 spot_last : {X : Type 0} (xs : List (Option X)) (x : Option X) → get_or (xs ++ x ∷ []) (length xs) None ≡ x
 spot_last [] x = refl
 spot_last (y ∷ xs) x = spot_last xs x
+
+-- the last spot of a list to which one was added
+pub last_is_some : {X : Type 0} (xs old : List (Option X)) (x : X) → xs ≡ old ++ Some x ∷ [] → IsSome (get_or xs (length xs - 1) None)
+last_is_some xs old x h =
+    let more : length xs ≡ length old + 1 = ap (λ ys. length ys) h ∙ length_push old (Some x) in
+    let last : length xs - 1 ≡ length old = omega arith in
+    ap (λ o. is_some o) (ap (λ (n : ℕ). get_or xs n None) last ∙ ap (λ ys. get_or ys (length old) None) h ∙ spot_last old (Some x))
 
 -- a spot that was cleared, whether it was there or not
 pub spot_cleared : {X : Type 0} (i : ℕ) (xs : List (Option X)) → get_or (set xs i None) i None ≡ None

@@ -3,7 +3,7 @@ use Rattle.std.proofs.Common.{◌≡◌, ◌≢◌, ℕ, ◌+◌, ◌-◌, ◌<�
 use Rattle.std.proofs.Math.ListN.{get_or, set, length-set}
 use Rattle.std.proofs.lemmas.Bool.{cases_eq}
 use Rattle.std.proofs.lemmas.List.{get_or-set_same, get_or-set_other}
-use Rattle.std.proofs.lemmas.Option.{slice_get_within, slice_get-get_or, same_Some, none-some}
+use Rattle.std.proofs.lemmas.Option.{slice_get_read, slice_get_within, slice_get-get_or, same_Some, none-some}
 use Rattle.std.specs.List.{slice_get}
 use Rattle.std.specs.Option.{option_map}
 use Rattle.sim_queue.specs.declared.Item.{Item}
@@ -13,7 +13,7 @@ use Rattle.sim_queue.specs.Slots.{at}
 use Rattle.sim_queue.specs.Sparse.{index_at, entry_of, slot_of, slots_of, serial_at, IsSparse}
 use Rattle.sim_queue.proofs.Laws.{length-without}
 use Rattle.sim_queue.proofs.Views.{with-at, without-at, is_queue}
-use Rattle.sim_queue.proofs.Sparse.{same_spots, spot_within, spot_cleared, at_slots, length_slots, serial_within}
+use Rattle.sim_queue.proofs.Sparse.{same_spots, spot_within, spot_cleared, at_slots, length_slots, serial_within, here_within}
 
 -- the slot i lost its index k, and the one that had the last index has k
 pub record IsRelocated (places after : List (Option ℕ)) (i k last : ℕ) : Type 0 where
@@ -43,6 +43,24 @@ module _ {B : Type 0} where
     stayed = λ m ne (within : m < length new).
         slice_get-get_or new m x within ∙ ap (λ y. Some y) (others m x ne (omega arith)) ∙ sym (slice_get-get_or items m x (omega arith));
   }
+
+  -- the item of a slot left
+  pub swapped_out : (items new : List (Item B)) (places : List (Option ℕ)) (base i k n m : ℕ) (x : Item B) → IsSparse items places base → index_at places i ≡ Some k
+      → n ≡ length items → m ≡ length new → m + 1 ≡ n
+      → ((d : Item B) → k + 1 < n → get_or new k d ≡ get_or items (n - 1) d)
+      → ((j : ℕ) (d : Item B) → j ≢ k → j + 1 < n → get_or new j d ≡ get_or items j d) → IsSwapped items new k
+  swapped_out items new places base i k n m x sparse here len left less last others =
+      let within : k < length items = here_within items places base i k sparse here in
+      let inside : k < n = omega arith in
+      let shorter : length new + 1 ≡ n = omega arith in
+      swapped items new k n x inside len shorter last others
+
+  -- what a slice of the items is read at
+  pub read_new : (new slice : List (Item B)) (k : ℕ) (y : Item B) → slice ≡ new → k < length slice → y ≡ get_or slice k y → slice_get new k ≡ Some y
+  read_new new slice k y same within read = subst (λ (xs : List (Item B)). slice_get xs k ≡ Some y) same (slice_get_read slice (length slice) k y refl within read)
+
+  pub past_new : (new slice : List (Item B)) (k : ℕ) → slice ≡ new → length slice ≤ k → length new ≤ k
+  past_new new slice k same past = subst (λ (xs : List (Item B)). length xs ≤ k) same past
 
   -- the item that moved has a slot
   pub moved_from : (items new : List (Item B)) (places : List (Option ℕ)) (base k : ℕ) (y : Item B) → IsSparse items places base → IsSwapped items new k → slice_get new k ≡ Some y

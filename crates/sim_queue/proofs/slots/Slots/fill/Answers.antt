@@ -1,4 +1,4 @@
-use Rattle.std.proofs.Common.{◌≡◌, refl, ap, ◌∙◌, Some}
+use Rattle.std.proofs.Common.{◌≡◌, ◌<◌, deque_len, refl, ap, ◌∙◌, Some}
 use Rattle.std.proofs.Math.ListN.{set}
 use Rattle.sim_queue.specs.Slots.{at}
 use Rattle.sim_queue.specs.Sparse.{SlotList, slots_of}
@@ -20,3 +20,10 @@ returns-clause-ok g c =
     rw (c.to.ensures, c.push_reserved.ensures.items, c.reserve.ensures.items)
     (filled_slots c.self.inside.items.items c.self.inside.places.items c.self.inside.base c.args.place c.in_ok-index.index _ c.in_ok-index.ensures.index c.self.invariant
     ∙ ap (λ s. set s c.args.place (Some (c.args.due, c.args.body))) slots)
+
+pub index_mut-requires : goal.index_mut-requires
+index_mut-requires g c =
+    let slots : slots_of c.self.inside.items.items c.self.inside.places.items ≡ c.args.self.now.items = ap (λ (s : SlotList _). s.items) c.self.view_is in
+    let within : c.args.place < deque_len c.self.inside.places =
+    rw c.self.inside.places.ok.0 (within_slots c.self.inside.items.items c.self.inside.places.items c.args.self.now.items c.args.place slots c.requires.within) in
+    within

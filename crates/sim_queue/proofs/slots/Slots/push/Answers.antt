@@ -1,14 +1,21 @@
-use Rattle.std.proofs.Common.{◌≡◌, ◌∷◌, ◌++◌, [], ap, ◌∙◌, rules, ◌+◌, length}
-use Rattle.sim_queue.proofs.Sparse.{pushed_slots, pushed_sparse}
+use Rattle.std.proofs.Common.{◌≡◌, ◌∷◌, ◌++◌, [], ℕ, sym, ap, ◌∙◌, ◌+◌, length}
+use Rattle.sim_queue.specs.Sparse.{SlotList}
+use Rattle.sim_queue.proofs.Sparse.{length_slots, pushed_slots, pushed_sparse}
 use Rattle.sim_queue.proofs.slots.Slots.push.Goals as goal
 
 pub invariant_of-self-2 : goal.invariant_of-self-2
 invariant_of-self-2 g c =
     let places = c.push_back_reserved.ensures.items ∙ ap (λ s. s ++ c.to.result ∷ []) c.reserve.ensures.items ∙ ap (λ o. c.self.inside.places.items ++ o ∷ []) c.to.ensures in
-    let at_end : c.self.inside.base + c.len.result ≡ c.self.inside.base + length c.self.inside.places.items = search rules in
+    let at_end : c.self.inside.base + c.len.result ≡ c.self.inside.base + length c.self.inside.places.items =
+    ap (λ (n : ℕ). c.self.inside.base + n) (c.len.ensures ∙ c.self.inside.places.ok.0) in
     rw (c.push_reserved.ensures.items, c.reserve-2.ensures.items, places) (pushed_sparse c.self.inside.items.items c.self.inside.places.items c.self.inside.base c.in_ok-index.index _ c.in_ok-index.ensures.index at_end c.self.invariant)
 
 pub returns-clause-ok : goal.returns-clause-ok
 returns-clause-ok g c =
     let places = c.push_back_reserved.ensures.items ∙ ap (λ s. s ++ c.to.result ∷ []) c.reserve.ensures.items ∙ ap (λ o. c.self.inside.places.items ++ o ∷ []) c.to.ensures in
     rw (c.push_reserved.ensures.items, c.reserve-2.ensures.items, places, ← c.self.view_is) (pushed_slots c.self.inside.items.items c.self.inside.places.items c.self.inside.base c.in_ok-index.index _ c.in_ok-index.ensures.index c.self.invariant)
+
+pub returns-clause-serial : goal.returns-clause-serial
+returns-clause-serial g c =
+    ap (λ (n : ℕ). c.self.inside.base + n) (c.len.ensures ∙ c.self.inside.places.ok.0 ∙ sym (length_slots c.self.inside.items.items c.self.inside.places.items))
+    ∙ ap (λ (s : SlotList _). s.base + length s.items) c.self.view_is
