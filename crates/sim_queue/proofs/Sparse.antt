@@ -45,6 +45,10 @@ last_is_some xs old x h =
     let last : length xs - 1 ≡ length old = omega arith in
     ap (λ o. is_some o) (ap (λ (n : ℕ). get_or xs n None) last ∙ ap (λ ys. get_or ys (length old) None) h ∙ spot_last old (Some x))
 
+-- room for one more
+pub below_room : (len capacity : ℕ) → len + 1 ≤ capacity → len < capacity
+below_room len capacity room = omega arith
+
 -- a spot that was cleared, whether it was there or not
 pub spot_cleared : {X : Type 0} (i : ℕ) (xs : List (Option X)) → get_or (set xs i None) i None ≡ None
 spot_cleared i [] = refl

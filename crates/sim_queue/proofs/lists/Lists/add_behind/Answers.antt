@@ -1,4 +1,4 @@
-use Rattle.std.proofs.Common.{arith, rules, ◌≡◌, ◌<◌, ◌%◌, refl, sym, subst, List, Some, length}
+use Rattle.std.proofs.Common.{arith, ◌∙◌, ◌≡◌, ◌<◌, ◌%◌, refl, sym, subst, List, Some, length}
 use Rattle.sim_queue.specs.declared.lists.Ends.{Ends}
 use Rattle.sim_queue.specs.Wheel.{IsLinked, node}
 use Rattle.sim_queue.proofs.Counts.{counted_within, counted_behind, made_counted}
@@ -7,8 +7,8 @@ use Rattle.sim_queue.proofs.lists.Lists.add_behind.Goals as goal
 
 pub returns-in-None-clause-linked : goal.returns-in-None-clause-linked
 returns-in-None-clause-linked c =
-    let ends : c.take_place.new.self.ends.items ≡ c.args.self.now.ends.items = search rules in
-    same_linked _ c.args.self.now.nodes.items _ (λ i. search rules) (subst (λ (es : List Ends). IsLinked es c.args.self.now.nodes.items) (sym ends) c.requires.linked)
+    let ends : c.take_place.new.self.ends.items ≡ c.args.self.now.ends.items = rw c.take_place.ensures.ends in
+    same_linked _ c.args.self.now.nodes.items _ c.take_place.ensures.same (subst (λ (es : List Ends). IsLinked es c.args.self.now.nodes.items) (sym ends) c.requires.linked)
 
 pub overflow_add-self : goal.overflow_add-self
 overflow_add-self c =
@@ -23,39 +23,39 @@ overflow_add-self c =
 pub returns-then-is_none-clause-added : goal.returns-then-is_none-clause-added
 returns-then-is_none-clause-added c =
     let free = c.in-Some.ensures.free in
-    rw (c.of.ensures, c.of-2.ensures, c.to.ensures) (behind_added c.args.self.now.nodes.items _ c.args.at c.in-Some.place c.args.before c.args.due c.args.serial (λ i. search rules) free.0 free.1 c.requires.there)
+    rw (c.of.ensures, c.of-2.ensures, c.to.ensures) (behind_added c.args.self.now.nodes.items _ c.args.at c.in-Some.place c.args.before c.args.due c.args.serial c.take_place.ensures.same free.0 free.1 c.requires.there)
 
 pub returns-else-is_none-clause-added : goal.returns-else-is_none-clause-added
 returns-else-is_none-clause-added c =
     let free = c.in-Some.ensures.free in
-    rw (c.of.ensures, c.of-2.ensures, c.to.ensures) (behind_added c.args.self.now.nodes.items _ c.args.at c.in-Some.place c.args.before c.args.due c.args.serial (λ i. search rules) free.0 free.1 c.requires.there)
+    rw (c.of.ensures, c.of-2.ensures, c.to.ensures) (behind_added c.args.self.now.nodes.items _ c.args.at c.in-Some.place c.args.before c.args.due c.args.serial c.take_place.ensures.same free.0 free.1 c.requires.there)
 
 pub returns-then-is_none-clause-linked : goal.returns-then-is_none-clause-linked
 returns-then-is_none-clause-linked c =
-    let ends : c.take_place.new.self.ends.items ≡ c.args.self.now.ends.items = search rules in
-    let listed : c.args.due % 256 < length c.take_place.new.self.ends.items = search rules in
+    let ends : c.take_place.new.self.ends.items ≡ c.args.self.now.ends.items = rw c.take_place.ensures.ends in
+    let listed : c.args.due % 256 < length c.take_place.new.self.ends.items = rw c.take_place.ensures.ends c.requires.listed in
     let first = first_read c.take_place.new.self.ends.items c.args.due c.index_mut-then-is_none.result.now listed c.index_mut-then-is_none.ensures.value in
     let free = c.in-Some.ensures.free in
-    rw (c.of.ensures, c.of-2.ensures, c.to.ensures) (behind_linked c.args.self.now.ends.items c.take_place.new.self.ends.items _ c.args.self.now.nodes.items _ c.args.at c.in-Some.place c.args.before c.args.due c.args.serial ends (λ i. search rules)
+    rw (c.of.ensures, c.of-2.ensures, c.to.ensures) (behind_linked c.args.self.now.ends.items c.take_place.new.self.ends.items _ c.args.self.now.nodes.items _ c.args.at c.in-Some.place c.args.before c.args.due c.args.serial ends c.take_place.ensures.same
     (heads_kept c.take_place.new.self.ends.items c.args.due _ listed first) free.0 free.1 c.requires.there c.requires.ahead c.requires.follows c.requires.linked)
 
 pub returns-else-is_none-clause-linked : goal.returns-else-is_none-clause-linked
 returns-else-is_none-clause-linked c =
-    let ends : c.take_place.new.self.ends.items ≡ c.args.self.now.ends.items = search rules in
+    let ends : c.take_place.new.self.ends.items ≡ c.args.self.now.ends.items = rw c.take_place.ensures.ends in
     let free = c.in-Some.ensures.free in
-    rw (c.of.ensures, c.of-2.ensures, c.to.ensures) (behind_linked c.args.self.now.ends.items c.take_place.new.self.ends.items _ c.args.self.now.nodes.items _ c.args.at c.in-Some.place c.args.before c.args.due c.args.serial ends (λ i. search rules)
+    rw (c.of.ensures, c.of-2.ensures, c.to.ensures) (behind_linked c.args.self.now.ends.items c.take_place.new.self.ends.items _ c.args.self.now.nodes.items _ c.args.at c.in-Some.place c.args.before c.args.due c.args.serial ends c.take_place.ensures.same
     (λ d. refl) free.0 free.1 c.requires.there c.requires.ahead c.requires.follows c.requires.linked)
 
 pub returns-then-is_none-clause-counted : goal.returns-then-is_none-clause-counted
 returns-then-is_none-clause-counted c =
     let free = c.in-Some.ensures.free in
-    let there : node c.take_place.new.self.nodes.items c.args.at ≡ Some c.args.before = search rules in
+    let there : node c.take_place.new.self.nodes.items c.args.at ≡ Some c.args.before = c.take_place.ensures.same c.args.at ∙ c.requires.there in
     rw (c.of.ensures, c.of-2.ensures, c.to.ensures) (counted_behind c.args.self.now.count _ c.in-Some.place c.args.at _ _ c.args.before c.args.self.now.nodes.items _ c.in-Some.ensures.count c.in-Some.ensures.keys free.0 free.1 there
     (still_free c.take_place.new.self.nodes.items c.args.at c.in-Some.place c.args.before _ free.1 there) c.requires.counted)
 
 pub returns-else-is_none-clause-counted : goal.returns-else-is_none-clause-counted
 returns-else-is_none-clause-counted c =
     let free = c.in-Some.ensures.free in
-    let there : node c.take_place.new.self.nodes.items c.args.at ≡ Some c.args.before = search rules in
+    let there : node c.take_place.new.self.nodes.items c.args.at ≡ Some c.args.before = c.take_place.ensures.same c.args.at ∙ c.requires.there in
     rw (c.of.ensures, c.of-2.ensures, c.to.ensures) (counted_behind c.args.self.now.count _ c.in-Some.place c.args.at _ _ c.args.before c.args.self.now.nodes.items _ c.in-Some.ensures.count c.in-Some.ensures.keys free.0 free.1 there
     (still_free c.take_place.new.self.nodes.items c.args.at c.in-Some.place c.args.before _ free.1 there) c.requires.counted)

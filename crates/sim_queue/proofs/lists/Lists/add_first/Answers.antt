@@ -1,4 +1,4 @@
-use Rattle.std.proofs.Common.{arith, rules, ◌≡◌, ◌<◌, ◌%◌, sym, subst, List, length}
+use Rattle.std.proofs.Common.{arith, ◌≡◌, ◌<◌, ◌%◌, sym, subst, List, length}
 use Rattle.sim_queue.specs.declared.lists.Ends.{Ends}
 use Rattle.sim_queue.specs.Wheel.{IsLinked}
 use Rattle.sim_queue.proofs.Counts.{counted_within, counted_first, made_counted}
@@ -7,32 +7,32 @@ use Rattle.sim_queue.proofs.lists.Lists.add_first.Goals as goal
 
 pub returns-in-None-clause-linked : goal.returns-in-None-clause-linked
 returns-in-None-clause-linked c =
-    let ends : c.take_place.new.self.ends.items ≡ c.args.self.now.ends.items = search rules in
-    same_linked _ c.args.self.now.nodes.items _ (λ i. search rules) (subst (λ (es : List Ends). IsLinked es c.args.self.now.nodes.items) (sym ends) c.requires.linked)
+    let ends : c.take_place.new.self.ends.items ≡ c.args.self.now.ends.items = rw c.take_place.ensures.ends in
+    same_linked _ c.args.self.now.nodes.items _ c.take_place.ensures.same (subst (λ (es : List Ends). IsLinked es c.args.self.now.nodes.items) (sym ends) c.requires.linked)
 
 pub returns-then-is_none-clause-linked : goal.returns-then-is_none-clause-linked
 returns-then-is_none-clause-linked c =
-    let ends : c.take_place.new.self.ends.items ≡ c.args.self.now.ends.items = search rules in
-    let listed : c.args.due % 256 < length c.take_place.new.self.ends.items = search rules in
+    let ends : c.take_place.new.self.ends.items ≡ c.args.self.now.ends.items = rw c.take_place.ensures.ends in
+    let listed : c.args.due % 256 < length c.take_place.new.self.ends.items = rw c.take_place.ensures.ends c.requires.listed in
     let free = c.in-Some.ensures.free in
-    rw c.of.ensures (added_first c.args.due c.args.serial c.in-Some.place c.args.next _ _ c.args.self.now.nodes.items _ _ ends (λ i. search rules) listed free.0 free.1 c.to-ends.ensures c.requires.first c.requires.linked)
+    rw c.of.ensures (added_first c.args.due c.args.serial c.in-Some.place c.args.next _ _ c.args.self.now.nodes.items _ _ ends c.take_place.ensures.same listed free.0 free.1 c.to-ends.ensures c.requires.first c.requires.linked)
 
 pub returns-else-is_none-clause-linked : goal.returns-else-is_none-clause-linked
 returns-else-is_none-clause-linked c =
-    let ends : c.take_place.new.self.ends.items ≡ c.args.self.now.ends.items = search rules in
-    let listed : c.args.due % 256 < length c.take_place.new.self.ends.items = search rules in
+    let ends : c.take_place.new.self.ends.items ≡ c.args.self.now.ends.items = rw c.take_place.ensures.ends in
+    let listed : c.args.due % 256 < length c.take_place.new.self.ends.items = rw c.take_place.ensures.ends c.requires.listed in
     let free = c.in-Some.ensures.free in
-    rw c.of.ensures (added_first c.args.due c.args.serial c.in-Some.place c.args.next _ _ c.args.self.now.nodes.items _ _ ends (λ i. search rules) listed free.0 free.1 c.to-ends.ensures c.requires.first c.requires.linked)
+    rw c.of.ensures (added_first c.args.due c.args.serial c.in-Some.place c.args.next _ _ c.args.self.now.nodes.items _ _ ends c.take_place.ensures.same listed free.0 free.1 c.to-ends.ensures c.requires.first c.requires.linked)
 
 pub returns-then-is_none-clause-added : goal.returns-then-is_none-clause-added
 returns-then-is_none-clause-added c =
     let free = c.in-Some.ensures.free in
-    rw c.of.ensures (first_added c.args.self.now.nodes.items _ _ c.args.next c.args.due c.args.serial (λ i. search rules) free.0 free.1)
+    rw c.of.ensures (first_added c.args.self.now.nodes.items _ _ c.args.next c.args.due c.args.serial c.take_place.ensures.same free.0 free.1)
 
 pub returns-else-is_none-clause-added : goal.returns-else-is_none-clause-added
 returns-else-is_none-clause-added c =
     let free = c.in-Some.ensures.free in
-    rw c.of.ensures (first_added c.args.self.now.nodes.items _ _ c.args.next c.args.due c.args.serial (λ i. search rules) free.0 free.1)
+    rw c.of.ensures (first_added c.args.self.now.nodes.items _ _ c.args.next c.args.due c.args.serial c.take_place.ensures.same free.0 free.1)
 
 pub overflow_add-self : goal.overflow_add-self
 overflow_add-self c =

@@ -1,4 +1,5 @@
-use Rattle.std.proofs.Common.{rules, ℕ, Option, false, not, nat_eq, sym, ◌≡◌, ◌≤◌, ◌<◌, ◌%◌, refl, Some, length}
+use Rattle.std.proofs.Common.{ℕ, Bool, Option, None, true, false, ap, ◌∙◌, not, nat_eq, sym, ◌≡◌, ◌≤◌, ◌<◌, ◌%◌, refl, Some, length}
+use Rattle.std.proofs.lemmas.Bool.{eqb-true}
 use Rattle.std.specs.Option.{option_eq}
 use Rattle.sim_queue.specs.Wheel.{node}
 use Rattle.sim_queue.proofs.Counts.{counted_some, counted_gone}
@@ -7,7 +8,12 @@ use Rattle.sim_queue.proofs.Sparse.{spot_within}
 use Rattle.sim_queue.proofs.lists.Lists.remove_behind.Goals as goal
 
 leads_on : (next read : Option ℕ) (place : ℕ) → read ≡ next → false ≡ not (option_eq nat_eq read (Some place)) → next ≡ Some place
-leads_on next read place is other = search rules
+leads_on next None place is other = absurd (cc other)
+leads_on next (Some i) place is other = sym is ∙ ap (λ (n : ℕ). Some n) (same (nat_eq i place) refl other)
+  where
+    same : (b : Bool) → nat_eq i place ≡ b → false ≡ not b → i ≡ place
+    same true e h = eqb-true i place e
+    same false e h = absurd (cc h)
 
 pub overflow_sub-self : goal.overflow_sub-self
 overflow_sub-self c = counted_some _ c.args.place c.args.gone _ c.requires.there c.requires.counted

@@ -2,7 +2,7 @@ use Rattle.std.proofs.Common.{◌≡◌, ◌<◌, deque_len, refl, ap, ◌∙◌
 use Rattle.std.proofs.Math.ListN.{set}
 use Rattle.sim_queue.specs.Slots.{at}
 use Rattle.sim_queue.specs.Sparse.{SlotList, slots_of}
-use Rattle.sim_queue.proofs.Sparse.{filled_slots, filled_sparse, no_index, within_slots}
+use Rattle.sim_queue.proofs.Sparse.{below_room, filled_slots, filled_sparse, no_index, within_slots}
 use Rattle.sim_queue.proofs.slots.Slots.fill.Goals as goal
 
 pub invariant_of-self-2 : goal.invariant_of-self-2
@@ -27,3 +27,9 @@ index_mut-requires g c =
     let within : c.args.place < deque_len c.self.inside.places =
     rw c.self.inside.places.ok.0 (within_slots c.self.inside.items.items c.self.inside.places.items c.args.self.now.items c.args.place slots c.requires.within) in
     within
+
+pub push_reserved-requires : goal.push_reserved-requires
+push_reserved-requires g c = below_room _ _ c.in_ok-reserve.ensures.ok
+
+pub invariant_of-self : goal.invariant_of-self
+invariant_of-self g c = rw c.reserve.ensures.items c.self.invariant

@@ -1,6 +1,6 @@
 use Rattle.std.proofs.Common.{◌≡◌, ◌∷◌, ◌++◌, [], ℕ, sym, ap, ◌∙◌, ◌+◌, length}
 use Rattle.sim_queue.specs.Sparse.{SlotList}
-use Rattle.sim_queue.proofs.Sparse.{length_slots, pushed_slots, pushed_sparse}
+use Rattle.sim_queue.proofs.Sparse.{below_room, length_slots, pushed_slots, pushed_sparse}
 use Rattle.sim_queue.proofs.slots.Slots.push.Goals as goal
 
 pub invariant_of-self-2 : goal.invariant_of-self-2
@@ -19,3 +19,15 @@ pub returns-clause-serial : goal.returns-clause-serial
 returns-clause-serial g c =
     ap (λ (n : ℕ). c.self.inside.base + n) (c.len.ensures ∙ c.self.inside.places.ok.0 ∙ sym (length_slots c.self.inside.items.items c.self.inside.places.items))
     ∙ ap (λ (s : SlotList _). s.base + length s.items) c.self.view_is
+
+pub invariant_of-self : goal.invariant_of-self
+invariant_of-self g c = rw c.reserve.ensures.items c.self.invariant
+
+pub invariant_of-self-in_err-reserve-2 : goal.invariant_of-self-in_err-reserve-2
+invariant_of-self-in_err-reserve-2 g c = rw (c.reserve-2.ensures.items, c.reserve.ensures.items) c.self.invariant
+
+pub push_reserved-requires : goal.push_reserved-requires
+push_reserved-requires g c = below_room _ _ c.in_ok-reserve-2.ensures.ok
+
+pub push_back_reserved-requires : goal.push_back_reserved-requires
+push_back_reserved-requires g c = below_room _ _ c.in_ok-reserve.ensures.ok

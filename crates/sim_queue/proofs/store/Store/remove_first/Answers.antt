@@ -1,11 +1,49 @@
-use Rattle.std.proofs.Common.{rules, ◌≡◌, ℕ, ◌+◌, ◌≤◌, ◌-◌, None, sym, ap, ◌∙◌, arith}
+use Rattle.std.proofs.Common.{rules, ◌≡◌, ◌≢◌, ℕ, ◌+◌, ◌<◌, ◌≤◌, ◌-◌, List, length, Option, Some, None, sym, ap, subst, ◌∙◌, arith, ⊎_elim}
+use Rattle.std.proofs.Math.ListN.{set}
+use Rattle.std.proofs.lemmas.Bool.{cases_eq}
+use Rattle.std.proofs.lemmas.List.{get_or-set_other}
+use Rattle.std.proofs.lemmas.Option.{none-some}
 use Rattle.std.specs.Option.{option_map}
 use Rattle.sim_queue.specs.Items.{item_of}
-use Rattle.sim_queue.specs.Slots.{at}
+use Rattle.sim_queue.specs.Keys.{Keys, KeepsOthers}
+use Rattle.sim_queue.specs.Slots.{at, Covers}
 use Rattle.sim_queue.specs.Store.{pending_in}
 use Rattle.sim_queue.proofs.FirstKey.{first_none, first_taken, top_there}
+use Rattle.sim_queue.proofs.Sparse.{spot_cleared}
 use Rattle.sim_queue.proofs.Views.{taken_from, taken_some}
 use Rattle.sim_queue.proofs.store.Store.remove_first.Goals as goal
+
+-- the keys of the items that stay
+covers_taken : {B : Type 0} (d s : ℕ) (keys more : Keys) (slots new : List (Option (ℕ × B))) (base now place : ℕ) → new ≡ set slots place None → now ≡ base → place ≡ s - base → base ≤ s
+    → KeepsOthers d s keys more → Covers keys slots base → Covers more new now
+covers_taken d s keys more slots new base now place is same at_place from others covers i e h =
+    rw same (⊎_elim
+    (λ (q : i ≡ place). absurd (none-some e (sym (spot_cleared place slots) ∙ ap (λ (n : ℕ). at (set slots place None) n) (sym q) ∙ cleared)))
+    (λ (apart : i ≢ place).
+    ⊎_elim
+    (λ kept. kept)
+    (λ gone.
+    let q : s ≡ base + i = gone.1 in
+    let back : i ≡ place = omega arith in
+    absurd (apart back))
+    (others e.0 (base + i) (covers i e (sym (get_or-set_other slots place i None None apart) ∙ cleared))))
+    (cases_eq i place))
+  where
+    cleared : at (set slots place None) i ≡ Some e
+    cleared = subst (λ xs. at xs i ≡ Some e) is h
+
+pub take-item-requires : goal.take-item-requires
+take-item-requires g c =
+    let there = top_there c.in_ok-_due._due c.in_ok-_due.serial c.args.self.now.order c.args.self.now.slots.items c.args.self.now.slots.base c.in_ok-_due.ensures.first c.requires.top in
+    let within : c.in_ok-_due.serial - c.base.result < length c.args.self.now.slots.items = rw c.base.ensures there.within in
+    within
+
+pub clean-requires-clause-covered : goal.clean-requires-clause-covered
+clean-requires-clause-covered g c =
+    let there = top_there c.in_ok-_due._due c.in_ok-_due.serial c.args.self.now.order c.args.self.now.slots.items c.args.self.now.slots.base c.in_ok-_due.ensures.first c.requires.top in
+    covers_taken c.in_ok-_due._due c.in_ok-_due.serial c.args.self.now.order c.pop.new.self c.args.self.now.slots.items c.take-item.new.self.items c.args.self.now.slots.base
+    c.take-item.new.self.base (c.in_ok-_due.serial - c.base.result) c.take-item.ensures.rest c.take-item.ensures.base (ap (λ (n : ℕ). c.in_ok-_due.serial - n) c.base.ensures) there.from
+    c.in_ok-_due.ensures.others c.requires.covers
 
 pub returns-in_err-_due-clause-item : goal.returns-in_err-_due-clause-item
 returns-in_err-_due-clause-item g c =
