@@ -41,24 +41,24 @@ keys_made (Some y ∷ nodes) = ap (λ (ks : Keys). (y.due, y.serial) ∷ ks) (ke
 pub made_counted : (count made : ℕ) (old more : List (Option Node)) → made ≡ count → keys_of more ≡ keys_of old → IsCounted count old → IsCounted made more
 made_counted count made old more same keys counted = same ∙ counted ∙ ap (λ (ks : Keys). length ks) (sym keys)
 
-pub counted_first : (count made p : ℕ) (x : Node) (old more : List (Option Node)) → made ≡ count → keys_of more ≡ keys_of old → p < length more → node more p ≡ None → IsCounted count old
-    → IsCounted (made + 1) (set more p (Some x))
-counted_first count made p x old more same keys inside free counted =
-    let n = counted_more p x more inside free in let m = made_counted count made old more same keys counted in omega (arith, n, m)
+pub counted_first : (count made p : ℕ) (x : Node) (old more : List (Option Node)) (w : Option Node) → w ≡ Some x → made ≡ count → keys_of more ≡ keys_of old → p < length more → node more p ≡ None → IsCounted count old
+    → IsCounted (made + 1) (set more p w)
+counted_first count made p x old more w ew same keys inside free counted =
+    let n = counted_more p x more inside free in let m = made_counted count made old more same keys counted in rw ew (omega (arith, n, m))
 
-pub counted_behind : (count made p l : ℕ) (x y b : Node) (old more : List (Option Node)) → made ≡ count → keys_of more ≡ keys_of old → p < length more → node more p ≡ None → node more l ≡ Some b
-    → node (set more l (Some y)) p ≡ None → IsCounted count old → IsCounted (made + 1) (set (set more l (Some y)) p (Some x))
-counted_behind count made p l x y b old more same keys inside free there still counted =
+pub counted_behind : (count made p l : ℕ) (x y b : Node) (old more : List (Option Node)) (w z : Option Node) → w ≡ Some y → z ≡ Some x → made ≡ count → keys_of more ≡ keys_of old → p < length more → node more p ≡ None → node more l ≡ Some b
+    → node (set more l (Some y)) p ≡ None → IsCounted count old → IsCounted (made + 1) (set (set more l w) p z)
+counted_behind count made p l x y b old more w z ew ez same keys inside free there still counted =
     let e = length-set more l (Some y) in
     let n = counted_more p x (set more l (Some y)) (omega (arith, inside, e)) still in
     let k = counted_same l y b more there in
-    let m = made_counted count made old more same keys counted in omega (arith, n, k, m)
+    let m = made_counted count made old more same keys counted in rw (ew, ez) (omega (arith, n, k, m))
 
-pub counted_gone : (count p l : ℕ) (y b f : Node) (nodes : List (Option Node)) → node nodes l ≡ Some b → node (set nodes l (Some y)) p ≡ Some f → IsCounted count nodes
-    → IsCounted (count - 1) (set (set nodes l (Some y)) p None)
-counted_gone count p l y b f nodes before there counted =
+pub counted_gone : (count p l : ℕ) (y b f : Node) (nodes : List (Option Node)) (w z : Option Node) → w ≡ Some y → z ≡ None → node nodes l ≡ Some b → node (set nodes l (Some y)) p ≡ Some f → IsCounted count nodes
+    → IsCounted (count - 1) (set (set nodes l w) p z)
+counted_gone count p l y b f nodes w z ew ez before there counted =
     let n = counted_fewer p f (set nodes l (Some y)) there in
-    let k = counted_same l y b nodes before in omega (arith, n, k, counted)
+    let k = counted_same l y b nodes before in rw (ew, ez) (omega (arith, n, k, counted))
 
 pub counted_left : (count p : ℕ) (f : Node) (nodes : List (Option Node)) → node nodes p ≡ Some f → IsCounted count nodes → IsCounted (count - 1) (set nodes p None)
 counted_left count p f nodes there counted = let n = counted_fewer p f nodes there in omega (arith, n, counted)

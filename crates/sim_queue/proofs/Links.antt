@@ -63,14 +63,15 @@ linked_first due serial p next ends nodes e listed within free leads first linke
         (linked i x is)
 
 -- the same, where a place was made before
-pub added_first : (due serial p : ℕ) (next : Option ℕ) (ends made : List Ends) (nodes more : List (Option Node)) (e : Ends)
-    → made ≡ ends → IsSame nodes more → due % 256 < length made → p < length more → node more p ≡ None → e.first ≡ Some p
+pub added_first : (due serial p : ℕ) (next : Option ℕ) (ends made : List Ends) (nodes more : List (Option Node)) (e : Ends) (x : Option Node)
+    → x ≡ Some (record { due = due; serial = serial; next = next }) → made ≡ ends → IsSame nodes more → due % 256 < length made → p < length more → node more p ≡ None → e.first ≡ Some p
     → ((i : ℕ) (x : Node) → head ends due ≡ Some i → node nodes i ≡ Some x → due % 256 ≡ x.due % 256 → (next ≡ Some i) × IsAhead due serial x)
-    → IsLinked ends nodes → IsLinked (set made (due % 256) e) (set more p (Some (record { due = due; serial = serial; next = next })))
-added_first due serial p next ends made nodes more e kept same listed within free leads first linked =
-    linked_first due serial p next made more e listed within free leads
+    → IsLinked ends nodes → IsLinked (set made (due % 256) e) (set more p x)
+added_first due serial p next ends made nodes more e x ex kept same listed within free leads first linked =
+    rw ex
+    (linked_first due serial p next made more e listed within free leads
     (λ i x h is. first i x (ap (λ (es : List Ends). head es due) (sym kept) ∙ h) (sym (same i) ∙ is))
-    (same_linked made nodes more same (subst (λ (es : List Ends). IsLinked es nodes) (sym kept) linked))
+    (same_linked made nodes more same (subst (λ (es : List Ends). IsLinked es nodes) (sym kept) linked)))
 
 pub within : (nodes : List (Option Node)) (i : ℕ) (x : Node) → node nodes i ≡ Some x → i < length nodes
 within [] i x h = cc
@@ -212,27 +213,31 @@ heads_kept ends due e listed first d = ⊎_elim
     (cases_eq (d % 256) (due % 256))
 
 -- a key is added behind a node, in a place that was made before
-pub behind_linked : (ends made after : List Ends) (nodes more : List (Option Node)) (l p : ℕ) (b : Node) (due serial : ℕ)
+pub behind_linked : (ends made after : List Ends) (nodes more : List (Option Node)) (l p : ℕ) (b : Node) (due serial : ℕ) (x y : Option Node) (n : Option ℕ)
+    → x ≡ Some (record { due = b.due; serial = b.serial; next = n }) → n ≡ Some p → y ≡ Some (record { due = due; serial = serial; next = b.next })
     → made ≡ ends → IsSame nodes more → ((d : ℕ) → head after d ≡ head made d) → p < length more → node more p ≡ None
     → node nodes l ≡ Some b → (b.due % 256 ≡ due % 256) × (b.due ≤ due) × (b.serial < serial) → Follows due serial b nodes → IsLinked ends nodes
-    → IsLinked after (set (set more l (Some (record { due = b.due; serial = b.serial; next = Some p }))) p (Some (record { due = due; serial = serial; next = b.next })))
-behind_linked ends made after nodes more l p b due serial kept same heads inside free there ahead follows linked =
-    joined_linked made after more _ l p b due serial (joined more l p b due serial inside free (same l ∙ there)) heads ahead
+    → IsLinked after (set (set more l x) p y)
+behind_linked ends made after nodes more l p b due serial x y n ex en ey kept same heads inside free there ahead follows linked =
+    rw (ex, en, ey)
+    (joined_linked made after more _ l p b due serial (joined more l p b due serial inside free (same l ∙ there)) heads ahead
     (λ i x leads is. follows i x leads (sym (same i) ∙ is))
-    (same_linked made nodes more same (subst (λ (es : List Ends). IsLinked es nodes) (sym kept) linked))
+    (same_linked made nodes more same (subst (λ (es : List Ends). IsLinked es nodes) (sym kept) linked)))
 
-pub behind_added : (nodes more : List (Option Node)) (l p : ℕ) (b : Node) (due serial : ℕ)
+pub behind_added : (nodes more : List (Option Node)) (l p : ℕ) (b : Node) (due serial : ℕ) (x y : Option Node) (n : Option ℕ)
+    → x ≡ Some (record { due = b.due; serial = b.serial; next = n }) → n ≡ Some p → y ≡ Some (record { due = due; serial = serial; next = b.next })
     → IsSame nodes more → p < length more → node more p ≡ None → node nodes l ≡ Some b
-    → IsAdded due serial nodes (set (set more l (Some (record { due = b.due; serial = b.serial; next = Some p }))) p (Some (record { due = due; serial = serial; next = b.next })))
-behind_added nodes more l p b due serial same inside free there =
-    let a = joined_added more _ l p b due serial (joined more l p b due serial inside free (same l ∙ there)) in record {
+    → IsAdded due serial nodes (set (set more l x) p y)
+behind_added nodes more l p b due serial x y n ex en ey same inside free there =
+    rw (ex, en, ey)
+    (let a = joined_added more _ l p b due serial (joined more l p b due serial inside free (same l ∙ there)) in record {
       place = a.place;
       added = a.added;
       there = a.there;
       key = a.key;
       kept = λ i x is. a.kept i x (same i ∙ is);
       only = λ i x is. ⊎_elim (λ (q : HasKey due serial x). inl q) (λ k. inr (subst (λ (o : Option Node). IsKept x o) (same i) k)) (a.only i x is);
-    }
+    })
 
 default_same : (ends : List Ends) (i : ℕ) (a b : Ends) → i < length ends → get_or ends i a ≡ get_or ends i b
 default_same [] i a b lt = absurd (omega arith)
@@ -243,9 +248,10 @@ pub first_read : (ends : List Ends) (due : ℕ) (e : Ends) → due % 256 < lengt
 first_read ends due e listed value = ap (λ (x : Ends). x.first) (value ∙ default_same ends (due % 256) e no_ends listed)
 
 -- a key is added in a place that was made before
-pub first_added : (nodes more : List (Option Node)) (p : ℕ) (next : Option ℕ) (due serial : ℕ) → IsSame nodes more → p < length more → node more p ≡ None
-    → IsAdded due serial nodes (set more p (Some (record { due = due; serial = serial; next = next })))
-first_added nodes more p next due serial same inside free = record {
+pub first_added : (nodes more : List (Option Node)) (p : ℕ) (next : Option ℕ) (due serial : ℕ) (x : Option Node)
+    → x ≡ Some (record { due = due; serial = serial; next = next }) → IsSame nodes more → p < length more → node more p ≡ None
+    → IsAdded due serial nodes (set more p x)
+first_added nodes more p next due serial x ex same inside free = rw ex (record {
   place = p;
   added = added;
   there = node_same more p (Some added) inside;
@@ -261,7 +267,7 @@ first_added nodes more p next due serial same inside free = record {
       inl (d, s))
       (λ apart. inr (subst (λ (o : Option Node). IsKept x o) (sym (sym (same i) ∙ sym (node_other more p i (Some added) apart) ∙ is)) (refl, refl)))
       (cases_eq i p);
-}
+})
   where
     added : Node
     added = record { due = due; serial = serial; next = next }
@@ -432,15 +438,17 @@ bypassed_without old new l p b f j = record {
       (cases_eq i p);
 }
 
-pub gone_linked : (ends after : List Ends) (nodes : List (Option Node)) (l p : ℕ) (b f : Node) → node nodes p ≡ Some f → node nodes l ≡ Some b → b.next ≡ Some p
+pub gone_linked : (ends after : List Ends) (nodes : List (Option Node)) (l p : ℕ) (b f : Node) (x y : Option Node) → x ≡ Some (record { due = b.due; serial = b.serial; next = f.next })
+    → y ≡ None → node nodes p ≡ Some f → node nodes l ≡ Some b → b.next ≡ Some p
     → (b.due % 256 ≡ f.due % 256) × (b.due ≤ f.due) × (b.serial < f.serial) → ((d : ℕ) → head after d ≡ head ends d) → IsLinked ends nodes
-    → IsLinked after (set (set nodes l (Some (record { due = b.due; serial = b.serial; next = f.next }))) p None)
-gone_linked ends after nodes l p b f there before leads ahead heads linked = bypassed_linked ends after nodes _ l p b f (bypassed nodes l p b f there before leads ahead) heads linked
+    → IsLinked after (set (set nodes l x) p y)
+gone_linked ends after nodes l p b f x y ex ey there before leads ahead heads linked =
+    rw (ex, ey) (bypassed_linked ends after nodes _ l p b f (bypassed nodes l p b f there before leads ahead) heads linked)
 
-pub gone_without : (nodes : List (Option Node)) (l p : ℕ) (b f : Node) → node nodes p ≡ Some f → node nodes l ≡ Some b → b.next ≡ Some p
+pub gone_without : (nodes : List (Option Node)) (l p : ℕ) (b f : Node) (x y : Option Node) → x ≡ Some (record { due = b.due; serial = b.serial; next = f.next }) → y ≡ None → node nodes p ≡ Some f → node nodes l ≡ Some b → b.next ≡ Some p
     → (b.due % 256 ≡ f.due % 256) × (b.due ≤ f.due) × (b.serial < f.serial)
-    → IsWithout f.due f.serial nodes (set (set nodes l (Some (record { due = b.due; serial = b.serial; next = f.next }))) p None)
-gone_without nodes l p b f there before leads ahead = bypassed_without nodes _ l p b f (bypassed nodes l p b f there before leads ahead)
+    → IsWithout f.due f.serial nodes (set (set nodes l x) p y)
+gone_without nodes l p b f x y ex ey there before leads ahead = rw (ex, ey) (bypassed_without nodes _ l p b f (bypassed nodes l p b f there before leads ahead))
 
 pub head_listed : (ends : List Ends) (due p : ℕ) → head ends due ≡ Some p → due % 256 < length ends
 head_listed ends due p h = go ends (due % 256) h

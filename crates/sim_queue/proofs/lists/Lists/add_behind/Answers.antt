@@ -23,12 +23,12 @@ overflow_add-self c =
 pub returns-then-is_none-clause-added : goal.returns-then-is_none-clause-added
 returns-then-is_none-clause-added c =
     let free = c.in-Some.ensures.free in
-    rw (c.of.ensures, c.of-2.ensures, c.to.ensures) (behind_added c.args.self.now.nodes.items _ c.args.at c.in-Some.place c.args.before c.args.due c.args.serial c.take_place.ensures.same free.0 free.1 c.requires.there)
+    behind_added c.args.self.now.nodes.items _ c.args.at c.in-Some.place c.args.before c.args.due c.args.serial _ _ _ c.of.ensures c.to.ensures c.of-2.ensures c.take_place.ensures.same free.0 free.1 c.requires.there
 
 pub returns-else-is_none-clause-added : goal.returns-else-is_none-clause-added
 returns-else-is_none-clause-added c =
     let free = c.in-Some.ensures.free in
-    rw (c.of.ensures, c.of-2.ensures, c.to.ensures) (behind_added c.args.self.now.nodes.items _ c.args.at c.in-Some.place c.args.before c.args.due c.args.serial c.take_place.ensures.same free.0 free.1 c.requires.there)
+    behind_added c.args.self.now.nodes.items _ c.args.at c.in-Some.place c.args.before c.args.due c.args.serial _ _ _ c.of.ensures c.to.ensures c.of-2.ensures c.take_place.ensures.same free.0 free.1 c.requires.there
 
 pub returns-then-is_none-clause-linked : goal.returns-then-is_none-clause-linked
 returns-then-is_none-clause-linked c =
@@ -36,26 +36,26 @@ returns-then-is_none-clause-linked c =
     let listed : c.args.due % 256 < length c.take_place.new.self.ends.items = rw c.take_place.ensures.ends c.requires.listed in
     let first = first_read c.take_place.new.self.ends.items c.args.due c.index_mut-then-is_none.result.now listed c.index_mut-then-is_none.ensures.value in
     let free = c.in-Some.ensures.free in
-    rw (c.of.ensures, c.of-2.ensures, c.to.ensures) (behind_linked c.args.self.now.ends.items c.take_place.new.self.ends.items _ c.args.self.now.nodes.items _ c.args.at c.in-Some.place c.args.before c.args.due c.args.serial ends c.take_place.ensures.same
-    (heads_kept c.take_place.new.self.ends.items c.args.due _ listed first) free.0 free.1 c.requires.there c.requires.ahead c.requires.follows c.requires.linked)
+    behind_linked c.args.self.now.ends.items c.take_place.new.self.ends.items _ c.args.self.now.nodes.items _ c.args.at c.in-Some.place c.args.before c.args.due c.args.serial _ _ _ c.of.ensures c.to.ensures c.of-2.ensures ends c.take_place.ensures.same
+    (heads_kept c.take_place.new.self.ends.items c.args.due _ listed first) free.0 free.1 c.requires.there c.requires.ahead c.requires.follows c.requires.linked
 
 pub returns-else-is_none-clause-linked : goal.returns-else-is_none-clause-linked
 returns-else-is_none-clause-linked c =
     let ends : c.take_place.new.self.ends.items ≡ c.args.self.now.ends.items = rw c.take_place.ensures.ends in
     let free = c.in-Some.ensures.free in
-    rw (c.of.ensures, c.of-2.ensures, c.to.ensures) (behind_linked c.args.self.now.ends.items c.take_place.new.self.ends.items _ c.args.self.now.nodes.items _ c.args.at c.in-Some.place c.args.before c.args.due c.args.serial ends c.take_place.ensures.same
-    (λ d. refl) free.0 free.1 c.requires.there c.requires.ahead c.requires.follows c.requires.linked)
+    behind_linked c.args.self.now.ends.items c.take_place.new.self.ends.items _ c.args.self.now.nodes.items _ c.args.at c.in-Some.place c.args.before c.args.due c.args.serial _ _ _ c.of.ensures c.to.ensures c.of-2.ensures ends c.take_place.ensures.same
+    (λ d. refl) free.0 free.1 c.requires.there c.requires.ahead c.requires.follows c.requires.linked
 
 pub returns-then-is_none-clause-counted : goal.returns-then-is_none-clause-counted
 returns-then-is_none-clause-counted c =
     let free = c.in-Some.ensures.free in
     let there : node c.take_place.new.self.nodes.items c.args.at ≡ Some c.args.before = c.take_place.ensures.same c.args.at ∙ c.requires.there in
-    rw (c.of.ensures, c.of-2.ensures, c.to.ensures) (counted_behind c.args.self.now.count _ c.in-Some.place c.args.at _ _ c.args.before c.args.self.now.nodes.items _ c.in-Some.ensures.count c.in-Some.ensures.keys free.0 free.1 there
-    (still_free c.take_place.new.self.nodes.items c.args.at c.in-Some.place c.args.before _ free.1 there) c.requires.counted)
+    counted_behind c.args.self.now.count _ c.in-Some.place c.args.at _ _ c.args.before c.args.self.now.nodes.items _ _ _ c.of.ensures c.of-2.ensures c.in-Some.ensures.count c.in-Some.ensures.keys free.0 free.1 there
+    (still_free c.take_place.new.self.nodes.items c.args.at c.in-Some.place c.args.before _ free.1 there) c.requires.counted
 
 pub returns-else-is_none-clause-counted : goal.returns-else-is_none-clause-counted
 returns-else-is_none-clause-counted c =
     let free = c.in-Some.ensures.free in
     let there : node c.take_place.new.self.nodes.items c.args.at ≡ Some c.args.before = c.take_place.ensures.same c.args.at ∙ c.requires.there in
-    rw (c.of.ensures, c.of-2.ensures, c.to.ensures) (counted_behind c.args.self.now.count _ c.in-Some.place c.args.at _ _ c.args.before c.args.self.now.nodes.items _ c.in-Some.ensures.count c.in-Some.ensures.keys free.0 free.1 there
-    (still_free c.take_place.new.self.nodes.items c.args.at c.in-Some.place c.args.before _ free.1 there) c.requires.counted)
+    counted_behind c.args.self.now.count _ c.in-Some.place c.args.at _ _ c.args.before c.args.self.now.nodes.items _ _ _ c.of.ensures c.of-2.ensures c.in-Some.ensures.count c.in-Some.ensures.keys free.0 free.1 there
+    (still_free c.take_place.new.self.nodes.items c.args.at c.in-Some.place c.args.before _ free.1 there) c.requires.counted

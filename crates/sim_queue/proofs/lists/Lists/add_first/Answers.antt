@@ -15,24 +15,24 @@ returns-then-is_none-clause-linked c =
     let ends : c.take_place.new.self.ends.items ≡ c.args.self.now.ends.items = rw c.take_place.ensures.ends in
     let listed : c.args.due % 256 < length c.take_place.new.self.ends.items = rw c.take_place.ensures.ends c.requires.listed in
     let free = c.in-Some.ensures.free in
-    rw c.of.ensures (added_first c.args.due c.args.serial c.in-Some.place c.args.next _ _ c.args.self.now.nodes.items _ _ ends c.take_place.ensures.same listed free.0 free.1 c.to-ends.ensures c.requires.first c.requires.linked)
+    added_first c.args.due c.args.serial c.in-Some.place c.args.next _ _ c.args.self.now.nodes.items _ _ _ c.of.ensures ends c.take_place.ensures.same listed free.0 free.1 c.to-ends.ensures c.requires.first c.requires.linked
 
 pub returns-else-is_none-clause-linked : goal.returns-else-is_none-clause-linked
 returns-else-is_none-clause-linked c =
     let ends : c.take_place.new.self.ends.items ≡ c.args.self.now.ends.items = rw c.take_place.ensures.ends in
     let listed : c.args.due % 256 < length c.take_place.new.self.ends.items = rw c.take_place.ensures.ends c.requires.listed in
     let free = c.in-Some.ensures.free in
-    rw c.of.ensures (added_first c.args.due c.args.serial c.in-Some.place c.args.next _ _ c.args.self.now.nodes.items _ _ ends c.take_place.ensures.same listed free.0 free.1 c.to-ends.ensures c.requires.first c.requires.linked)
+    added_first c.args.due c.args.serial c.in-Some.place c.args.next _ _ c.args.self.now.nodes.items _ _ _ c.of.ensures ends c.take_place.ensures.same listed free.0 free.1 c.to-ends.ensures c.requires.first c.requires.linked
 
 pub returns-then-is_none-clause-added : goal.returns-then-is_none-clause-added
 returns-then-is_none-clause-added c =
     let free = c.in-Some.ensures.free in
-    rw c.of.ensures (first_added c.args.self.now.nodes.items _ _ c.args.next c.args.due c.args.serial c.take_place.ensures.same free.0 free.1)
+    first_added c.args.self.now.nodes.items _ _ c.args.next c.args.due c.args.serial _ c.of.ensures c.take_place.ensures.same free.0 free.1
 
 pub returns-else-is_none-clause-added : goal.returns-else-is_none-clause-added
 returns-else-is_none-clause-added c =
     let free = c.in-Some.ensures.free in
-    rw c.of.ensures (first_added c.args.self.now.nodes.items _ _ c.args.next c.args.due c.args.serial c.take_place.ensures.same free.0 free.1)
+    first_added c.args.self.now.nodes.items _ _ c.args.next c.args.due c.args.serial _ c.of.ensures c.take_place.ensures.same free.0 free.1
 
 pub overflow_add-self : goal.overflow_add-self
 overflow_add-self c =
@@ -47,9 +47,9 @@ overflow_add-self c =
 pub returns-then-is_none-clause-counted : goal.returns-then-is_none-clause-counted
 returns-then-is_none-clause-counted c =
     let free = c.in-Some.ensures.free in
-    rw c.of.ensures (counted_first c.args.self.now.count _ _ _ c.args.self.now.nodes.items _ c.in-Some.ensures.count c.in-Some.ensures.keys free.0 free.1 c.requires.counted)
+    counted_first c.args.self.now.count _ _ _ c.args.self.now.nodes.items _ _ c.of.ensures c.in-Some.ensures.count c.in-Some.ensures.keys free.0 free.1 c.requires.counted
 
 pub returns-else-is_none-clause-counted : goal.returns-else-is_none-clause-counted
 returns-else-is_none-clause-counted c =
     let free = c.in-Some.ensures.free in
-    rw c.of.ensures (counted_first c.args.self.now.count _ _ _ c.args.self.now.nodes.items _ c.in-Some.ensures.count c.in-Some.ensures.keys free.0 free.1 c.requires.counted)
+    counted_first c.args.self.now.count _ _ _ c.args.self.now.nodes.items _ _ c.of.ensures c.in-Some.ensures.count c.in-Some.ensures.keys free.0 free.1 c.requires.counted

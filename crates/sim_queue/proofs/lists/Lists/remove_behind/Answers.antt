@@ -25,43 +25,43 @@ returns-then-is_none-clause-linked c =
     let ahead : (c.in-Some.first.due % 256 ≡ c.args.gone.due % 256) × (c.in-Some.first.due ≤ c.args.gone.due) × (c.in-Some.first.serial < c.args.gone.serial) = c.if-not-leads.ensures in
     let listed : c.args.gone.due % 256 < length c.args.self.now.ends.items = rw (← c.args.self.now.ends.ok.0, ← c.len.ensures) c.if-list-len.false in
     let first = first_read c.args.self.now.ends.items c.args.gone.due c.index_mut-then-is_none.result.now listed c.index_mut-then-is_none.ensures.value in
-    rw (c.of.ensures, c.free.ensures) (gone_linked c.args.self.now.ends.items _ c.args.self.now.nodes.items c.args.before c.args.place c.in-Some.first c.args.gone c.requires.there there leads ahead
-    (heads_kept c.args.self.now.ends.items c.args.gone.due _ listed first) c.requires.linked)
+    gone_linked c.args.self.now.ends.items _ c.args.self.now.nodes.items c.args.before c.args.place c.in-Some.first c.args.gone _ _ c.of.ensures c.free.ensures c.requires.there there leads ahead
+    (heads_kept c.args.self.now.ends.items c.args.gone.due _ listed first) c.requires.linked
 
 pub returns-then-is_none-clause-counted : goal.returns-then-is_none-clause-counted
 returns-then-is_none-clause-counted c =
     let there : node c.args.self.now.nodes.items c.args.before ≡ Some c.in-Some.first = sym c.in-Some.ensures in
     let ahead : (c.in-Some.first.due % 256 ≡ c.args.gone.due % 256) × (c.in-Some.first.due ≤ c.args.gone.due) × (c.in-Some.first.serial < c.args.gone.serial) = c.if-not-leads.ensures in
-    rw (c.of.ensures, c.free.ensures) (counted_gone _ c.args.place c.args.before _ c.in-Some.first c.args.gone c.args.self.now.nodes.items there
-    (still_there c.args.self.now.nodes.items c.args.before c.args.place c.in-Some.first c.args.gone _ there c.requires.there ahead.2) c.requires.counted)
+    counted_gone _ c.args.place c.args.before _ c.in-Some.first c.args.gone c.args.self.now.nodes.items _ _ c.of.ensures c.free.ensures there
+    (still_there c.args.self.now.nodes.items c.args.before c.args.place c.in-Some.first c.args.gone _ there c.requires.there ahead.2) c.requires.counted
 
 pub returns-else-is_none-clause-linked : goal.returns-else-is_none-clause-linked
 returns-else-is_none-clause-linked c =
     let there : node c.args.self.now.nodes.items c.args.before ≡ Some c.in-Some.first = sym c.in-Some.ensures in
     let leads : c.in-Some.first.next ≡ Some c.args.place = leads_on c.in-Some.first.next c.get.result c.args.place c.get.ensures.place c.if-ne.ensures in
     let ahead : (c.in-Some.first.due % 256 ≡ c.args.gone.due % 256) × (c.in-Some.first.due ≤ c.args.gone.due) × (c.in-Some.first.serial < c.args.gone.serial) = c.if-not-leads.ensures in
-    rw (c.of.ensures, c.free.ensures) (gone_linked c.args.self.now.ends.items _ c.args.self.now.nodes.items c.args.before c.args.place c.in-Some.first c.args.gone c.requires.there there leads ahead (λ d. refl) c.requires.linked)
+    gone_linked c.args.self.now.ends.items _ c.args.self.now.nodes.items c.args.before c.args.place c.in-Some.first c.args.gone _ _ c.of.ensures c.free.ensures c.requires.there there leads ahead (λ d. refl) c.requires.linked
 
 pub returns-else-is_none-clause-counted : goal.returns-else-is_none-clause-counted
 returns-else-is_none-clause-counted c =
     let there : node c.args.self.now.nodes.items c.args.before ≡ Some c.in-Some.first = sym c.in-Some.ensures in
     let ahead : (c.in-Some.first.due % 256 ≡ c.args.gone.due % 256) × (c.in-Some.first.due ≤ c.args.gone.due) × (c.in-Some.first.serial < c.args.gone.serial) = c.if-not-leads.ensures in
-    rw (c.of.ensures, c.free.ensures) (counted_gone _ c.args.place c.args.before _ c.in-Some.first c.args.gone c.args.self.now.nodes.items there
-    (still_there c.args.self.now.nodes.items c.args.before c.args.place c.in-Some.first c.args.gone _ there c.requires.there ahead.2) c.requires.counted)
+    counted_gone _ c.args.place c.args.before _ c.in-Some.first c.args.gone c.args.self.now.nodes.items _ _ c.of.ensures c.free.ensures there
+    (still_there c.args.self.now.nodes.items c.args.before c.args.place c.in-Some.first c.args.gone _ there c.requires.there ahead.2) c.requires.counted
 
 pub returns-then-is_none-clause-without : goal.returns-then-is_none-clause-without
 returns-then-is_none-clause-without c =
     let there : node c.args.self.now.nodes.items c.args.before ≡ Some c.in-Some.first = sym c.in-Some.ensures in
     let leads : c.in-Some.first.next ≡ Some c.args.place = leads_on c.in-Some.first.next c.get.result c.args.place c.get.ensures.place c.if-ne.ensures in
     let ahead : (c.in-Some.first.due % 256 ≡ c.args.gone.due % 256) × (c.in-Some.first.due ≤ c.args.gone.due) × (c.in-Some.first.serial < c.args.gone.serial) = c.if-not-leads.ensures in
-    rw (c.of.ensures, c.free.ensures) (gone_without c.args.self.now.nodes.items c.args.before c.args.place c.in-Some.first c.args.gone c.requires.there there leads ahead)
+    gone_without c.args.self.now.nodes.items c.args.before c.args.place c.in-Some.first c.args.gone _ _ c.of.ensures c.free.ensures c.requires.there there leads ahead
 
 pub returns-else-is_none-clause-without : goal.returns-else-is_none-clause-without
 returns-else-is_none-clause-without c =
     let there : node c.args.self.now.nodes.items c.args.before ≡ Some c.in-Some.first = sym c.in-Some.ensures in
     let leads : c.in-Some.first.next ≡ Some c.args.place = leads_on c.in-Some.first.next c.get.result c.args.place c.get.ensures.place c.if-ne.ensures in
     let ahead : (c.in-Some.first.due % 256 ≡ c.args.gone.due % 256) × (c.in-Some.first.due ≤ c.args.gone.due) × (c.in-Some.first.serial < c.args.gone.serial) = c.if-not-leads.ensures in
-    rw (c.of.ensures, c.free.ensures) (gone_without c.args.self.now.nodes.items c.args.before c.args.place c.in-Some.first c.args.gone c.requires.there there leads ahead)
+    gone_without c.args.self.now.nodes.items c.args.before c.args.place c.in-Some.first c.args.gone _ _ c.of.ensures c.free.ensures c.requires.there there leads ahead
 
 pub returns-in-None : goal.returns-in-None
 returns-in-None c = record { without = same_without c.args.gone.due c.args.gone.serial c.args.self.now.nodes.items; linked = c.requires.linked; counted = c.requires.counted; marks = refl }
