@@ -1,7 +1,8 @@
 -- What an edit of the items and of the indexes does to the slots.
 use Rattle.std.proofs.Common.{◌≡◌, ◌≢◌, ℕ, zero, suc, ◌+◌, ◌-◌, ◌<◌, ◌≤◌, List, [], ◌∷◌, ◌++◌, Option, Some, None, refl, sym, ap, ◌∙◌, arith, ◌⊎◌, inl, inr, ⊎_elim, length}
 use Rattle.std.proofs.Math.ListN.{get_or, set, length-set}
-use Rattle.std.proofs.lemmas.Bool.{cases_eq, cases_lt}
+use Rattle.std.proofs.Common.{Result, Ok, Err, IsErr, IfOk, OnOk, OnErr}
+use Rattle.std.proofs.lemmas.Bool.{cases_eq, cases_lt, false≢true}
 use Rattle.std.proofs.lemmas.List.{ext_get_or, get_or-set_same, get_or-set_other, map_push, map-set, length_push, length-map, set-get_or, set-set, set_at, get_or_default}
 use Rattle.std.proofs.lemmas.Option.{slice_get_past, same_Some, none-some}
 use Rattle.std.specs.List.{slice_get}
@@ -44,6 +45,19 @@ last_is_some xs old x h =
     let more : length xs ≡ length old + 1 = ap (λ ys. length ys) h ∙ length_push old (Some x) in
     let last : length xs - 1 ≡ length old = omega arith in
     ap (λ o. is_some o) (ap (λ (n : ℕ). get_or xs n None) last ∙ ap (λ ys. get_or ys (length old) None) h ∙ spot_last old (Some x))
+
+-- what is said of a result that is an error
+pub err_if_ok : {X E : Type 0} (r : Result X E) (P : X → Type 0) → IsErr r → IfOk r P
+err_if_ok (Ok x) P h = absurd (false≢true h)
+err_if_ok (Err e) P h = tt
+
+pub err_on_ok : {X E : Type 0} (r : Result X E) (P : Type 0) → IsErr r → OnOk r P
+err_on_ok (Ok x) P h = absurd (false≢true h)
+err_on_ok (Err e) P h = tt
+
+pub err_on_err : {X E P : Type 0} (r : Result X E) → P → OnErr r P
+err_on_err (Ok x) p = tt
+err_on_err (Err e) p = p
 
 -- room for one more
 pub below_room : (len capacity : ℕ) → len + 1 ≤ capacity → len < capacity

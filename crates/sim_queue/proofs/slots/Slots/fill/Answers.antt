@@ -2,7 +2,7 @@ use Rattle.std.proofs.Common.{◌≡◌, ◌<◌, deque_len, refl, ap, ◌∙◌
 use Rattle.std.proofs.Math.ListN.{set}
 use Rattle.sim_queue.specs.Slots.{at}
 use Rattle.sim_queue.specs.Sparse.{SlotList, slots_of}
-use Rattle.sim_queue.proofs.Sparse.{below_room, filled_slots, filled_sparse, no_index, within_slots}
+use Rattle.sim_queue.proofs.Sparse.{below_room, err_on_ok, err_on_err, filled_slots, filled_sparse, no_index, within_slots}
 use Rattle.sim_queue.proofs.slots.Slots.fill.Goals as goal
 
 pub invariant_of-self-2 : goal.invariant_of-self-2
@@ -33,3 +33,17 @@ push_reserved-requires g c = below_room _ _ c.in_ok-reserve.ensures.ok
 
 pub invariant_of-self : goal.invariant_of-self
 invariant_of-self g c = rw c.reserve.ensures.items c.self.invariant
+
+pub returns-in_err-index : goal.returns-in_err-index
+returns-in_err-index g c = record {
+  ok = err_on_ok c.from_residual.result _ c.from_residual.ensures.0;
+  err = err_on_err c.from_residual.result (refl);
+  base = refl;
+}
+
+pub returns-in_err-reserve : goal.returns-in_err-reserve
+returns-in_err-reserve g c = record {
+  ok = err_on_ok c.from_residual-in_err-reserve.result _ c.from_residual-in_err-reserve.ensures.0;
+  err = err_on_err c.from_residual-in_err-reserve.result (rw c.reserve.ensures.items (ap (λ (s : SlotList _). s.items) c.self.view_is));
+  base = ap (λ (s : SlotList _). s.base) c.self.view_is;
+}

@@ -1,6 +1,6 @@
-use Rattle.std.proofs.Common.{◌≡◌, ◌∷◌, ◌++◌, [], ℕ, sym, ap, ◌∙◌, ◌+◌, length}
+use Rattle.std.proofs.Common.{◌≡◌, refl, ◌∷◌, ◌++◌, [], ℕ, sym, ap, ◌∙◌, ◌+◌, length}
 use Rattle.sim_queue.specs.Sparse.{SlotList}
-use Rattle.sim_queue.proofs.Sparse.{below_room, length_slots, pushed_slots, pushed_sparse}
+use Rattle.sim_queue.proofs.Sparse.{below_room, err_if_ok, err_on_ok, err_on_err, length_slots, pushed_slots, pushed_sparse}
 use Rattle.sim_queue.proofs.slots.Slots.push.Goals as goal
 
 pub invariant_of-self-2 : goal.invariant_of-self-2
@@ -31,3 +31,27 @@ push_reserved-requires g c = below_room _ _ c.in_ok-reserve-2.ensures.ok
 
 pub push_back_reserved-requires : goal.push_back_reserved-requires
 push_back_reserved-requires g c = below_room _ _ c.in_ok-reserve.ensures.ok
+
+pub returns-in_err-index : goal.returns-in_err-index
+returns-in_err-index g c = record {
+  serial = err_if_ok c.from_residual.result _ c.from_residual.ensures.0;
+  ok = err_on_ok c.from_residual.result _ c.from_residual.ensures.0;
+  err = err_on_err c.from_residual.result (refl);
+  base = refl;
+}
+
+pub returns-in_err-reserve : goal.returns-in_err-reserve
+returns-in_err-reserve g c = record {
+  serial = err_if_ok c.from_residual-in_err-reserve.result _ c.from_residual-in_err-reserve.ensures.0;
+  ok = err_on_ok c.from_residual-in_err-reserve.result _ c.from_residual-in_err-reserve.ensures.0;
+  err = err_on_err c.from_residual-in_err-reserve.result (rw c.reserve.ensures.items (ap (λ (s : SlotList _). s.items) c.self.view_is));
+  base = ap (λ (s : SlotList _). s.base) c.self.view_is;
+}
+
+pub returns-in_err-reserve-2 : goal.returns-in_err-reserve-2
+returns-in_err-reserve-2 g c = record {
+  serial = err_if_ok c.from_residual-in_err-reserve-2.result _ c.from_residual-in_err-reserve-2.ensures.0;
+  ok = err_on_ok c.from_residual-in_err-reserve-2.result _ c.from_residual-in_err-reserve-2.ensures.0;
+  err = err_on_err c.from_residual-in_err-reserve-2.result (rw (c.reserve-2.ensures.items, c.reserve.ensures.items) (ap (λ (s : SlotList _). s.items) c.self.view_is));
+  base = ap (λ (s : SlotList _). s.base) c.self.view_is;
+}
