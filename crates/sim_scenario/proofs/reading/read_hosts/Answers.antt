@@ -2,48 +2,11 @@ use Rattle.std.proofs.Common.{◌≡◌, ◌∙◌, ap, map, length, string_byte
 use Rattle.std.proofs.lemmas.List.{length-map}
 use Rattle.sim_scenario.specs.Faults.{Gives}
 use Rattle.sim_scenario.specs.Links.{link_said}
-use Rattle.sim_scenario.specs.Parts.{hosts_in, joined_in}
+use Rattle.sim_scenario.specs.Parts.{joined_in}
 use Rattle.sim_scenario.specs.Seen.{seen}
 use Rattle.sim_scenario.specs.declared.reading.Rest.{Rest}
-use Rattle.sim_scenario.proofs.Given.{Gives-passed}
-use Rattle.sim_scenario.proofs.Joining.{hosts_in-said, given, stopped}
+use Rattle.sim_scenario.proofs.Joining.{hosts_in-said}
 use Rattle.sim_scenario.proofs.reading.read_hosts.Goals as goal
-
-pub returns-in_err-server_names-clause-said : goal.returns-in_err-server_names-clause-said
-unfolding hosts_in
-returns-in_err-server_names-clause-said c =
-    Gives-passed _ c.from_residual.result c.in_err-server_names.field-0.0 _ c.from_residual.ensures.1
-    (λ other. (stopped _ (c.in_err-server_names.ensures other)).same)
-
-pub returns-in_err-checkpoint-clause-said : goal.returns-in_err-checkpoint-clause-said
-unfolding hosts_in
-returns-in_err-checkpoint-clause-said c =
-    Gives-passed _ c.from_residual-in_err-checkpoint.result c.in_err-checkpoint.field-0.0 _ c.from_residual-in_err-checkpoint.ensures.1
-    (λ other. (given _ c.in_ok-server_names.ensures (stopped _ (c.in_err-checkpoint.ensures other))).same)
-
-pub returns-in_err-window-clause-said : goal.returns-in_err-window-clause-said
-unfolding hosts_in
-returns-in_err-window-clause-said c =
-    Gives-passed _ c.from_residual-in_err-window.result c.in_err-window.field-0.0 _ c.from_residual-in_err-window.ensures.1
-    (λ other. (given _ c.in_ok-server_names.ensures (given _ c.in_ok-checkpoint.ensures (stopped _ (c.in_err-window.ensures other)))).same)
-
-pub returns-in_err-hosts-clause-said : goal.returns-in_err-hosts-clause-said
-unfolding hosts_in
-returns-in_err-hosts-clause-said c =
-    Gives-passed _ c.from_residual-in_err-hosts.result c.in_err-hosts.field-0.0 _ c.from_residual-in_err-hosts.ensures.1
-    (λ other. (given _ c.in_ok-server_names.ensures (given _ c.in_ok-checkpoint.ensures (given _ c.in_ok-window.ensures (stopped _ (c.in_err-hosts.ensures.said other))))).same)
-
-pub returns-in_err-disk_latency-clause-said : goal.returns-in_err-disk_latency-clause-said
-unfolding hosts_in
-returns-in_err-disk_latency-clause-said c =
-    Gives-passed _ c.from_residual-in_err-disk_latency.result c.in_err-disk_latency.field-0.0 _ c.from_residual-in_err-disk_latency.ensures.1
-    (λ other. (given _ c.in_ok-server_names.ensures (given _ c.in_ok-checkpoint.ensures (given _ c.in_ok-window.ensures (given _ c.in_ok-hosts.ensures.said (stopped _ (c.in_err-disk_latency.ensures other)))))).same)
-
-pub returns-in_err-links-clause-said : goal.returns-in_err-links-clause-said
-unfolding hosts_in
-returns-in_err-links-clause-said c =
-    Gives-passed _ c.from_residual-in_err-links.result c.in_err-links.field-0.0 _ c.from_residual-in_err-links.ensures.1
-    (λ other. (given _ c.in_ok-server_names.ensures (given _ c.in_ok-checkpoint.ensures (given _ c.in_ok-window.ensures (given _ c.in_ok-hosts.ensures.said (given _ c.in_ok-disk_latency.ensures (stopped _ (c.in_err-links.ensures other))))))).same)
 
 pub returns-clause-said : goal.returns-clause-said
 returns-clause-said c =
