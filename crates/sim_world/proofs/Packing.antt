@@ -5,12 +5,16 @@ use Rattle.std.proofs.Common.{sym, ap, subst, ◌∙◌, arith}
 use Rattle.std.proofs.lemmas.Option.{slice_get_within}
 use Rattle.std.proofs.lemmas.List.{map-append, length-map, length-take-le}
 use Rattle.sim_disk.specs.Disk.{Disk}
+use Rattle.sim_links.specs.Link.{Links}
+use Rattle.sim_queue.specs.Pending.{Pending}
 use Rattle.sim_world.specs.declared.host.Host.{Host}
 use Rattle.sim_world.specs.declared.packed_hosts.KeptHost.{KeptHost}
 use Rattle.sim_node.specs.declared.Setup.{Setup}
-use Rattle.sim_world.specs.Index.{InHand}
+use Rattle.sim_world.specs.World.{Occurrence, Scenario, World}
+use Rattle.sim_world.specs.Index.{InHand, IsIndex}
 use Rattle.sim_world.specs.Held.{Held, IsHeld, in_hand}
-use Rattle.sim_world.specs.Packed.{hosts_in, IsPacked}
+use Rattle.sim_world.specs.Packed.{HostsInHand, hosts_in, timers_in, IsPacked}
+use Rattle.sim_world.specs.Sound.{IsSound}
 use Rattle.sim_world.proofs.Copying.{index-of-same}
 
 -- the host of a kept one and a disk
@@ -67,3 +71,38 @@ packed-same told k key flying waiting serials kept is same words fly held timers
       index = index-of-same k.index flying waiting serials k.parts.world is.index fly held timers;
       seed = words ∙ is.seed;
     })
+
+-- hosts that are kept are those that were given, and so are their timers
+pub hosts-same : {State : Type 0} (kept : List (KeptHost State)) (disks : List Disk) (hosts : List (Host State)) (timers : List (Option ℕ))
+    → disks ≡ map (λ h. h.disk) hosts → hosts_in kept (map (λ h. h.disk) hosts) ≡ hosts → timers_in kept ≡ timers
+    → ◌≡◌ {A = HostsInHand State} (record { hosts = hosts_in kept disks; timers = timers_in kept }) (record { hosts = hosts; timers = timers })
+hosts-same kept disks hosts timers same all serials =
+    ap (λ hs. record { hosts = hs; timers = timers_in kept }) (ap (hosts_in kept) same ∙ all)
+    ∙ ap (λ ts. record { hosts = hosts; timers = ts }) serials
+
+-- a world of equal parts
+pub world-same : {State Msg : Type 0} (clock : ℕ) (places places₁ : List ℕ) (queue queue₁ : Pending (Occurrence Msg)) (links links₁ : Links Msg)
+    (hosts hosts₁ : List (Host State)) → places ≡ places₁ → queue ≡ queue₁ → links ≡ links₁ → hosts ≡ hosts₁
+    → ◌≡◌ {A = World State Msg} (record { clock = clock; places = places; queue = queue; links = links; hosts = hosts })
+    (record { clock = clock; places = places₁; queue = queue₁; links = links₁; hosts = hosts₁ })
+world-same clock places places₁ queue queue₁ links links₁ hosts hosts₁ p q l h = cc
+
+-- an equal world in hand, of a world and a scenario
+pub hand-same : {State Msg : Type 0} (old now : InHand State Msg) (w : World State Msg) (s : Scenario) → old ≡ now → w ≡ old.world → s ≡ old.scenario
+    → ◌≡◌ {A = InHand State Msg} (record { world = w; scenario = s; age = old.age }) now
+hand-same old now w s e world scenario =
+    ap (λ x. record { world = x; scenario = s; age = old.age }) world ∙ (ap (λ x. record { world = old.world; scenario = x; age = old.age }) scenario ∙ e)
+
+-- what is opened of a world that is kept is one of a run, with no effects
+pub opened-held : {State Msg : Type 0} (told : State → Setup) (old now : InHand State Msg) (key : List ℕ) (flying waiting : ℕ) (serials : List (Option ℕ))
+    (k : Held State Msg) → IsPacked told key flying waiting serials old → old ≡ now → k.parts.world ≡ now.world → k.parts.seed ≡ now.scenario.seed
+    → IsIndex k.index now.world → k.effects ≡ record { hosts = old.scenario.setup.hosts; list = [] } → k.scenario ≡ old.scenario → k.age ≡ old.age
+    → IsHeld told k
+opened-held told old now key flying waiting serials k is same world seed index effects scenario age = record {
+  sound = subst (λ s. IsSound told s k.age k.parts.world) (sym scenario)
+      (subst (λ a. IsSound told old.scenario a k.parts.world) (sym age)
+      (subst (λ w. IsSound told old.scenario old.age w) (ap (λ h. h.world) same ∙ sym world) is.sound));
+  index = subst (λ w. IsIndex k.index w) (sym world) index;
+  seed = seed ∙ sym (ap (λ (s : Scenario). s.seed) (scenario ∙ ap (λ h. h.scenario) same));
+  effects = effects ∙ ap (λ (s : Scenario). record { hosts = s.setup.hosts; list = [] }) (sym scenario);
+}

@@ -132,23 +132,35 @@ impl<N: Node> PackedWorld<N> {
         })
     }
 
+    // An equal cluster. The nodes of the hosts that run are copied.
+    fn cluster(&self, alloc: Global, meter: &mut N::Meter) -> Result<Cluster<N>, NoMemory>
+        ensures same { IfOk result (λ cluster. in_hand cluster ≡ self.now) }
+        ensures held { IfOk result (λ cluster. IsHeld N.told cluster) }
+        ensures work { OnOk result (N.Meter.work meter.new ≡ copied_by (running self.now.world) (N.Meter.work meter.old)) }
+    {
+        let setup = self.scenario.setup();
+        let index = self.index(alloc)?;
+        let effects = Effects::new(alloc, &setup)?;
+        let scenario = Arc::try_clone(&self.scenario)?;
+        let parts = self.parts(alloc, meter)?;
+        Ok(Cluster {
+            parts,
+            index,
+            effects,
+            scenario,
+            age: self.age,
+            spare: Vec::new(alloc),
+            forgetful: Trail::forgetful(alloc),
+        })
+    }
+
     /// An equal world. The node of each host that runs is copied, and none is turned or taken back. The scenario is shared. The
     /// only error is want of memory.
     pub fn open(&self, alloc: Global, meter: &mut N::Meter) -> Result<World<N>, NoMemory>
         ensures same { IfOk result (λ world. world ≡ self.now) }
         ensures work { OnOk result (N.Meter.work meter.new ≡ copied_by (running self.now.world) (N.Meter.work meter.old)) }
     {
-        let setup = self.scenario.setup();
-        let parts = self.parts(alloc, meter)?;
-        let cluster = Cluster {
-            parts,
-            index: self.index(alloc)?,
-            effects: Effects::new(alloc, &setup)?,
-            scenario: Arc::try_clone(&self.scenario)?,
-            age: self.age,
-            spare: Vec::new(alloc),
-            forgetful: Trail::forgetful(alloc),
-        };
+        let cluster = self.cluster(alloc, meter)?;
         let cluster = Box::new(alloc, cluster)?;
         Ok(World { cluster })
     }
