@@ -1,5 +1,5 @@
 use Rattle.std.proofs.Common.{◌≡◌, ◌∙◌, ◌+◌, ◌<◌, ◌++◌, ◌∷◌, [], ap, sym, length, map, take, arith}
-use Rattle.std.proofs.lemmas.List.{take_more, map-append}
+use Rattle.std.proofs.lemmas.List.{take_all, take_more, map-append}
 use Rattle.sim_disk.specs.Disk.{Disk}
 use Rattle.sim_world.specs.declared.host.Host.{Host}
 use Rattle.sim_world.proofs.packed_hosts.packed_disks.Goals as goal
@@ -14,3 +14,6 @@ loop-host-preserved g c =
     let more : take (i + 1) hosts ≡ take i hosts ++ host ∷ [] = cc (c.host-item.is, take_more hosts i host inside) in
     c.in_ok-push.ensures
     ∙ (ap (λ ds. ds ++ host.disk ∷ []) c.loop-host.invariant ∙ sym (ap (map disk) more ∙ map-append disk (take i hosts) (host ∷ [])))
+
+pub returns : goal.returns
+returns g c = c.loop-host.invariant ∙ ap (map (λ h. h.disk)) (take_all c.loop-host.host-index c.args.hosts.now c.loop-host-test.false)

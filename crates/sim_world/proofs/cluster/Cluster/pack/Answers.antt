@@ -12,7 +12,7 @@ invariant_of-result g c =
     let streams = c.copy.ensures ∙ c.deref.ensures in
     let hosts = ap (λ h. h.hosts) c.in_ok-hosts.ensures.hosts ∙ c.as_slice.ensures.value in
     let world = world-same parts.clock _ parts.streams.value.places _ parts.queue _ parts.links _ parts.hosts.items
-        (ap (λ s. s.places) streams) c.in_ok-queue.ensures c.in_ok-links.ensures hosts ∙ ap (λ p. p.world) c.parts.view_is in
+    (ap (λ s. s.places) streams) c.in_ok-queue.ensures c.in_ok-links.ensures hosts ∙ ap (λ p. p.world) c.parts.view_is in
     let same = hand-same _ (in_hand k) _ c.in_ok-scenario.scenario.value (ap (λ x. in_hand x) c.self.view_is) world c.in_ok-scenario.ensures in
     packed-same g.N.Node.told k c.copy.result.seed c.self.inside.index.in_flight c.self.inside.index.held c.in_ok-hosts.hosts.timers _
     c.requires same
@@ -27,7 +27,7 @@ returns-clause-same g c =
     let streams = c.copy.ensures ∙ c.deref.ensures in
     let hosts = ap (λ h. h.hosts) c.in_ok-hosts.ensures.hosts ∙ c.as_slice.ensures.value in
     let world = world-same parts.clock _ parts.streams.value.places _ parts.queue _ parts.links _ parts.hosts.items
-        (ap (λ s. s.places) streams) c.in_ok-queue.ensures c.in_ok-links.ensures hosts ∙ ap (λ p. p.world) c.parts.view_is in
+    (ap (λ s. s.places) streams) c.in_ok-queue.ensures c.in_ok-links.ensures hosts ∙ ap (λ p. p.world) c.parts.view_is in
     hand-same _ (in_hand k) _ c.in_ok-scenario.scenario.value (ap (λ x. in_hand x) c.self.view_is) world c.in_ok-scenario.ensures
 
 pub returns-clause-work : goal.returns-clause-work

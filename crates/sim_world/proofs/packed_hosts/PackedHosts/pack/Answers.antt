@@ -1,5 +1,3 @@
-use Rattle.std.proofs.Common.{◌≡◌, ◌∙◌, ap, sym}
-use Rattle.std.proofs.lemmas.List.{length-map}
 use Rattle.sim_world.proofs.Packing.{hosts-same}
 use Rattle.sim_world.proofs.packed_hosts.PackedHosts.pack.Goals as goal
 

@@ -1,5 +1,5 @@
 use Rattle.std.proofs.Common.{◌≡◌, ◌∙◌, ◌+◌, ◌<◌, ◌++◌, ◌∷◌, [], ap, sym, length, take, arith}
-use Rattle.std.proofs.lemmas.List.{take_more, map-append}
+use Rattle.std.proofs.lemmas.List.{take_all, take_more, map-append}
 use Rattle.sim_world.specs.Packed.{timers_in}
 use Rattle.sim_world.proofs.packed_hosts.PackedHosts.timers.Goals as goal
 
@@ -12,3 +12,8 @@ loop-kept-preserved g c =
     let more : take (i + 1) kept ≡ take i kept ++ k ∷ [] = cc (c.kept-item.is, take_more kept i k inside) in
     c.in_ok-push.ensures.items
     ∙ (ap (λ ts. ts ++ k.timer ∷ []) c.loop-kept.invariant ∙ sym (ap timers_in more ∙ map-append (λ x. x.timer) (take i kept) (k ∷ [])))
+
+pub returns : goal.returns
+returns g c =
+    let all = take_all c.loop-kept.kept-index c.deref-kept-items.result.now c.loop-kept-test.false in
+    c.loop-kept.invariant ∙ (ap timers_in (all ∙ c.deref-kept-items.ensures.value) ∙ ap (λ p. p.timers) c.self.view_is)
