@@ -9,8 +9,9 @@ use Rattle.sim_node.specs.declared.Input.{Input}
 use Rattle.sim_node.specs.Effects.{Effects}
 use Rattle.sim_node.specs.Node.{IsFrom}
 use Rattle.sim_world.specs.declared.index.Index.{Index}
-use Rattle.sim_world.specs.World.{Scenario, Occurrence, Seeded, host_at, place, input_of, occurrence_of, on_world}
-use Rattle.sim_world.specs.Events.{begun}
+use Rattle.sim_world.specs.World.{Scenario, Occurrence, Seeded, host_at, place, input_of, occurrence_of, on_world, runs}
+use Rattle.sim_world.specs.Acts.{acts_by}
+use Rattle.sim_world.specs.Events.{Rules, begun, happened, stepped, stepped_by}
 use Rattle.sim_world.specs.Giving.{CanGive}
 use Rattle.sim_world.specs.Index.{IsIndex, flight_without, timers_without}
 use Rattle.sim_world.specs.Room.{HasRoom, IsReady, IsReadyFor}
@@ -40,3 +41,19 @@ module _ {State Msg : Type 0} (told : State → Setup) (s : Scenario) (p v : See
         setup = λ node at. ap (λ t. t.hosts) (ready.setups h node (ap (λ z. (host_at h z.world).node) (sym b) ∙ at)) ∙ sym count;
         sender = subst (λ n. IsFrom n i) (sym count) (subst (λ y. IsFrom s.setup.hosts y) (ap (λ z. input_of z.body) (sym is) ∙ input_same covered i) r.sender);
       }
+
+-- what the first occurrence does is what a step does
+module _ {State Msg : Type 0} (p v : Seeded State Msg) (x : Item (Occurrence Msg)) (h covered : ℕ) (i : Input Msg)
+    (is : occurrence_of h covered i ≡ x.body) (first_is : first p.world.queue.items ≡ Some x) (b : v ≡ on_world (begun x) p) where
+  pub stepped_first : (r : Rules State Msg) (n : Seeded State Msg) → n ≡ on_world (happened r (occurrence_of h covered i)) v → n ≡ record p { world = stepped r p.world }
+  stepped_first r n e =
+      e
+      ∙ (ap (λ z. on_world (happened r z) v) is
+      ∙ (ap (on_world (happened r x.body)) b
+      ∙ ap (λ o. record p { world = stepped_by r o p.world }) (sym first_is)))
+
+  pub acts_first : runs h v.world ≡ acts_by (first p.world.queue.items) p.world
+  acts_first =
+      ap (λ z. runs h z.world) b
+      ∙ (ap (λ z. runs z.host p.world) is
+      ∙ ap (λ o. acts_by o p.world) (sym first_is))

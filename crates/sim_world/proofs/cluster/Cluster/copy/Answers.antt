@@ -20,3 +20,7 @@ returns-clause-age g c = ap (λ k. k.age) c.self.view_is
 pub returns-clause-work : goal.returns-clause-work
 returns-clause-work g c =
     c.in_ok-parts.ensures.work ∙ ap (λ k. copied_by (running k.parts.world) (g.N.Meter.Meter.work c.args.meter.now)) c.self.view_is
+
+pub returns-clause-scenario : goal.returns-clause-scenario
+returns-clause-scenario g c =
+    c.in_ok-scenario.ensures ∙ ap (λ k. k.scenario) c.self.view_is

@@ -1,9 +1,10 @@
-use Rattle.std.proofs.Common.{◌+◌, ◌≤◌, ap, subst, ◌∙◌}
+use Rattle.std.proofs.Common.{◌+◌, ◌≤◌, sym, ap, subst, ◌∙◌}
 use Rattle.sim_world.specs.Acts.{reactions_of, turns_of, turned_by}
 use Rattle.sim_world.specs.Clock.{clock_after}
 use Rattle.sim_world.specs.Events.{rules}
-use Rattle.sim_world.specs.Held.{in_hand}
+use Rattle.sim_world.specs.Held.{IsHeld, in_hand}
 use Rattle.sim_world.specs.Records.{AnswersFor}
+use Rattle.sim_world.proofs.Applied.{can_from, young_from}
 use Rattle.sim_world.proofs.world.World.apply.Goals as goal
 
 pub returns-clause-answers : goal.returns-clause-answers
@@ -41,3 +42,21 @@ pub returns-clause-work : goal.returns-clause-work
 returns-clause-work g c =
     let is = ap (λ k. in_hand k) (c.deref_mut-2.ensures.value ∙ (c.behind-cluster.view_is ∙ c.deref_mut.ensures.value)) ∙ c.self.view_is in
     c.in_ok-apply.ensures.work ∙ ap (λ k. turned_by (turns_of k.world c.args.event) (g.N.Meter.Meter.work c.args.meter.now)) is
+
+pub apply-requires-clause-held : goal.apply-requires-clause-held
+apply-requires-clause-held g c =
+    let is = c.deref_mut-2.ensures.value ∙ (c.behind-cluster.view_is ∙ c.deref_mut.ensures.value) in
+    subst (λ k. IsHeld g.N.Node.told k) (sym is) c.self.invariant
+
+pub apply-requires-clause-can : goal.apply-requires-clause-can
+apply-requires-clause-can g c =
+    let is = ap (λ k. in_hand k) (c.deref_mut-2.ensures.value ∙ (c.behind-cluster.view_is ∙ c.deref_mut.ensures.value)) ∙ c.self.view_is in
+    can_from g.N.Node.laws g.N.Node.PROBES _ _ c.args.event is c.requires.can
+
+pub apply-requires-clause-young : goal.apply-requires-clause-young
+apply-requires-clause-young g c =
+    let is = ap (λ k. in_hand k) (c.deref_mut-2.ensures.value ∙ (c.behind-cluster.view_is ∙ c.deref_mut.ensures.value)) ∙ c.self.view_is in
+    young_from _ _ is c.requires.young
+
+pub returns-clause-leads : goal.returns-clause-leads
+returns-clause-leads g c = c.in_ok-apply.ensures.leads

@@ -1,0 +1,42 @@
+use Rattle.std.proofs.Common.{◌≡◌, ◌+◌, Some, sym, ap, subst, ◌∙◌}
+use Rattle.sim_world.specs.declared.Event.TheVariants as event
+use Rattle.sim_world.specs.Acts.{acts, turned_if}
+use Rattle.sim_world.specs.Events.{rules, next}
+use Rattle.sim_world.specs.Held.{IsHeld, in_hand}
+use Rattle.sim_world.proofs.Applied.{can_from, young_from}
+use Rattle.sim_world.proofs.world.World.step_for_good.Goals as goal
+
+pub step_for_good-requires-clause-held : goal.step_for_good-requires-clause-held
+step_for_good-requires-clause-held g c =
+    subst (λ k. IsHeld g.N.Node.told k) (sym c.deref_mut.ensures.value) c.self.invariant
+
+pub step_for_good-requires-clause-can : goal.step_for_good-requires-clause-can
+step_for_good-requires-clause-can g c =
+    let is = ap (λ k. in_hand k) c.deref_mut.ensures.value ∙ c.self.view_is in
+    can_from g.N.Node.laws g.N.Node.PROBES _ _ event.Step is c.requires.can
+
+pub step_for_good-requires-clause-young : goal.step_for_good-requires-clause-young
+step_for_good-requires-clause-young g c =
+    let is = ap (λ k. in_hand k) c.deref_mut.ensures.value ∙ c.self.view_is in
+    young_from _ _ is c.requires.young
+
+pub returns-clause-next : goal.returns-clause-next
+returns-clause-next g c =
+    let is = ap (λ k. in_hand k) c.deref_mut.ensures.value ∙ c.self.view_is in
+    subst (λ k. next (rules g.N.Node.laws g.N.Node.PROBES k.scenario) k.world event.Step ≡ Some c.step_for_good.new.self.parts.world) is
+    c.in_ok-host.ensures.next
+
+pub returns-clause-scenario : goal.returns-clause-scenario
+returns-clause-scenario g c =
+    let is = ap (λ k. in_hand k) c.deref_mut.ensures.value ∙ c.self.view_is in
+    c.in_ok-host.ensures.scenario ∙ ap (λ k. k.scenario) is
+
+pub returns-clause-age : goal.returns-clause-age
+returns-clause-age g c =
+    let is = ap (λ k. in_hand k) c.deref_mut.ensures.value ∙ c.self.view_is in
+    c.in_ok-host.ensures.age ∙ ap (λ k. k.age + 1) is
+
+pub returns-clause-work : goal.returns-clause-work
+returns-clause-work g c =
+    let is = ap (λ k. in_hand k) c.deref_mut.ensures.value ∙ c.self.view_is in
+    c.in_ok-host.ensures.work ∙ ap (λ k. turned_if (acts k.world event.Step) (g.N.Meter.Meter.work c.args.meter.now)) is
