@@ -14,3 +14,4 @@ pub mod Counting
 pub mod Marking
 pub mod Marked
 pub mod Packing
+pub mod Fronts

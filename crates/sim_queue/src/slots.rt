@@ -1,5 +1,5 @@
 //! The slots of a queue, one for each serial from the oldest on. Most are empty, so the items that are there stand densely.
-ghost use Rattle.std.specs.Prelude.{◌≡◌, ℕ, ◌+◌, ◌-◌, ◌^◌, ◌<◌, ◌≤◌, OnOk, OnErr, IfOk, IfSome, MatchOption, Bool, Some, None, ◌∷◌, ◌++◌, [], length, slice_set};
+ghost use Rattle.std.specs.Prelude.{◌≡◌, ℕ, ◌+◌, ◌-◌, ◌^◌, ◌<◌, ◌≤◌, OnOk, OnErr, IfOk, IfSome, MatchOption, Bool, Some, None, ◌∷◌, ◌++◌, [], length, slice_set, replicate};
 ghost use Rattle.std.specs.Bool.{OnTrue};
 ghost use Rattle.std.specs.Fn.{FnReturnsAt};
 ghost use Rattle.std.specs.Option.{option_map, IsSome};
@@ -11,7 +11,6 @@ ghost use Rattle.sim_queue.specs.Sparse.{IsSparse};
 use crate::link::Link;
 use crate::{Item, NoMemory};
 use std::alloc::Global;
-use std::collections::VecDeque;
 use std::marker::Model;
 
 /// The items by their serials: the first slot stands for the serial `base`.
@@ -20,7 +19,7 @@ pub(crate) struct Slots<B> {
     // The items that are there, in any order.
     items: Vec<Item<B>>,
     // The index of each slot's item among the items.
-    places: VecDeque<Link>,
+    places: Vec<Link>,
     base: u64,
 }
 
@@ -40,7 +39,7 @@ impl<B> Slots<B> {
     {
         Slots {
             items: Vec::new(alloc),
-            places: VecDeque::new(alloc),
+            places: Vec::new(alloc),
             base: 0,
         }
     }
@@ -91,7 +90,7 @@ impl<B> Slots<B> {
         self.places.reserve(1)?;
         self.items.reserve(1)?;
         self.items.push_reserved(Item { due, serial, body });
-        self.places.push_back_reserved(Link::to(index));
+        self.places.push_reserved(Link::to(index));
         Ok(serial)
     }
 
@@ -142,40 +141,56 @@ impl<B> Slots<B> {
     {
         let last = self.len() - 1;
         let taken = self.take(last).unwrap();
-        self.places.pop_back();
+        self.places.pop();
         taken
     }
 
-    /// Whether the first slot is there, and empty.
-    pub(crate) fn is_empty_at_front(&self) -> bool
-        ensures { OnTrue result ((0 < length self.now.items) × (at self.now.items 0 ≡ None)) }
+    /// Whether one more slot would take memory.
+    #[inline(always)]
+    pub(crate) fn is_full(&self) -> bool {
+        self.places.len() == self.places.capacity()
+    }
+
+    /// How many slots are empty before the first one that is not.
+    pub(crate) fn empty_at_front(&self) -> usize
+        ensures within { result ≤ length self.now.items }
+        ensures empty { (i : ℕ) → i < result → at self.now.items i ≡ None }
     {
-        match self.places.front() {
-            Some(link) => link.is_none(),
-            None => false,
+        let count = self.places.len();
+        for place in 0..count {
+            if !self.places[place].is_none() {
+                return place;
+            }
         }
+        count
     }
 
-    /// Drops the first slot, which is empty.
-    pub(crate) fn drop_front(&mut self)
-        requires some { 0 < length self.old.items }
-        requires empty { at self.old.items 0 ≡ None }
+    /// Drops the first `count` slots, which are empty.
+    pub(crate) fn drop_front(&mut self, count: usize)
+        requires within { count ≤ length self.old.items }
+        requires empty { (i : ℕ) → i < count → at self.old.items i ≡ None }
         requires small { self.old.base + length self.old.items ≤ 2 ^ 40 }
-        ensures items { self.old.items ≡ None ∷ self.new.items }
-        ensures base { self.new.base ≡ self.old.base + 1 }
+        ensures items { self.old.items ≡ replicate count None ++ self.new.items }
+        ensures base { self.new.base ≡ self.old.base + count }
     {
-        self.places.pop_front();
-        self.base += 1;
+        let rest = self.places.len() - count;
+        self.places.copy_within(count.., 0);
+        self.places.truncate(rest);
+        self.base += count as u64;
     }
 
-    /// Adds an empty slot before the others, or changes nothing.
-    pub(crate) fn add_front(&mut self) -> Result<(), NoMemory>
-        requires { 0 < self.old.base }
-        ensures ok { OnOk result (self.new ≡ record { base = self.old.base - 1; items = None ∷ self.old.items }) }
+    /// Adds `count` empty slots before the others, or changes nothing.
+    pub(crate) fn add_front(&mut self, count: usize) -> Result<(), NoMemory>
+        requires { count ≤ self.old.base }
+        ensures ok { OnOk result (self.new ≡ record { base = self.old.base - count; items = replicate count None ++ self.old.items }) }
         ensures err { OnErr result (self.new ≡ self.old) }
     {
-        self.places.push_front(Link::none())?;
-        self.base -= 1;
+        let Some(len) = self.places.len().checked_add(count) else {
+            return Err(NoMemory);
+        };
+        self.places.resize(len, Link::none())?;
+        self.places.rotate_right(count);
+        self.base -= count as u64;
         Ok(())
     }
 
@@ -252,7 +267,7 @@ impl<B> Slots<B> {
         let places = make_places(alloc, &items, base, len)?;
         Ok(Slots {
             items,
-            places: VecDeque::from_vec(places),
+            places,
             base,
         })
     }
@@ -314,14 +329,12 @@ fn copy_item<B, F: Fn(&B) -> Result<B, NoMemory>>(
 }
 
 // Equal places.
-fn copy_places(alloc: Global, places: &VecDeque<Link>) -> Result<VecDeque<Link>, NoMemory>
+fn copy_places(alloc: Global, places: &Vec<Link>) -> Result<Vec<Link>, NoMemory>
     ensures { IfOk result (λ copied. copied.items ≡ places.now.items) }
 {
-    let (head, wrapped) = places.as_slices();
     let mut copied = Vec::with_capacity(alloc, with_room(places.len()))?;
-    copied.extend_from_slice(head)?;
-    copied.extend_from_slice(wrapped)?;
-    Ok(VecDeque::from_vec(copied))
+    copied.extend_from_slice(places)?;
+    Ok(copied)
 }
 
 // The index of each slot's item among these, of which there are at most 2^32 - 1.

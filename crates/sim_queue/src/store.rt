@@ -300,31 +300,57 @@ impl<B> Store<B> {
         Ok(())
     }
 
-    // Drops up to two empty slots at the front. Since an insertion makes one slot, these do not pile up; and since no more are
-    // dropped, making them again where items are put back costs no more than the insertions did.
+    // Drops the empty slots at the front, where one more slot would take memory.
+    #[inline(always)]
     fn trim(&mut self)
         requires { IsKeyed self.old }
         ensures keyed { IsKeyed self.new }
         ensures items { pending_in self.new ≡ pending_in self.old }
     {
-        for _turn in 0..2u8 {
-            if !self.slots.is_empty_at_front() {
-                return;
-            }
-            self.slots.drop_front();
+        if self.slots.is_full() {
+            self.drop_empty();
         }
     }
 
-    // Makes the slot of this serial, where it is before the first one, and those between them.
+    // Drops the empty slots at the front, where these are at least half of all. Otherwise more memory is taken, so that an insertion
+    // does not often come here.
+    #[cold]
+    #[inline(never)]
+    fn drop_empty(&mut self)
+        requires { IsKeyed self.old }
+        ensures keyed { IsKeyed self.new }
+        ensures items { pending_in self.new ≡ pending_in self.old }
+    {
+        let empty = self.slots.empty_at_front();
+        if empty >= self.slots.len() / 2 {
+            self.slots.drop_front(empty);
+        }
+    }
+
+    // Makes the slot of this serial, where it is before the first one, and those between them. So many are made that putting back one
+    // item after another does not often come here.
     fn widen(&mut self, serial: u64) -> Result<(), NoMemory>
         requires { IsKeyed self.old }
         ensures reached { OnOk result (self.new.slots.base ≤ serial) }
         ensures keyed { IsKeyed self.new }
         ensures items { pending_in self.new ≡ pending_in self.old }
     {
-        while serial < self.slots.base() {
-            self.slots.add_front()?;
+        let base = self.slots.base();
+        if base <= serial {
+            return Ok(());
         }
-        Ok(())
+        let count = before_first(base - serial, self.slots.len() as u64, base);
+        self.slots.add_front(count as usize)
     }
+}
+
+// How many slots to make before the first one, whose serial is `base`, where so many are needed: as many as there are, or one for each
+// earlier serial, where that is more.
+fn before_first(needed: u64, len: u64, base: u64) -> u64
+    requires { needed ≤ base }
+    ensures enough { needed ≤ result }
+    ensures serials { result ≤ base }
+{
+    let many = if len < base { len } else { base };
+    if needed < many { many } else { needed }
 }

@@ -264,6 +264,21 @@ fn copies(rt: HostRuntime) -> Result<(), Fail> {
     Ok(take_four(&rt, &mut queue)?)
 }
 
+// How many items a copy of a queue has from which one is taken after that.
+fn left_in_copy(alloc: Global, queue: &mut Queue<char>) -> Result<usize, NoMemory> {
+    let copy = queue.copy(alloc, same)?;
+    queue.take_first();
+    Ok(copy.len())
+}
+
+#[test]
+fn a_copy_is_apart(rt: HostRuntime) -> Result<(), Fail> {
+    let mut queue = four(&rt, rt.alloc())?;
+    assert!(rt; left_in_copy(rt.alloc(), &mut queue)? == 4);
+    assert!(rt; queue.len() == 3);
+    Ok(())
+}
+
 #[test]
 fn no_copy_without_bodies(rt: HostRuntime) -> Result<(), Fail> {
     let queue = four(&rt, rt.alloc())?;

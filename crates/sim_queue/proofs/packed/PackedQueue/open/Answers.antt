@@ -1,4 +1,4 @@
-use Rattle.std.proofs.Common.{◌≡◌, ℕ, ◌≤◌, ◌^◌, sym, ap, subst, ◌∙◌}
+use Rattle.std.proofs.Common.{ℕ, ◌≤◌, ◌^◌, sym, ap, subst, ◌∙◌}
 use Rattle.sim_queue.specs.Items.{pending}
 use Rattle.sim_queue.specs.Packed.{packed}
 use Rattle.sim_queue.specs.Pending.{Pending}

@@ -1,23 +1,28 @@
-use Rattle.std.proofs.Common.{rules, ◌≡◌, None, ap, sym, subst, ◌∙◌}
+use Rattle.std.proofs.Common.{◌≡◌, ◌<◌, ◌≤◌, ◌-◌, ℕ, ap, sym, subst, ◌∙◌, length, vec_len}
 use Rattle.sim_queue.specs.Slots.{at}
 use Rattle.sim_queue.specs.Sparse.{SlotList, IsSparse, slots_of}
-use Rattle.sim_queue.proofs.Sparse.{trimmed_sparse, no_index, front_dropped, within_slots}
+use Rattle.sim_queue.proofs.Fronts.{emptied_front, dropped_sparse, slots_behind}
+use Rattle.sim_queue.proofs.Sparse.{no_index, length_slots}
 use Rattle.sim_queue.proofs.slots.Slots.drop_front.Goals as goal
 
 pub invariant_of-self : goal.invariant_of-self
 invariant_of-self g c =
-    let slots : slots_of c.self.inside.items.items c.self.inside.places.items ≡ c.args.self.now.items = ap (λ (s : SlotList _). s.items) c.self.view_is in
-    let none = no_index c.self.inside.items.items c.self.inside.places.items c.self.inside.base 0 c.self.invariant (ap (λ s. at s 0) slots ∙ c.requires.empty) in
-    let within = within_slots c.self.inside.items.items c.self.inside.places.items c.args.self.now.items 0 slots c.requires.some in
-    let first = c.pop_front.ensures.value None (search rules) in
-    let e = front_dropped c.self.inside.places.items c.pop_front.new.self.items c.pop_front.result first none c.pop_front.ensures.items in
-    trimmed_sparse c.self.inside.items.items c.pop_front.new.self.items c.self.inside.base (subst (λ xs. IsSparse c.self.inside.items.items xs c.self.inside.base) e c.self.invariant)
+    let items = c.self.inside.items.items in
+    let places = c.self.inside.places.items in
+    let slots : slots_of items places ≡ c.args.self.now.items = ap (λ (s : SlotList _). s.items) c.self.view_is in
+    let lengths : length places ≡ length c.args.self.now.items = sym (length_slots items places) ∙ ap (λ s. length s) slots in
+    let none = λ (i : ℕ) (below : i < c.args.count). no_index items places c.self.inside.base i c.self.invariant (ap (λ s. at s i) slots ∙ c.requires.empty i below) in
+    let within : c.args.count ≤ length places = subst (λ (n : ℕ). c.args.count ≤ n) (sym lengths) c.requires.within in
+    let e = emptied_front places c.copy_within.new.self.items c.truncate.new.self.items c.args.count (vec_len c.self.inside.places) _ within c.self.inside.places.ok.0 (ap (λ (n : ℕ). n - c.args.count) c.len.ensures) none c.copy_within.ensures.items c.truncate.ensures.items in
+    dropped_sparse c.args.count items c.truncate.new.self.items c.self.inside.base (subst (λ xs. IsSparse items xs c.self.inside.base) e c.self.invariant)
 
 pub returns-clause-items : goal.returns-clause-items
 returns-clause-items g c =
-    let slots : slots_of c.self.inside.items.items c.self.inside.places.items ≡ c.args.self.now.items = ap (λ (s : SlotList _). s.items) c.self.view_is in
-    let none = no_index c.self.inside.items.items c.self.inside.places.items c.self.inside.base 0 c.self.invariant (ap (λ s. at s 0) slots ∙ c.requires.empty) in
-    let within = within_slots c.self.inside.items.items c.self.inside.places.items c.args.self.now.items 0 slots c.requires.some in
-    let first = c.pop_front.ensures.value None (search rules) in
-    let e = front_dropped c.self.inside.places.items c.pop_front.new.self.items c.pop_front.result first none c.pop_front.ensures.items in
-    sym slots ∙ ap (λ xs. slots_of c.self.inside.items.items xs) e
+    let items = c.self.inside.items.items in
+    let places = c.self.inside.places.items in
+    let slots : slots_of items places ≡ c.args.self.now.items = ap (λ (s : SlotList _). s.items) c.self.view_is in
+    let lengths : length places ≡ length c.args.self.now.items = sym (length_slots items places) ∙ ap (λ s. length s) slots in
+    let none = λ (i : ℕ) (below : i < c.args.count). no_index items places c.self.inside.base i c.self.invariant (ap (λ s. at s i) slots ∙ c.requires.empty i below) in
+    let within : c.args.count ≤ length places = subst (λ (n : ℕ). c.args.count ≤ n) (sym lengths) c.requires.within in
+    let e = emptied_front places c.copy_within.new.self.items c.truncate.new.self.items c.args.count (vec_len c.self.inside.places) _ within c.self.inside.places.ok.0 (ap (λ (n : ℕ). n - c.args.count) c.len.ensures) none c.copy_within.ensures.items c.truncate.ensures.items in
+    sym slots ∙ ap (λ xs. slots_of items xs) e ∙ slots_behind c.args.count items c.truncate.new.self.items

@@ -1,4 +1,4 @@
-use Rattle.std.proofs.Common.{◌≡◌, ◌<◌, deque_len, refl, ap, ◌∙◌, Some}
+use Rattle.std.proofs.Common.{◌≡◌, ◌<◌, vec_len, refl, ap, ◌∙◌, Some}
 use Rattle.std.proofs.Math.ListN.{set}
 use Rattle.sim_queue.specs.Slots.{at}
 use Rattle.sim_queue.specs.Sparse.{SlotList, slots_of}
@@ -24,7 +24,7 @@ returns-clause-ok g c =
 pub index_mut-requires : goal.index_mut-requires
 index_mut-requires g c =
     let slots : slots_of c.self.inside.items.items c.self.inside.places.items ≡ c.args.self.now.items = ap (λ (s : SlotList _). s.items) c.self.view_is in
-    let within : c.args.place < deque_len c.self.inside.places =
+    let within : c.args.place < vec_len c.self.inside.places =
     rw c.self.inside.places.ok.0 (within_slots c.self.inside.items.items c.self.inside.places.items c.args.self.now.items c.args.place slots c.requires.within) in
     within
 

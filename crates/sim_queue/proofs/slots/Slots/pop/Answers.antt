@@ -1,4 +1,4 @@
-use Rattle.std.proofs.Common.{◌≡◌, ℕ, ◌<◌, ◌-◌, ◌+◌, List, [], ◌∷◌, ◌++◌, Option, Some, None, sym, ap, subst, ◌∙◌, length, arith, deque_len}
+use Rattle.std.proofs.Common.{◌≡◌, ℕ, ◌<◌, ◌-◌, ◌+◌, List, [], ◌∷◌, ◌++◌, Option, Some, None, sym, ap, subst, ◌∙◌, length, arith, vec_len}
 use Rattle.std.proofs.Math.ListN.{get_or, set, length-set}
 use Rattle.std.proofs.lemmas.List.{length_push}
 use Rattle.std.specs.Option.{option_map, option_to_list}
@@ -35,9 +35,9 @@ invariant_of-self g c =
     let taken : Some c.unwrap-taken.result ≡ option_map (item_of (c.args.self.now.base + (length c.args.self.now.items - 1))) (at c.args.self.now.items (length c.args.self.now.items - 1)) =
     sym c.unwrap-taken.ensures ∙ c.take.ensures.item ∙ ap (λ (n : ℕ). option_map (item_of (c.args.self.now.base + (n - 1))) (at c.args.self.now.items (n - 1))) c.len-last.ensures in
     let entry = entry_is _ _ c.unwrap-taken.result taken in
-    let e = emptied items places c.pop_back.new.self.items c.self.inside.base (deque_len c.self.inside.places) c.args.self.now.items (c.unwrap-taken.result.due, c.unwrap-taken.result.body)
-    c.pop_back.result c.self.invariant slots entry.0 c.self.inside.places.ok.0 (c.pop_back.ensures.value None) c.pop_back.ensures.items in
-    shortened_sparse items c.pop_back.new.self.items c.self.inside.base (subst (λ xs. IsSparse items xs c.self.inside.base) e c.self.invariant)
+    let e = emptied items places c.pop.new.self.items c.self.inside.base (vec_len c.self.inside.places) c.args.self.now.items (c.unwrap-taken.result.due, c.unwrap-taken.result.body)
+    c.pop.result c.self.invariant slots entry.0 c.self.inside.places.ok.0 (c.pop.ensures.value None) c.pop.ensures.items in
+    shortened_sparse items c.pop.new.self.items c.self.inside.base (subst (λ xs. IsSparse items xs c.self.inside.base) e c.self.invariant)
 
 pub returns-clause-items : goal.returns-clause-items
 returns-clause-items g c =
@@ -48,10 +48,10 @@ returns-clause-items g c =
     let taken : Some c.unwrap-taken.result ≡ option_map (item_of (c.args.self.now.base + (length c.args.self.now.items - 1))) (at c.args.self.now.items (length c.args.self.now.items - 1)) =
     sym c.unwrap-taken.ensures ∙ c.take.ensures.item ∙ ap (λ (n : ℕ). option_map (item_of (c.args.self.now.base + (n - 1))) (at c.args.self.now.items (n - 1))) c.len-last.ensures in
     let entry = entry_is _ _ c.unwrap-taken.result taken in
-    let e = emptied items places c.pop_back.new.self.items c.self.inside.base (deque_len c.self.inside.places) c.args.self.now.items (c.unwrap-taken.result.due, c.unwrap-taken.result.body)
-    c.pop_back.result c.self.invariant slots entry.0 c.self.inside.places.ok.0 (c.pop_back.ensures.value None) c.pop_back.ensures.items in
-    last_taken c.args.self.now.items (slots_of items c.pop_back.new.self.items) (c.unwrap-taken.result.due, c.unwrap-taken.result.body) entry.0
-    (sym slots ∙ ap (λ xs. slots_of items xs) e ∙ shortened_slots items c.pop_back.new.self.items)
+    let e = emptied items places c.pop.new.self.items c.self.inside.base (vec_len c.self.inside.places) c.args.self.now.items (c.unwrap-taken.result.due, c.unwrap-taken.result.body)
+    c.pop.result c.self.invariant slots entry.0 c.self.inside.places.ok.0 (c.pop.ensures.value None) c.pop.ensures.items in
+    last_taken c.args.self.now.items (slots_of items c.pop.new.self.items) (c.unwrap-taken.result.due, c.unwrap-taken.result.body) entry.0
+    (sym slots ∙ ap (λ xs. slots_of items xs) e ∙ shortened_slots items c.pop.new.self.items)
 
 pub returns-clause-serial : goal.returns-clause-serial
 returns-clause-serial g c =
@@ -62,11 +62,11 @@ returns-clause-serial g c =
     let taken : Some c.unwrap-taken.result ≡ option_map (item_of (c.args.self.now.base + (length c.args.self.now.items - 1))) (at c.args.self.now.items (length c.args.self.now.items - 1)) =
     sym c.unwrap-taken.ensures ∙ c.take.ensures.item ∙ ap (λ (n : ℕ). option_map (item_of (c.args.self.now.base + (n - 1))) (at c.args.self.now.items (n - 1))) c.len-last.ensures in
     let entry = entry_is _ _ c.unwrap-taken.result taken in
-    let e = emptied items places c.pop_back.new.self.items c.self.inside.base (deque_len c.self.inside.places) c.args.self.now.items (c.unwrap-taken.result.due, c.unwrap-taken.result.body)
-    c.pop_back.result c.self.invariant slots entry.0 c.self.inside.places.ok.0 (c.pop_back.ensures.value None) c.pop_back.ensures.items in
+    let e = emptied items places c.pop.new.self.items c.self.inside.base (vec_len c.self.inside.places) c.args.self.now.items (c.unwrap-taken.result.due, c.unwrap-taken.result.body)
+    c.pop.result c.self.invariant slots entry.0 c.self.inside.places.ok.0 (c.pop.ensures.value None) c.pop.ensures.items in
     let base : c.self.inside.base ≡ c.args.self.now.base = ap (λ (s : SlotList _). s.base) c.self.view_is ∙ c.take.ensures.base in
-    let lengths : length c.args.self.now.items ≡ length c.pop_back.new.self.items + 1 =
+    let lengths : length c.args.self.now.items ≡ length c.pop.new.self.items + 1 =
     sym (sym (length_slots items places) ∙ ap (λ s. length s) slots ∙ length-set c.args.self.now.items (length c.args.self.now.items - 1) None)
-    ∙ ap (λ xs. length xs) e ∙ length_push c.pop_back.new.self.items None in
-    serial_last c.unwrap-taken.result.serial c.self.inside.base c.args.self.now.base (length c.args.self.now.items) (length c.pop_back.new.self.items) (length (slots_of items c.pop_back.new.self.items))
-    entry.1 base lengths (length_slots items c.pop_back.new.self.items)
+    ∙ ap (λ xs. length xs) e ∙ length_push c.pop.new.self.items None in
+    serial_last c.unwrap-taken.result.serial c.self.inside.base c.args.self.now.base (length c.args.self.now.items) (length c.pop.new.self.items) (length (slots_of items c.pop.new.self.items))
+    entry.1 base lengths (length_slots items c.pop.new.self.items)

@@ -5,14 +5,14 @@ use Rattle.sim_queue.proofs.slots.Slots.push.Goals as goal
 
 pub invariant_of-self-2 : goal.invariant_of-self-2
 invariant_of-self-2 g c =
-    let places = c.push_back_reserved.ensures.items ∙ ap (λ s. s ++ c.to.result ∷ []) c.reserve.ensures.items ∙ ap (λ o. c.self.inside.places.items ++ o ∷ []) c.to.ensures in
+    let places = c.push_reserved-2.ensures.items ∙ ap (λ s. s ++ c.to.result ∷ []) c.reserve.ensures.items ∙ ap (λ o. c.self.inside.places.items ++ o ∷ []) c.to.ensures in
     let at_end : c.self.inside.base + c.len.result ≡ c.self.inside.base + length c.self.inside.places.items =
     ap (λ (n : ℕ). c.self.inside.base + n) (c.len.ensures ∙ c.self.inside.places.ok.0) in
     rw (c.push_reserved.ensures.items, c.reserve-2.ensures.items, places) (pushed_sparse c.self.inside.items.items c.self.inside.places.items c.self.inside.base c.in_ok-index.index _ c.in_ok-index.ensures.index at_end c.self.invariant)
 
 pub returns-clause-ok : goal.returns-clause-ok
 returns-clause-ok g c =
-    let places = c.push_back_reserved.ensures.items ∙ ap (λ s. s ++ c.to.result ∷ []) c.reserve.ensures.items ∙ ap (λ o. c.self.inside.places.items ++ o ∷ []) c.to.ensures in
+    let places = c.push_reserved-2.ensures.items ∙ ap (λ s. s ++ c.to.result ∷ []) c.reserve.ensures.items ∙ ap (λ o. c.self.inside.places.items ++ o ∷ []) c.to.ensures in
     rw (c.push_reserved.ensures.items, c.reserve-2.ensures.items, places, ← c.self.view_is) (pushed_slots c.self.inside.items.items c.self.inside.places.items c.self.inside.base c.in_ok-index.index _ c.in_ok-index.ensures.index c.self.invariant)
 
 pub returns-clause-serial : goal.returns-clause-serial
@@ -29,8 +29,8 @@ invariant_of-self-in_err-reserve-2 g c = rw (c.reserve-2.ensures.items, c.reserv
 pub push_reserved-requires : goal.push_reserved-requires
 push_reserved-requires g c = below_room _ _ c.in_ok-reserve-2.ensures.ok
 
-pub push_back_reserved-requires : goal.push_back_reserved-requires
-push_back_reserved-requires g c = below_room _ _ c.in_ok-reserve.ensures.ok
+pub push_reserved-requires-2 : goal.push_reserved-requires-2
+push_reserved-requires-2 g c = below_room _ _ c.in_ok-reserve.ensures.ok
 
 pub returns-in_err-index : goal.returns-in_err-index
 returns-in_err-index g c = record {

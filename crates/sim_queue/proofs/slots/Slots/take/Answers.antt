@@ -1,4 +1,4 @@
-use Rattle.std.proofs.Common.{rules, ℕ, ◌≡◌, ◌<◌, ◌-◌, ◌+◌, Option, Some, None, refl, sym, ap, ◌∙◌, length, deque_len}
+use Rattle.std.proofs.Common.{rules, ℕ, ◌≡◌, ◌<◌, ◌-◌, ◌+◌, Option, Some, None, refl, sym, ap, ◌∙◌, length, vec_len}
 use Rattle.std.proofs.Math.ListN.{set}
 use Rattle.std.proofs.lemmas.Option.{slice_get_read}
 use Rattle.std.specs.Option.{option_map}
@@ -16,7 +16,7 @@ index-requires g c =
     let items = c.self.inside.items.items in
     let places = c.self.inside.places.items in
     let slots : slots_of items places ≡ c.args.self.now.items = ap (λ (s : SlotList _). s.items) c.self.view_is in
-    let within : c.args.place < deque_len c.self.inside.places = rw c.self.inside.places.ok.0 (within_slots items places c.args.self.now.items c.args.place slots c.requires) in
+    let within : c.args.place < vec_len c.self.inside.places = rw c.self.inside.places.ok.0 (within_slots items places c.args.self.now.items c.args.place slots c.requires) in
     within
 
 pub index_mut-requires : goal.index_mut-requires
@@ -24,7 +24,7 @@ index_mut-requires g c =
     let items = c.self.inside.items.items in
     let places = c.self.inside.places.items in
     let slots : slots_of items places ≡ c.args.self.now.items = ap (λ (s : SlotList _). s.items) c.self.view_is in
-    let within : c.args.place < deque_len c.self.inside.places = rw c.self.inside.places.ok.0 (within_slots items places c.args.self.now.items c.args.place slots c.requires) in
+    let within : c.args.place < vec_len c.self.inside.places = rw c.self.inside.places.ok.0 (within_slots items places c.args.self.now.items c.args.place slots c.requires) in
     within
 
 pub returns-in_err-index : goal.returns-in_err-index

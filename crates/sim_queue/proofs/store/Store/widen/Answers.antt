@@ -1,12 +1,25 @@
-use Rattle.std.proofs.Common.{◌<◌, arith, ◌∙◌}
-use Rattle.sim_queue.proofs.Keys.{widened}
-use Rattle.sim_queue.proofs.Views.{pending_widened}
+use Rattle.std.proofs.Common.{◌≤◌, ℕ, ap, sym, subst, ◌∙◌}
+use Rattle.sim_queue.specs.Items.{pending}
+use Rattle.sim_queue.specs.Slots.{IsKept}
+use Rattle.sim_queue.specs.Sparse.{SlotList}
+use Rattle.sim_queue.proofs.Fronts.{either, added_kept, added_pending}
 use Rattle.sim_queue.proofs.store.Store.widen.Goals as goal
 
-pub loop-self-preserved : goal.loop-self-preserved
-loop-self-preserved g c =
-    let some : 0 < c.loop-self.self.slots.base = omega arith in
-    rw c.in_ok-add_front.ensures.ok (
-      widened c.loop-self.self.order _ c.loop-self.self.slots.base some c.loop-self.invariant.0,
-      pending_widened c.loop-self.self.slots.base c.loop-self.self.slots.items some ∙ c.loop-self.invariant.1,
-    )
+pub returns-clause-keyed : goal.returns-clause-keyed
+returns-clause-keyed g c =
+    let order = c.args.self.now.order in
+    let slots = c.args.self.now.slots in
+    let count = c.before_first-count.result in
+    let from : count ≤ slots.base = subst (λ (n : ℕ). count ≤ n) c.base-base.ensures c.before_first-count.ensures.serials in
+    either c.add_front.result c.add_front.ensures.ok c.add_front.ensures.err
+    (λ new. subst (λ (s : SlotList _). IsKept order s.items s.base) (sym new) (added_kept count order slots.items slots.base from c.requires))
+    (λ same. subst (λ (s : SlotList _). IsKept order s.items s.base) (sym same) c.requires)
+
+pub returns-clause-items : goal.returns-clause-items
+returns-clause-items g c =
+    let slots = c.args.self.now.slots in
+    let count = c.before_first-count.result in
+    let from : count ≤ slots.base = subst (λ (n : ℕ). count ≤ n) c.base-base.ensures c.before_first-count.ensures.serials in
+    either c.add_front.result c.add_front.ensures.ok c.add_front.ensures.err
+    (λ new. ap (λ (s : SlotList _). pending s.base s.items) new ∙ added_pending count slots.base slots.items from)
+    (λ same. ap (λ (s : SlotList _). pending s.base s.items) same)
