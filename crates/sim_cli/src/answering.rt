@@ -99,7 +99,7 @@ fn flush_before_read<W: Write>(
     outlet.flush(writer)
 }
 
-/// Answers the lines of a script by turns of the book, and writes the answers: at once where the next line takes a read, else gathered.
+/// Answers the lines of a script by turns of the book, and writes the answers: at once where the next byte of the script takes a read, else gathered.
 ///
 /// Of want of memory outside a command `MemoryWanted` tells. Then, and where the writer failed, the book may be ahead of what was written.
 pub fn answer_lines<N: Node, R: Read, W: Write>(

@@ -86,7 +86,7 @@ fn sweep<'a>(alloc: Global) -> Result<Command<'a>, AllocError>
     Command::new(alloc, "sweep")
         .about("Run the scenario with other seeds, and find the first that fails a condition")
         .after_help(
-            "Example: simback sweep --progress 0 1000 500 \"w.next <= 3\" < examples/first-run.play",
+            "Example: simback sweep --progress 0 1000 500 \"a.first != 2\" < examples/torn-commit.play",
         )
         .arg(workers(alloc))?
         .arg(progress(alloc))?

@@ -107,9 +107,9 @@ fn hunt_scenario<H: Threads + Wait + Sync + Clock + Eprint, R: Read, W: Write>(
 }
 
 /// Carries out a job, whose workers are 1 to 16, over a reader and a writer. A play writes a line for each command of the script; a
-/// search and a sweep write one line, what they found or why they were refused. What a scenario lacks is told before what a
-/// condition does, and that before a range. Where a hunt is to tell how far it is, it does so on standard error, at most twice a
-/// second.
+/// search and a sweep write one line, what they found or why they were refused. A fault of the scenario is told first, then words
+/// that are no condition, then a range that is none, and last a condition's host or probe that the scenario does not have. Where a
+/// hunt is to tell how far it is, it does so on standard error, at most twice a second.
 pub fn perform<H: Threads + Wait + Sync + Clock + Eprint, R: Read, W: Write>(
     rt: &H,
     alloc: Global,

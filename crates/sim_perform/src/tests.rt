@@ -122,7 +122,8 @@ fn sweeps_of_the_base_scenario(rt: HostRuntime) -> Result<(), Fail> {
     Ok(())
 }
 
-// A scenario's fault is told before a condition's, and that before a range's.
+// A scenario's fault is told before words that are no condition, these before a range's, and that before a host or probe that is
+// not there.
 #[test]
 fn faults_come_in_order(rt: HostRuntime) -> Result<(), Fail> {
     let alloc = rt.alloc();

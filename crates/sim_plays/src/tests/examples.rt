@@ -456,6 +456,99 @@ place 11 clock 40
 b first 0
 ";
 
+const WALK_BACK: &str =
+    r#"# The run of torn-commit.play, approached from behind: a watch stops the run where the servers disagree, a rewind finds where it
+# began, and a branch shows what happens without the crash.
+format = 2
+seed = "0000000000000000000000000000000000000000000000000500000000000000"
+protocol = "two_phase"
+tick = 100
+latency_min = 10
+latency_max = 10
+loss = 0
+disk_latency = 5
+servers = ["a", "b"]
+checkpoint = 4
+window = 2
+
+[[client]]
+name = "w"
+ops = 1
+---
+# Servers that know of transaction 1 agree on it. Eight events in, a writes that it commits; a branch is made there for later.
+watch agree first unless 0
+run 8
+branch 8
+
+# The crash tears that write, and from the start of a on the run stops as soon as the watch fails.
+crash a
+bounce a
+run 100
+look probe a first
+look probe b first
+
+# When did a come to hold it for aborted (2)? A rewind stops at the last place where it did not.
+watch a.first = 2
+rewind 12
+look host a
+forward 1
+forward 1
+look probe a first
+
+# On the branch there was no crash: after a tick (100 ms) both have committed.
+@1 tick
+@1 look probe a first
+@1 look probe b first
+
+# All events that the first branch keeps.
+trace
+"#;
+
+const WALK_BACK_ANSWERS: &str = r#"made 0
+place 8 clock 40
+made 1
+place 9 clock 40
+place 10 clock 40
+place 12 clock 50 watch 0
+a first 2
+b first 1
+made 1
+place 8 clock 40 watch 1
+a up done no draws 4 stable 10 unsynced 1
+place 9 clock 40
+place 10 clock 40
+a first 2
+place 16 clock 140 all done
+a first 1
+b first 1
+{"branch":0,"events":["step","step","step","step","step","step","step","step","crash a","bounce a","step","step"]}
+"#;
+
+const ABORTED: &str =
+    r#"# Two-phase commit on slow disks: a is the coordinator, b the participant, and a sync takes 5 ms.
+# Under this seed b votes against transaction 1, and it is aborted.
+format = 2
+seed = "0000000000000000000000000000000000000000000000000900000000000000"
+protocol = "two_phase"
+tick = 100
+latency_min = 10
+latency_max = 10
+loss = 0
+disk_latency = 5
+servers = ["a", "b"]
+checkpoint = 4
+window = 2
+
+[[client]]
+name = "w"
+ops = 1
+---
+run 1000
+"#;
+
+const ABORTED_ANSWERS: &str = "place 11 clock 45 all done
+";
+
 #[test]
 fn plays_the_examples(rt: HostRuntime) -> Result<(), Fail> {
     let rows = [
@@ -465,6 +558,8 @@ fn plays_the_examples(rt: HostRuntime) -> Result<(), Fail> {
         (SLOW_DISKS, SLOW_DISKS_ANSWERS),
         (LOSSY_DIRECTION, LOSSY_DIRECTION_ANSWERS),
         (TORN_COMMIT, TORN_COMMIT_ANSWERS),
+        (WALK_BACK, WALK_BACK_ANSWERS),
+        (ABORTED, ABORTED_ANSWERS),
     ];
     for (input, want) in rows {
         let mut reader = input.as_bytes();
