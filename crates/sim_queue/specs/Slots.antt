@@ -1,5 +1,5 @@
 -- How a queue's items stand in slots by their serials, and which keys there are of them.
-use Rattle.std.specs.Prelude.{◌≡◌, ℕ, ◌+◌, ◌-◌, ◌<◌, ◌≤◌, ◌==◌, ◌^◌, nat_le, Bool, true, false, ◌&&◌, List, length, Option, None, Some, slice_index_or}
+use Rattle.std.specs.Prelude.{◌≡◌, ℕ, ◌+◌, ◌-◌, ◌<◌, ◌≤◌, ◌==◌, ◌^◌, nat_le, Bool, true, false, ◌&&◌, List, length, Option, None, Some, MatchOption, slice_index_or}
 use Rattle.sim_queue.specs.Keys.{Keys, has, IsFirstKey}
 
 -- the slot at a place, none past the end
@@ -45,3 +45,7 @@ Skips p slots from to = (j : ℕ) → from ≤ j → j < to → takes p (at slot
 -- i is the first place from one on whose body p takes
 abbrev pub IsFound : {B : Type 0} → (B → Bool) → List (Option (ℕ × B)) → ℕ → ℕ → Type 0
 IsFound p slots from i = (from ≤ i) × (takes p (at slots i) ≡ true) × Skips p slots from i
+
+-- what a search from one place on answers: the first place whose body p takes, or that there is none
+abbrev pub IsFirstTaken : {B : Type 0} → (B → Bool) → List (Option (ℕ × B)) → ℕ → Option ℕ → Type 0
+IsFirstTaken p slots from result = MatchOption result (Skips p slots from (length slots)) (λ i. IsFound p slots from i)

@@ -37,6 +37,10 @@ first_due ends nodes due = if_due due (reached nodes (head ends due))
 abbrev pub IsAhead : ℕ → ℕ → Node → Type 0
 IsAhead due serial x = (due % 256 ≡ x.due % 256) × (due ≤ x.due) × (serial < x.serial)
 
+-- the place of the first node of the list of a due, if it has nodes, and that node is behind the key
+abbrev pub LeadsTo : ℕ → ℕ → Option ℕ → List Ends → List (Option Node) → Type 0
+LeadsTo due serial next ends nodes = (i : ℕ) (x : Node) → head ends due ≡ Some i → node nodes i ≡ Some x → due % 256 ≡ x.due % 256 → (next ≡ Some i) × IsAhead due serial x
+
 -- the node x at place i stands behind another one
 pub record IsBehind (nodes : List (Option Node)) (i : ℕ) (x : Node) : Type 0 where
   pub place : ℕ

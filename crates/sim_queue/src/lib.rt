@@ -13,12 +13,11 @@ mod spot;
 mod store;
 mod wheel;
 
-ghost use Rattle.std.specs.Prelude.{◌≡◌, ℕ, ◌^◌, ◌<◌, nat_le, OnOk, OnErr, IfOk, IfSome, IfNone, Some, length, Bool, ◌&&◌};
+ghost use Rattle.std.specs.Prelude.{◌≡◌, ℕ, ◌^◌, ◌<◌, OnOk, OnErr, IfOk, IfSome, IfNone, Some, length, Bool};
 ghost use Rattle.std.specs.Fn.{FnReturnsAt};
-ghost use Rattle.std.specs.List.{find};
 ghost use Rattle.std.specs.Option.{option_map};
 ghost use Rattle.sim_queue.specs.Items.{item_of};
-ghost use Rattle.sim_queue.specs.Pending.{none_pending, IsPending, HasNewest, IsQueue, first, insert, take, put_back, uninsert, newest, with_serial};
+ghost use Rattle.sim_queue.specs.Pending.{none_pending, IsPending, HasNewest, IsQueue, Decides, first, insert, take, put_back, uninsert, newest, next_taken, with_serial};
 
 pub use packed::PackedQueue;
 pub use std::alloc::AllocError as NoMemory;
@@ -88,7 +87,7 @@ impl<B> Queue<B> {
     /// The least serial, of at least `serial`, of an item whose body the test takes.
     pub fn next_that<F: Fn(&B) -> bool>(&self, serial: u64, test: F) -> Option<u64>
         requires { F.IsAlwaysCallable test }
-        ensures { (p : B → Bool) → ((x : B) (r : Bool) → FnReturnsAt F.Fn test x r → r ≡ p x) → result ≡ option_map (λ x. x.serial) (find (λ x. nat_le serial x.serial && p x.body) self.now.items) }
+        ensures { (p : B → Bool) → Decides F.Fn test p → result ≡ next_taken serial p self.now.items }
     {
         self.store.next_that(serial, &test)
     }

@@ -2,7 +2,7 @@
 ghost use Rattle.std.specs.Prelude.{◌≡◌, ◌⊎◌, ℕ, ◌<◌, ◌≤◌, ◌%◌, ◌++◌, ◌∷◌, [], None, Some, IfSome, IfNone, IfOk, true, length, slice_set};
 ghost use Rattle.std.specs.Bool.{OnTrue, OnFalse};
 ghost use Rattle.sim_queue.specs.Keys.{HasNone};
-ghost use Rattle.sim_queue.specs.Wheel.{keys_of, node, head, reached, first_due, IsAhead, IsAdded, IsSame, IsCounted, IsWithout, IsLinked, IsFrom, IsDue, Follows, least_of};
+ghost use Rattle.sim_queue.specs.Wheel.{keys_of, node, head, reached, first_due, IsAdded, IsSame, IsCounted, IsWithout, IsLinked, IsFrom, IsDue, Follows, LeadsTo, least_of};
 ghost use Rattle.sim_queue.specs.Marks.{HasMarks};
 
 use crate::NoMemory;
@@ -170,7 +170,7 @@ impl Lists {
         requires linked { IsLinked self.old.ends.items self.old.nodes.items }
         requires counted { IsCounted self.old.count self.old.nodes.items }
         requires listed { due % 256 < length self.old.ends.items }
-        requires first { (i : ℕ) (x : Node) → head self.old.ends.items due ≡ Some i → node self.old.nodes.items i ≡ Some x → due % 256 ≡ x.due % 256 → (next ≡ Some i) × IsAhead due serial x }
+        requires first { LeadsTo due serial next self.old.ends.items self.old.nodes.items }
         ensures added { OnTrue result (IsAdded due serial self.old.nodes.items self.new.nodes.items) }
         ensures refused { OnFalse result (IsSame self.old.nodes.items self.new.nodes.items) }
         ensures linked { IsLinked self.new.ends.items self.new.nodes.items }

@@ -1,11 +1,12 @@
 //! The slots of a queue, one for each serial from the oldest on. Most are empty, so the items that are there stand densely.
-ghost use Rattle.std.specs.Prelude.{◌≡◌, ℕ, ◌+◌, ◌-◌, ◌^◌, ◌<◌, ◌≤◌, OnOk, OnErr, IfOk, IfSome, MatchOption, Bool, Some, None, ◌∷◌, ◌++◌, [], length, slice_set, replicate};
+ghost use Rattle.std.specs.Prelude.{◌≡◌, ℕ, ◌+◌, ◌-◌, ◌^◌, ◌<◌, ◌≤◌, OnOk, OnErr, IfOk, IfSome, Bool, Some, None, ◌∷◌, ◌++◌, [], length, slice_set, replicate};
 ghost use Rattle.std.specs.Bool.{OnTrue};
 ghost use Rattle.std.specs.Fn.{FnReturnsAt};
 ghost use Rattle.std.specs.Option.{option_map, IsSome};
 ghost use Rattle.sim_queue.specs.Items.{item_of, items_from, pending};
 ghost use Rattle.sim_queue.specs.Packed.{packed, IsPacked};
-ghost use Rattle.sim_queue.specs.Slots.{at, Skips, IsFound};
+ghost use Rattle.sim_queue.specs.Pending.{Decides};
+ghost use Rattle.sim_queue.specs.Slots.{at, IsFirstTaken};
 ghost use Rattle.sim_queue.specs.Sparse.{IsSparse};
 
 use crate::link::Link;
@@ -198,7 +199,7 @@ impl<B> Slots<B> {
     pub(crate) fn first_taken<F: Fn(&B) -> bool>(&self, start: usize, test: &F) -> Option<usize>
         requires { F.IsAlwaysCallable test.now }
         ensures within { IfSome result (λ i. i < length self.now.items) }
-        ensures found { (p : B → Bool) → ((x : B) (r : Bool) → FnReturnsAt F.Fn test.now x r → r ≡ p x) → MatchOption result (Skips p self.now.items start (length self.now.items)) (λ i. IsFound p self.now.items start i) }
+        ensures found { (p : B → Bool) → Decides F.Fn test.now p → IsFirstTaken p self.now.items start result }
     {
         let mut least = self.places.len();
         for index in 0..self.items.len() {

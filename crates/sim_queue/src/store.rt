@@ -1,10 +1,9 @@
 //! What a queue is made of. Each of its parts may be out of step with the others while one change is under way.
-ghost use Rattle.std.specs.Prelude.{◌≡◌, ℕ, ◌+◌, ◌^◌, ◌<◌, ◌≤◌, nat_le, OnOk, OnErr, IfOk, IfSome, IfNone, length, Bool, ◌&&◌};
+ghost use Rattle.std.specs.Prelude.{◌≡◌, ℕ, ◌+◌, ◌^◌, ◌<◌, ◌≤◌, OnOk, OnErr, IfOk, IfSome, IfNone, length, Bool};
 ghost use Rattle.std.specs.Fn.{FnReturnsAt};
-ghost use Rattle.std.specs.List.{find};
 ghost use Rattle.std.specs.Option.{option_map};
 ghost use Rattle.sim_queue.specs.Items.{item_of};
-ghost use Rattle.sim_queue.specs.Pending.{none_pending, IsPending, HasNewest, first, insert, take, put_back, uninsert, newest, with_serial};
+ghost use Rattle.sim_queue.specs.Pending.{none_pending, IsPending, HasNewest, Decides, first, insert, take, put_back, uninsert, newest, next_taken, with_serial};
 ghost use Rattle.sim_queue.specs.Slots.{is_live};
 ghost use Rattle.sim_queue.specs.Store.{pending_in, IsCovered, IsKeyed};
 
@@ -67,7 +66,7 @@ impl<B> Store<B> {
     pub(crate) fn next_that<F: Fn(&B) -> bool>(&self, serial: u64, test: &F) -> Option<u64>
         requires small { (pending_in self.now).next_serial ≤ 2 ^ 40 }
         requires callable { F.IsAlwaysCallable test.now }
-        ensures { (p : B → Bool) → ((x : B) (r : Bool) → FnReturnsAt F.Fn test.now x r → r ≡ p x) → result ≡ option_map (λ x. x.serial) (find (λ x. nat_le serial x.serial && p x.body) (pending_in self.now).items) }
+        ensures { (p : B → Bool) → Decides F.Fn test.now p → result ≡ next_taken serial p (pending_in self.now).items }
     {
         let from = serial.saturating_sub(self.slots.base()) as usize;
         let place = self.slots.first_taken(from, test)?;
