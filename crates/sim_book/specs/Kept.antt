@@ -1,7 +1,7 @@
 -- What a contract sees of a book's branch: its tape and its watches; and of a book.
-use Rattle.std.specs.Prelude.{List, map, Option}
+use Rattle.std.specs.Prelude.{List, map, Option, None, replicate}
 use Rattle.sim_node.specs.Work.{Work}
-use Rattle.sim_tape.specs.Tape.{Tape}
+use Rattle.sim_tape.specs.Tape.{Tape, opened}
 use Rattle.sim_world.specs.World.{Scenario}
 use Rattle.sim_watch.specs.Condition.{Cond}
 use Rattle.sim_book.specs.Book.{Branch, Book}
@@ -10,6 +10,10 @@ use Rattle.sim_book.specs.declared.Entry.{Entry}
 pub record Kept : Type 0 where
   pub tape : Tape
   pub watches : List (Option Cond)
+
+-- the first branch of a book: nothing was done on it, and it has no watches
+abbrev pub first_kept : Scenario → Kept
+first_kept s = record { tape = opened s; watches = replicate 8 None }
 
 abbrev pub branch_with : List (Option Cond) → Tape → Branch
 branch_with watches t = record { events = t.events; place = t.place; watches = watches }

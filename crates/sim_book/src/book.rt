@@ -1,8 +1,7 @@
 ghost use Rattle.std.specs.Prelude.{◌≡◌, ℕ, ◌+◌, ◌<◌, ◌≤◌, ◌↔◌, ◌∷◌, [], ◌++◌};
 ghost use Rattle.std.specs.Prelude.{List, length, slice_index_or, replicate, true, false, IfOk, OnOk, OnErr, IfErr, OnSome, IfSome, None, IsTrue};
 ghost use Rattle.sim_world.specs.Events.{rules};
-ghost use Rattle.sim_tape.specs.Tape.{opened};
-ghost use Rattle.sim_book.specs.Kept.{all_shown, Kept as KeptValue};
+ghost use Rattle.sim_book.specs.Kept.{all_shown, first_kept, Kept as KeptValue};
 ghost use Rattle.sim_book.specs.History.{IsLegal};
 ghost use Rattle.sim_book.specs.Book.{opening};
 ghost use Rattle.sim_book.specs.BookOf.{IsBook, IsTaken};
@@ -101,7 +100,7 @@ fn opening<N: Node>(
     scenario: &Scenario,
     meter: &mut N::Meter,
 ) -> Result<Vec<Kept<N>>, NoMemory>
-    ensures { IfOk result (λ ks. ks.items ≡ record { tape = opened scenario.now; watches = None ∷ None ∷ None ∷ None ∷ None ∷ None ∷ None ∷ None ∷ [] } ∷ []) }
+    ensures { IfOk result (λ branches. branches.items ≡ first_kept scenario.now ∷ []) }
 {
     let tape = Tape::new(alloc, scenario, meter)?;
     let mut branches = Vec::new(alloc);

@@ -122,7 +122,8 @@ fn joined(
     links: &[LinkText],
 ) -> Result<ScenarioText, ScenarioFault>
     requires counted { vec_len hosts.names ≡ servers + vec_len hosts.operations }
-    ensures said { faults.Gives seen result (parts.joined_in opening servers (map string_bytes hosts.names.items) hosts.operations.items rest (map link_said links.now)) }
+    ensures said { faults.Gives seen result
+        (parts.joined_in opening servers (map string_bytes hosts.names.items) hosts.operations.items rest (map link_said links.now)) }
     ensures numbered { IfOk result (λ s. IsNumbered s.names) }
 {
     let Opening {

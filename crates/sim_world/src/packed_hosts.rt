@@ -1,8 +1,7 @@
 //! Hosts that are kept for later.
-ghost use Rattle.std.specs.Prelude.{◌≡◌, ◌<◌, length, map, slice_get, Some, is_some, IfOk, OnOk, if◌then◌else◌};
+ghost use Rattle.std.specs.Prelude.{◌≡◌, ◌<◌, length, map, slice_get, Some, is_some, IfOk, OnOk};
 ghost use Rattle.std.specs.List.{count_by};
-ghost use Rattle.sim_node.specs.Work.{copied};
-ghost use Rattle.sim_world.specs.Acts.{copied_by};
+ghost use Rattle.sim_world.specs.Acts.{copied_by, copied_if};
 ghost use Rattle.sim_world.specs.Packed.{hosts_in, timers_in};
 
 use crate::NoMemory;
@@ -56,7 +55,7 @@ fn copied_node<N: Node>(
     meter: &mut N::Meter,
 ) -> Result<Option<N>, NoMemory>
     ensures node { IfOk result (λ copy. copy ≡ node.now) }
-    ensures work { OnOk result (N.Meter.work meter.new ≡ (if is_some node.now then copied (N.Meter.work meter.old) else N.Meter.work meter.old)) }
+    ensures work { OnOk result (N.Meter.work meter.new ≡ copied_if (is_some node.now) (N.Meter.work meter.old)) }
 {
     match node {
         None => Ok(None),
@@ -123,7 +122,7 @@ impl<N: Node> PackedHosts<N> {
     fn host(&self, alloc: Global, number: usize, meter: &mut N::Meter) -> Result<Host<N>, NoMemory>
         requires { number < length self.now.hosts }
         ensures host { IfOk result (λ host. slice_get self.now.hosts number ≡ Some host) }
-        ensures work { IfOk result (λ host. N.Meter.work meter.new ≡ (if is_some host.node then copied (N.Meter.work meter.old) else N.Meter.work meter.old)) }
+        ensures work { IfOk result (λ host. N.Meter.work meter.new ≡ copied_if (is_some host.node) (N.Meter.work meter.old)) }
     {
         let kept = &self.kept[number];
         let node = copied_node(alloc, &kept.node, meter)?;
