@@ -1,7 +1,30 @@
-//! One value, shared by sessions that take turns at it, with one history.
+//! A lock around one value with a history. Sessions call it from threads of their own, and the
+//! history at the end holds each session's calls, each once and in order.
 //!
-//! The value, here called the book, lies under a lock of one word and one slot. A session calls from a seat of its own,
-//! and each command that is taken leaves an entry in the book's history. The entry is the session's receipt too.
+//! - [`Kept`] is the trait of the value: a scenario that never changes, a list of entries, and
+//!   `turn`, which carries out one command and adds one entry. [`Freezes`] adds a call that also
+//!   returns a frozen copy.
+//! - [`Lock::new`] takes the value and makes a [`Seat`] for each session.
+//! - [`Lock::call`] takes a turn for a seat. The returned entry is the session's receipt.
+//! - [`Lock::close`] takes all seats back and returns the value. [`History::entry`] finds the entry
+//!   of a receipt.
+//!
+//! The lock is one word and one slot of `atomic_table`. While the word is 0 the value lies in the
+//! slot. A seat takes the lock with a compare-exchange. If the lock is taken, the seat yields to
+//! other threads and tries again. It does not park: a turn is short, and each wake would cost a
+//! system call. No proof says that a call returns.
+//!
+//! Why it is built this way:
+//!
+//! - The crate knows no simulator, so its proofs name no world, its checks take seconds, and its
+//!   tests use a plain list.
+//! - The proofs rest on what each seat knows: its session's entries, and the history as far as it
+//!   has seen it. One rule of the table (`specs/Rule.antt`) says that the history holds just these
+//!   entries of each session and begins with what each seat has seen.
+//! - All sessions exist from the start. The first seat stands for all of them, and the others are
+//!   cut off it. So "each session has one part" is one equation from the beginning.
+//! - Commands and answers are types that the lock knows nothing about. It cannot invent a command,
+//!   take a turn twice or drop an answer: such a body does not compile.
 #![tactic(auto)]
 
 mod history;

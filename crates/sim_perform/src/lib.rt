@@ -1,4 +1,26 @@
-//! Jobs of a command line, carried out over any reader and any writer: a play, a search of its run, a sweep over seeds.
+//! Carries out a job of the command line over any reader and any writer: a play, a search of the
+//! run that a script leaves, or a sweep over seeds.
+//!
+//! [`perform`] is the one call. It gives a play to `sim_cli::play`, with the same contract. A
+//! search or a sweep (a hunt) reads the scenario as a play does, looks for the condition with
+//! several workers, and writes one line: `first P`, `seed I place P`, `none`, `bad range` or `bad
+//! condition`. With `--progress` it reports on standard error how many pieces are done, at most
+//! twice a second; the standard output does not change.
+//!
+//! What is proved of a hunt is less than of a play. The words of each answer are proved, and no
+//! want of memory is printed as an answer. The script of a search is carried out as the definition
+//! of a play says. That the printed line is the result of the search is not part of the contract of
+//! `perform`.
+//!
+//! Why it is built this way:
+//!
+//! - Searches need threads and a clock, and a play needs neither. So jobs have a crate of their own
+//!   above the play.
+//! - A search follows its script with a loop of its own, which writes nothing. If a command wants
+//!   memory, the search ends with status 4. With the loop of a play and a writer that drops its
+//!   text, the search would go on over a run that the script does not describe.
+//! - Mistakes are reported in the order of the calls: the scenario, the words of the condition, the
+//!   range, and last the hosts and probes of the condition.
 #![tactic(auto)]
 
 mod answer;

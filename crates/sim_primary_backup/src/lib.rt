@@ -1,4 +1,27 @@
-//! Primary-backup. Server 0 is the primary, the other servers are the backups.
+//! Primary-backup replication as a node: server 0 is the primary, the other servers are the
+//! backups.
+//!
+//! Clients put values into 16 cells. The primary applies one put at a time and saves it. Once it is
+//! stable the primary sends it to the backups, and it answers the client when every backup has
+//! answered. docs/PROTOCOLS.md has the tables, a row for each input.
+//!
+//! [`PrimaryBackup`] implements the trait `Node` of `sim_node` for every meter. So it is proved
+//! that the node does what its tables say (`specs/PrimaryBackup.antt`, a definition for each row)
+//! and that each reaction can be taken back. Agreement, durability and progress of the protocol are
+//! not proved; that is what the simulator is there to look at.
+//!
+//! Where to find what: `roles.rt` has the messages, the roles, the state and the records;
+//! `client.rt`, `primary.rt`, `backup.rt` and `store.rt` have the rows; `node.rt` is the node.
+//!
+//! Why it is built this way:
+//!
+//! - The record of a reaction ([`BackupUndo`]) keeps what that reaction can change: the progress,
+//!   the current put, one cell and one waiting host. It is plain data of fixed size.
+//! - The primary lies in a box, so that a client or a backup does not carry its table of waiting
+//!   hosts. [`BoxedPrimary`] is a type whose value is what the box holds, so that definitions see
+//!   no box.
+//! - The hosts in a state (whose put it is, who waits) are below the number of hosts by the node's
+//!   invariant, because `send` asks for it.
 #![tactic(auto)]
 
 mod backup;

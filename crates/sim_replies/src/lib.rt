@@ -1,4 +1,25 @@
-//! The lines that tell replies.
+//! Writes the line that answers one turn of a book: a place and a clock, a refusal, a view or a
+//! trace.
+//!
+//! [`tell_turn`] is the one public call. It takes the result of a turn and the names of hosts and
+//! probes, and writes the line into a text that the caller reuses. In a long play no common line
+//! allocates.
+//!
+//! The contract says that the line is the one of the definitions in `specs/Lines.antt`, for every
+//! reply, stop, refusal and view. The line of `trace` is JSON; it is, by the JSON library's own
+//! definition, the compact text of the object with the keys `branch` and `events`.
+//!
+//! Why it is built this way:
+//!
+//! - A line is written from its end to its front, in 192 bytes on the stack, because the digits of
+//!   a number are computed from the last to the first. No length has to be known before. Names have
+//!   no bound, so they go into the text directly, before the part that follows them.
+//! - The words for a refusal, a stop or a state are functions. The types belong to the book and to
+//!   the world, and an `impl Display` for another crate's type is not allowed.
+//! - The bytes of a line become text by a UTF-8 check that is proved never to fail. Without
+//!   `unsafe` there is no other way from bytes to a text.
+//! - Only the line of `trace` allocates for each event. If that is refused, the contract says
+//!   nothing about the text, and the caller gets the error.
 #![tactic(auto)]
 
 mod ending;

@@ -1,4 +1,30 @@
-//! The text of a scenario: a TOML document that says which hosts there are, which protocol they run, and the numbers of the run.
+//! Reads the text of a scenario: a TOML document with the hosts, their protocol, the network, the
+//! disks and the numbers of a run.
+//!
+//! [`read`] returns a [`ScenarioText`], or the first fault of the text. Faults have a fixed order
+//! and the numbers 1 to 14; docs/SCENARIO.md lists them with a text for each.
+//!
+//! ```text
+//! let scenario = sim_scenario::read(alloc, text)?;
+//! scenario.names.get("w")        // the number of host w
+//! scenario.tick                  // 1 to 60,000 ms
+//! ```
+//!
+//! Two properties are proved. `read` accepts exactly the texts that the definition in
+//! `specs/Scenario.antt` accepts, with the values that they write, and every error but want of
+//! memory is the first fault of the text. What `read` returns is within the limits of a run, so no
+//! caller tests them again.
+//!
+//! Why it is built this way:
+//!
+//! - The definition is a list of checks in the order of the documentation's table. The reader has a
+//!   shape of its own, three functions that each end in the next, and lemmas join the two. A long
+//!   function costs the prover more than its pieces, since each early return has all earlier parts
+//!   in hand.
+//! - A link's `source` and `target` may be any string. A string that is no name is no host, so it
+//!   is fault 13 and not fault 10.
+//! - The crate knows the protocols by name and by the number of servers that each needs, and
+//!   nothing else. It depends on no node and no world.
 #![tactic(auto)]
 
 mod fault;

@@ -1,7 +1,23 @@
 //! The program `simback`: a simulated cluster that can be walked backwards.
 //!
-//! `simback play` reads a scenario and a script from the standard input, and writes a line for each command. `simback search` looks
-//! for the first place of that run at which a condition fails, and `simback sweep` for the first seed with such a place.
+//! ```text
+//! simback play < INPUT                          plays a script and writes a line for each command
+//! simback search LO HI COND < INPUT             finds the first place of that run where COND fails
+//! simback sweep FIRST COUNT EVENTS COND < INPUT finds the first seed with such a place
+//! ```
+//!
+//! INPUT is a scenario, a line `---` and a script; docs/SCENARIO.md, docs/SCRIPT.md and
+//! docs/SEARCH.md describe them.
+//!
+//! This crate has no logic of its own. It reads the words of the command line, gives them to
+//! `sim_job::job`, gives the job with the standard input and output to `sim_perform::perform`, and
+//! ends with the status that it returns: 0, or 1 for a bad scenario, 2 for a wrong command line or
+//! a request that cannot be carried out, 3 if the input or the output failed, 4 for want of memory.
+//!
+//! Help goes to the standard output with status 0, a mistake to the standard error with status 2.
+//! Words that are not UTF-8 end with status 2 and are not repeated. If the standard error takes
+//! nothing, the status stays the same. A crate is a library or a program, so everything that can be
+//! proved or tested over any reader and writer is in the libraries below.
 #![tactic(auto)]
 
 use sim_perform::{LineFault, Status, job, perform};
