@@ -27,6 +27,3 @@ mod search;
 
 pub use search::{Gate, OpenGate, Pieces, least};
 pub use std::alloc::AllocError as NoMemory;
-
-#[cfg(test)]
-mod tests;

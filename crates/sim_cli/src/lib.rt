@@ -31,8 +31,6 @@ mod nodes;
 mod playing;
 mod scenario;
 mod status;
-#[cfg(test)]
-mod tests;
 
 pub use answering::{answer_lines, turn_of};
 pub use nodes::{play_nodes, set_up};

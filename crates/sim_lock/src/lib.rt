@@ -36,6 +36,3 @@ mod seat;
 pub use history::History;
 pub use kept::{Freezes, Kept};
 pub use seat::{Lock, Seat};
-
-#[cfg(test)]
-mod tests;

@@ -32,6 +32,3 @@ mod progress;
 pub use performing::perform;
 pub use sim_cli::Status;
 pub use sim_job::{Job, LineFault, job};
-
-#[cfg(test)]
-mod tests;

@@ -20,8 +20,6 @@
 #![tactic(auto)]
 
 mod probes;
-#[cfg(test)]
-mod tests;
 
 pub use probes::{probe_name, probe_number};
 pub use sim_abd::{AbdMsg, AbdRegister};

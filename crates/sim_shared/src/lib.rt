@@ -32,6 +32,3 @@ mod shared;
 
 pub use held::Held;
 pub use shared::{History, Receipt, Seat, Shared};
-
-#[cfg(test)]
-mod tests;

@@ -3,5 +3,7 @@ mod examples;
 mod faults;
 mod full;
 mod lines;
+mod probes;
 mod rows;
 mod scenes;
+mod streams;

@@ -1,3 +1,4 @@
+mod claims;
 mod comers;
 mod fold;
 mod long;

@@ -1,0 +1,3 @@
+mod crowds;
+mod lock;
+mod shared;

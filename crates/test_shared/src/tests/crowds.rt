@@ -1,0 +1,173 @@
+//! Eight sessions at once, and a history that is full.
+ghost use Rattle.std.specs.Prelude.{◌≡◌, All};
+ghost use Rattle.sim_shared.specs.Sharing.{IsAt};
+
+use super::shared::{Echoes, echoes, place_of};
+use sim_book::{Command, MOST_ENTRIES, NotTaken};
+use sim_shared::{History, Receipt, Seat, Shared};
+use sim_world::Query;
+use std::alloc::Global;
+use std::sync::{Mutex, Wait};
+use std::test::Fail;
+use std::thread;
+use std::thread::Threads;
+
+const SESSIONS: u8 = 8;
+
+/// How many commands each session gives.
+const CALLS: u32 = 2_000;
+
+/// Which branches the sessions walk on.
+#[derive(Clone, Copy)]
+enum Ground {
+    OneForAll,
+    OneForEach,
+}
+
+impl Ground {
+    fn branch(self, session: u8) -> u32 {
+        match self {
+            Ground::OneForAll => 0,
+            Ground::OneForEach => u32::from(session),
+        }
+    }
+}
+
+// A step, a look and a step back, by turns.
+fn turn_of(turn: u32, branch: u32) -> Command {
+    match turn % 3 {
+        0 => Command::Step(branch),
+        1 => Command::Look(branch, Query::Summary),
+        _ => Command::Back(branch, 1),
+    }
+}
+
+// A session walks on a branch, and keeps its receipts with those of the others.
+fn walk<R: Wait>(
+    rt: &R,
+    shared: &Shared<Echoes>,
+    seat: &mut Seat<Echoes>,
+    ground: Ground,
+    kept: &Mutex<Vec<Receipt>>,
+)
+    requires { IsAt shared.now seat.old }
+    ensures { IsAt shared.now seat.new }
+{
+    let branch = ground.branch(seat.session());
+    for turn in 0..CALLS {
+        let Ok(receipt) = shared.call(rt, seat, turn_of(turn, branch)) else {
+            return;
+        };
+        if kept.lock(rt).push(receipt).is_err() {
+            return;
+        }
+    }
+}
+
+// A session makes a branch for each of the others.
+fn make_branches<R: Wait>(
+    rt: &R,
+    shared: &Shared<Echoes>,
+    seat: &mut Seat<Echoes>,
+) -> Result<(), Fail>
+    requires { IsAt shared.now seat.old }
+    ensures { IsAt shared.now seat.new }
+{
+    for _ in 1..SESSIONS {
+        shared.call(rt, seat, Command::Branch(0, 0))?;
+    }
+    Ok(())
+}
+
+// All sessions walk, each in a thread of its own.
+fn walk_all<R: Threads + Wait + Sync>(
+    rt: &R,
+    alloc: Global,
+    ground: Ground,
+) -> Result<(History<Echoes>, Vec<Receipt>), Fail> {
+    let (shared, mut seats) = Shared::new(alloc, echoes(alloc)?, SESSIONS)?;
+    make_branches(rt, &shared, &mut seats[7])?;
+    let kept = Mutex::new(Vec::new(alloc));
+    thread::for_each_mut(
+        rt,
+        &mut seats,
+        8,
+        &|_, seat| walk(rt, &shared, seat, ground, &kept),
+    );
+    Ok((shared.close(seats), kept.into_inner()))
+}
+
+// The number, and the place that was told.
+fn told(entry: &Receipt) -> (u32, Option<u32>) {
+    (entry.number, place_of(&entry.reply))
+}
+
+// Each session's receipts are its entries in the history, in order.
+fn are_all_entries(history: &History<Echoes>, kept: &[Receipt]) -> bool {
+    (0..SESSIONS).all(|session| {
+        let entries = history
+            .entries
+            .iter()
+            .skip(7)
+            .filter(|e| e.session == session);
+        let receipts = kept.iter().filter(|e| e.session == session);
+        entries.map(told).eq(receipts.map(told))
+    })
+}
+
+#[test]
+fn a_branch_for_each_session(rt: HostRuntime) -> Result<(), Fail> {
+    let (history, kept) = walk_all(&rt, rt.alloc(), Ground::OneForEach)?;
+    assert_eq!(rt; history.entries.len(), 16_007);
+    assert_eq!(rt; kept.len(), 16_000);
+    assert!(rt; are_all_entries(&history, &kept));
+    Ok(())
+}
+
+#[test]
+fn one_branch_for_all_sessions(rt: HostRuntime) -> Result<(), Fail> {
+    let (history, kept) = walk_all(&rt, rt.alloc(), Ground::OneForAll)?;
+    assert_eq!(rt; history.entries.len(), 16_007);
+    assert_eq!(rt; kept.len(), 16_000);
+    assert!(rt; are_all_entries(&history, &kept));
+    Ok(())
+}
+
+// A session looks until it is told that it may not, and keeps why.
+fn look_on<R: Wait>(
+    rt: &R,
+    shared: &Shared<Echoes>,
+    seat: &mut Seat<Echoes>,
+    kept: &Mutex<Vec<NotTaken>>,
+)
+    requires { IsAt shared.now seat.old }
+    ensures { IsAt shared.now seat.new }
+{
+    for _ in 0..=MOST_ENTRIES {
+        if let Err(why) = shared.call(rt, seat, Command::Look(0, Query::Summary)) {
+            let _ = kept.lock(rt).push(why);
+            return;
+        }
+    }
+}
+
+#[test]
+fn a_full_history(rt: HostRuntime) -> Result<(), Fail> {
+    let alloc = rt.alloc();
+    let (shared, mut seats) = Shared::new(alloc, echoes(alloc)?, 2)?;
+    let kept = Mutex::new(Vec::new(alloc));
+    thread::for_each_mut(
+        &rt,
+        &mut seats,
+        2,
+        &|_, seat| look_on(&rt, &shared, seat, &kept),
+    );
+    assert!(rt; kept.into_inner().as_slice() == [NotTaken::HistoryFull; 2].as_slice());
+    let again = shared.call(&rt, &mut seats[0], Command::Cut(0));
+    assert_eq!(rt; again.err(), Some(NotTaken::HistoryFull));
+    let frozen = shared.freeze(&rt, &mut seats[1], 0);
+    assert_eq!(rt; frozen.err(), Some(NotTaken::HistoryFull));
+    let history = shared.close(seats);
+    assert_eq!(rt; history.entries.len(), MOST_ENTRIES);
+    Ok(())
+}
