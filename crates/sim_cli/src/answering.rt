@@ -11,7 +11,7 @@ ghost use Rattle.sim_cli.specs.Answers.{Answers, Hands, Finishes};
 
 use crate::status::{Answered, Status};
 use sim_book::{Book, Entry, NotTaken};
-use sim_lines::{Ahead, NextLine, Outlet, WriterFault, next_line};
+use sim_lines::{Ahead, NextLine, Outlet, WriterError, next_line};
 use sim_node::Node;
 use sim_replies::tell_turn;
 use sim_script::{Ask, Names, ScriptLine, line_of};
@@ -90,7 +90,7 @@ fn flush_before_read<W: Write>(
     ahead: &Ahead,
     outlet: &mut Outlet,
     writer: &mut W,
-) -> Result<(), WriterFault>
+) -> Result<(), WriterError>
     ensures { HandsOver (W.contents writer.old) (W.contents writer.new) outlet.old [] outlet.new result }
 {
     if !ahead.is_empty() {

@@ -15,7 +15,7 @@ use crate::answering::answer_lines;
 use crate::nodes::play_nodes;
 use crate::scenario::{WasRead, probe_names, protocol_of, read_scenario};
 use crate::status::{Answered, Status};
-use sim_lines::{Ahead, HeadFault, put, read_head};
+use sim_lines::{Ahead, HeadError, put, read_head};
 use sim_protocols::{AbdRegister, Echo, PrimaryBackup, TwoPhase};
 use sim_scenario::{Protocol, ScenarioText};
 use sim_tally::Tally;
@@ -80,8 +80,8 @@ fn play_scenario<R: Read, W: Write>(alloc: Global, reader: &mut R, writer: &mut 
     let mut ahead = Ahead::new();
     let text = match read_head(alloc, reader, &mut ahead) {
         Ok(text) => text,
-        Err(HeadFault::Failed) => return Status::ReaderFailed,
-        Err(HeadFault::NoMemory) => return Status::MemoryWanted,
+        Err(HeadError::Failed) => return Status::ReaderFailed,
+        Err(HeadError::NoMemory) => return Status::MemoryWanted,
     };
     match read_scenario(alloc, text.as_slice()) {
         WasRead::Scenario(text) => play_protocol(alloc, text, reader, &mut ahead, writer),

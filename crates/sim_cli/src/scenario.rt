@@ -9,10 +9,10 @@ use sim_scenario::ScenarioText;
 use std::alloc::{AllocError, Global};
 
 /// The longest text of a scenario (bytes).
-const LONGEST_TEXT: usize = 65_536;
+const MAX_TEXT: usize = 65_536;
 
 /// No protocol has more probes.
-const MOST_PROBES: u8 = 16;
+const MAX_PROBES: u8 = 16;
 
 /// A scenario that was read, or why there is none.
 #[derive(Drop)]
@@ -38,7 +38,7 @@ pub fn read_scenario(alloc: Global, bytes: &[u8]) -> WasRead
     ensures reads { Reads bytes.now result }
     ensures within { KeepsLimits result }
 {
-    if bytes.len() > LONGEST_TEXT {
+    if bytes.len() > MAX_TEXT {
         return tell_fault(alloc, 1, "text");
     }
     let Ok(text) = str::from_utf8(bytes) else {
@@ -76,7 +76,7 @@ pub fn probe_names(alloc: Global, protocol: Protocol) -> Result<Vec<String>, All
     ensures few { IfOk result (λ probes. vec_len probes ≤ 16) }
 {
     let mut probes = Vec::new(alloc);
-    for k in 0..MOST_PROBES {
+    for k in 0..MAX_PROBES {
         if let Some(name) = probe_name(protocol, k) {
             probes.push(String::from_str(alloc, name)?)?;
         }

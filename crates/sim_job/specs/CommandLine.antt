@@ -6,8 +6,8 @@ use Rattle.clap.specs.declared.builder.value_parser.ValueParser.TheVariants as p
 use Rattle.clap.specs.declared.builder.action.ArgAction.TheVariants as action
 use Rattle.clap.specs.declared.error.kind.ErrorKind.{ErrorKind}
 use Rattle.clap.specs.declared.error.kind.ErrorKind.TheVariants as kind
-use Rattle.sim_job.specs.declared.line.LineFault.{LineFault}
-use Rattle.sim_job.specs.declared.line.LineFault.TheVariants as line_fault
+use Rattle.sim_job.specs.declared.line.LineError.{LineError}
+use Rattle.sim_job.specs.declared.line.LineError.TheVariants as line_fault
 use Rattle.sim_job.specs.declared.wanted.Job.{Job}
 use Rattle.sim_job.specs.declared.wanted.Job.TheVariants as job
 
@@ -122,18 +122,18 @@ abbrev pub HasMistake : Kinds → Type 0
 HasMistake kinds = (k : ErrorKind) × IsAmong k kinds × (k ≢ kind.DisplayHelp) × (k ≢ kind.DisplayVersion)
 
 -- Help is told where it is asked for, and usage where clap finds a mistake, or finds none and a value is missing.
-abbrev pub IsFault : List Text → LineFault → Type 0
+abbrev pub IsFault : List Text → LineError → Type 0
 IsFault words (line_fault.Help text) = AsksText (fault_of program words)
 IsFault words (line_fault.Usage text) = HasMistake (fault_of program words)
     ⊎ ((fault_of program words ≡ []) × ((asked : Job) → ¬ IsJobOf words asked))
 IsFault words line_fault.NoMemory = ⊤
 
-abbrev pub IsHelp : LineFault → Type 0
+abbrev pub IsHelp : LineError → Type 0
 IsHelp (line_fault.Help text) = ⊤
 IsHelp (line_fault.Usage text) = ⊥
 IsHelp line_fault.NoMemory = ⊥
 
-abbrev pub IsUsage : LineFault → Type 0
+abbrev pub IsUsage : LineError → Type 0
 IsUsage (line_fault.Help text) = ⊥
 IsUsage (line_fault.Usage text) = ⊤
 IsUsage line_fault.NoMemory = ⊥

@@ -12,7 +12,7 @@ use std::convert::AsStr;
 
 /// Why a command line asks for no job.
 #[derive(Debug, Drop)]
-pub enum LineFault {
+pub enum LineError {
     /// Help or the version was asked for: its text.
     Help(String),
     /// The words are wrong: what is wrong, and how the program is called.
@@ -20,7 +20,7 @@ pub enum LineFault {
     NoMemory,
 }
 
-impl LineFault {
+impl LineError {
     ghost use Rattle.sim_job.specs.Status.{status_of};
 
     /// The exit status of the program: 0 for help, 2 for a mistake, and 4 where there was not enough memory.
@@ -28,9 +28,9 @@ impl LineFault {
         ensures { result ≡ status_of self.now }
     {
         match self {
-            LineFault::Help(_) => 0,
-            LineFault::Usage(_) => 2,
-            LineFault::NoMemory => 4,
+            LineError::Help(_) => 0,
+            LineError::Usage(_) => 2,
+            LineError::NoMemory => 4,
         }
     }
 }
@@ -123,43 +123,43 @@ fn asked_in<'a>(matches: &ArgMatches<'a>) -> Option<Job<'a>>
 }
 
 /// What a fault of clap's is here.
-fn line_fault(alloc: Global, error: &Error) -> LineFault
+fn line_fault(alloc: Global, error: &Error) -> LineError
     ensures help { IsHelp result → (kind_of error.now ≡ ErrorKind.DisplayHelp) ⊎ (kind_of error.now ≡ ErrorKind.DisplayVersion) }
     ensures usage { IsUsage result → (kind_of error.now ≢ ErrorKind.OutOfMemory) × (kind_of error.now ≢ ErrorKind.DisplayHelp)
         × (kind_of error.now ≢ ErrorKind.DisplayVersion) }
 {
     if error.kind() == ErrorKind::OutOfMemory {
-        return LineFault::NoMemory;
+        return LineError::NoMemory;
     }
     match format!(in alloc; "{error}") {
         Ok(text) => {
             if error.use_stderr() {
-                LineFault::Usage(text)
+                LineError::Usage(text)
             } else {
-                LineFault::Help(text)
+                LineError::Help(text)
             }
         }
-        Err(_) => LineFault::NoMemory,
+        Err(_) => LineError::NoMemory,
     }
 }
 
 /// What is told where clap takes the words and yet a value is missing.
-fn missing_value(alloc: Global) -> LineFault
+fn missing_value(alloc: Global) -> LineError
     ensures { ¬ IsHelp result }
 {
     match String::from_str(alloc, "error: a value is missing\n") {
-        Ok(text) => LineFault::Usage(text),
-        Err(_) => LineFault::NoMemory,
+        Ok(text) => LineError::Usage(text),
+        Err(_) => LineError::NoMemory,
     }
 }
 
 /// The job that the words of a command line ask for, the first of which names the program.
-pub fn job<'a, S: AsStr>(alloc: Global, words: &'a [S]) -> Result<Job<'a>, LineFault>
+pub fn job<'a, S: AsStr>(alloc: Global, words: &'a [S]) -> Result<Job<'a>, LineError>
     ensures answer { MatchResult result (IsJobOf (map S.text words.entry.now)) (IsFault (map S.text words.entry.now)) }
     ensures workers { IfOk result HasFewWorkers }
 {
     let Ok(command) = program(alloc) else {
-        return Err(LineFault::NoMemory);
+        return Err(LineError::NoMemory);
     };
     match command.try_get_matches_from(words) {
         Ok(matches) => match asked_in(&matches) {

@@ -4,8 +4,8 @@ use Rattle.std.specs.Io.KnownBytes.{Consumes, IsAtEnd}
 use Rattle.std.specs.Str.Lines.{lines}
 use Rattle.sim_lines.specs.Cut.{whole_lines, head_of, Shows}
 use Rattle.sim_lines.specs.Waiting.{Waiting, budget, IsUsedUp}
-use Rattle.sim_lines.specs.declared.head.HeadFault.{HeadFault}
-use Rattle.sim_lines.specs.declared.head.HeadFault.TheVariants as faults
+use Rattle.sim_lines.specs.declared.head.HeadError.{HeadError}
+use Rattle.sim_lines.specs.declared.head.HeadError.TheVariants as faults
 use Rattle.sim_lines.specs.declared.lines.NextLine.{NextLine}
 use Rattle.sim_lines.specs.declared.lines.NextLine.TheVariants.{Line, Last, End, Failed, NoMemory}
 
@@ -82,12 +82,12 @@ pub record HasNoMarker (old new : Option (List ℕ)) : Type 0 where
   pub consumed : Consumes old new taken
   pub none : (head_of taken).1 ≡ []
 
-abbrev pub TakesHead : {A : Type 0} → Option (List ℕ) → Option (List ℕ) → Result (Vec ℕ A) HeadFault → Type 0
+abbrev pub TakesHead : {A : Type 0} → Option (List ℕ) → Option (List ℕ) → Result (Vec ℕ A) HeadError → Type 0
 TakesHead old new (Ok text) = HasHead old new text.items
 TakesHead old new (Err faults.Failed) = HasNoMarker old new
 TakesHead old new (Err faults.NoMemory) = Unit {0}
 
 -- where the reader failed no byte waits
-abbrev pub SpendsHead : {A : Type 0} → Waiting → Waiting → Result (Vec ℕ A) HeadFault → Type 0
+abbrev pub SpendsHead : {A : Type 0} → Waiting → Waiting → Result (Vec ℕ A) HeadError → Type 0
 SpendsHead old new (Err faults.Failed) = IsUsedUp old new
 SpendsHead old new _ = Unit {0}

@@ -12,11 +12,11 @@ use std::io::Read;
 use std::marker::Model;
 
 /// So many bytes without a marker line are more than a scenario may have.
-const MOST_BYTES: usize = 65_600;
+const MAX_BYTES: usize = 65_600;
 
 /// Why there is no scenario's text.
 #[derive(Clone, Copy)]
-pub enum HeadFault {
+pub enum HeadError {
     /// The reader failed.
     Failed,
     NoMemory,
@@ -112,7 +112,7 @@ pub fn read_head<R: Read>(
     alloc: Global,
     reader: &mut R,
     ahead: &mut Ahead,
-) -> Result<Vec<u8>, HeadFault>
+) -> Result<Vec<u8>, HeadError>
     ensures takes { TakesHead (prepend_known ahead.old.bytes (R.remaining reader.old))
         (prepend_known ahead.new.bytes (R.remaining reader.new)) result }
     ensures spends { SpendsHead ahead.old ahead.new result }
@@ -120,7 +120,7 @@ pub fn read_head<R: Read>(
     ensures few { length ahead.new.bytes ≤ 4096 }
 {
     let mut lines = Lines::new(alloc);
-    for _ in 0..MOST_BYTES {
+    for _ in 0..MAX_BYTES {
         match next_byte(reader, ahead) {
             Next::Byte(byte) => {
                 if byte == b'\n' {
@@ -128,10 +128,10 @@ pub fn read_head<R: Read>(
                         return Ok(lines.into_lines());
                     }
                     if lines.end_line().is_err() {
-                        return Err(HeadFault::NoMemory);
+                        return Err(HeadError::NoMemory);
                     }
                 } else if lines.push(byte).is_err() {
-                    return Err(HeadFault::NoMemory);
+                    return Err(HeadError::NoMemory);
                 }
             }
             Next::End => {
@@ -141,7 +141,7 @@ pub fn read_head<R: Read>(
                     Ok(lines.into_text())
                 };
             }
-            Next::Failed => return Err(HeadFault::Failed),
+            Next::Failed => return Err(HeadError::Failed),
         }
     }
     Ok(lines.into_text())

@@ -25,7 +25,7 @@ mod lines;
 mod reading;
 mod writing;
 
-pub use head::{HeadFault, read_head};
+pub use head::{HeadError, read_head};
 pub use lines::{NextLine, next_line};
-pub use reading::{Ahead, Next, ReaderFault, next_byte};
-pub use writing::{Outlet, WriterFault, put};
+pub use reading::{Ahead, Next, ReaderError, next_byte};
+pub use writing::{Outlet, WriterError, put};

@@ -10,11 +10,11 @@ use std::marker::Model;
 const ROOM: usize = 4096;
 
 /// A reader that still gives bytes after so many reads counts as failed.
-const MOST_READS: u64 = 1 << 40;
+const MAX_READS: u64 = 1 << 40;
 
 /// The reader failed.
 #[derive(Debug, Drop)]
-pub struct ReaderFault;
+pub struct ReaderError;
 
 /// What was read and not yet taken, at most 4,096 bytes, and how many reads may still be made.
 #[derive(Drop)]
@@ -45,7 +45,7 @@ impl Ahead {
             bytes: [0; ROOM],
             start: 0,
             end: 0,
-            reads: MOST_READS,
+            reads: MAX_READS,
         }
     }
 
@@ -57,7 +57,7 @@ impl Ahead {
     }
 
     /// One read, where one is left, while no byte is waiting.
-    fn fill<R: Read>(&mut self, reader: &mut R) -> Result<(), ReaderFault>
+    fn fill<R: Read>(&mut self, reader: &mut R) -> Result<(), ReaderError>
         requires { self.old.bytes ≡ [] }
         ensures ok { OnOk result (Consumes (R.remaining reader.old) (R.remaining reader.new) self.new.bytes) }
         ensures end { OnOk result (self.new.bytes ≡ [] → IsAtEnd (R.remaining reader.new)) }
@@ -67,7 +67,7 @@ impl Ahead {
         ensures few { length self.new.bytes ≤ 4096 }
     {
         if self.reads == 0 {
-            return Err(ReaderFault);
+            return Err(ReaderError);
         }
         self.reads -= 1;
         self.start = 0;
@@ -77,7 +77,7 @@ impl Ahead {
                 self.end = n;
                 Ok(())
             }
-            Err(_) => Err(ReaderFault),
+            Err(_) => Err(ReaderError),
         }
     }
 

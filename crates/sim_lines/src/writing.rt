@@ -12,19 +12,19 @@ const ROOM: usize = 8192;
 
 /// The writer failed, or took no byte of a text that wasn't empty.
 #[derive(Debug, Drop)]
-pub struct WriterFault;
+pub struct WriterError;
 
 /// Writes all of the text, or where the writer fails a part from its front.
-pub fn put<W: Write>(writer: &mut W, text: &[u8]) -> Result<(), WriterFault>
+pub fn put<W: Write>(writer: &mut W, text: &[u8]) -> Result<(), WriterError>
     ensures ok { OnOk result (Appends (W.contents writer.old) (W.contents writer.new) text.now) }
     ensures err { OnErr result (AppendsPart (W.contents writer.old) (W.contents writer.new) text.now) }
 {
     let mut rest = text;
     while !rest.is_empty() {
         match writer.write(rest) {
-            Ok(0) => return Err(WriterFault),
+            Ok(0) => return Err(WriterError),
             Ok(n) => rest = rest.split_at(n).1,
-            Err(_) => return Err(WriterFault),
+            Err(_) => return Err(WriterError),
         }
     }
     Ok(())
@@ -58,7 +58,7 @@ impl Outlet {
     ///
     /// Of a flush the clause says that the writer holds what it held, which is all that std's contract tells: that one is made
     /// where all was written, and that its failure is answered, shows in no clause.
-    pub fn flush<W: Write>(&mut self, writer: &mut W) -> Result<(), WriterFault>
+    pub fn flush<W: Write>(&mut self, writer: &mut W) -> Result<(), WriterError>
         ensures { WritesAll (W.contents writer.old) (W.contents writer.new) self.old self.new result }
     {
         match put(writer, self.waiting.as_slice()) {
@@ -68,7 +68,7 @@ impl Outlet {
         self.waiting.clear();
         match writer.flush() {
             Ok(()) => Ok(()),
-            Err(_) => Err(WriterFault),
+            Err(_) => Err(WriterError),
         }
     }
 
@@ -81,7 +81,7 @@ impl Outlet {
 
     /// Hands a text over: it waits, or what waits is written and then the text. Where there is no memory for it to wait it is written.
     /// Where the writer fails a part was written, and the rest is not kept for it.
-    pub fn hand_over<W: Write>(&mut self, writer: &mut W, text: &[u8]) -> Result<(), WriterFault>
+    pub fn hand_over<W: Write>(&mut self, writer: &mut W, text: &[u8]) -> Result<(), WriterError>
         ensures { HandsOver (W.contents writer.old) (W.contents writer.new) self.old text.now self.new result }
     {
         if self.keep(text) {

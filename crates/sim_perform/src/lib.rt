@@ -31,4 +31,4 @@ mod progress;
 
 pub use performing::perform;
 pub use sim_cli::Status;
-pub use sim_job::{Job, LineFault, job};
+pub use sim_job::{Job, LineError, job};

@@ -13,7 +13,7 @@ use crate::answer::Answer;
 use crate::hunting::{Ground, Hunt, hunt_nodes};
 use sim_cli::{WasRead, play, probe_names, protocol_of, read_scenario};
 use sim_job::Job;
-use sim_lines::{Ahead, HeadFault, put, read_head};
+use sim_lines::{Ahead, HeadError, put, read_head};
 use sim_protocols::{AbdRegister, Echo, PrimaryBackup, TwoPhase};
 use sim_scenario::{Protocol, ScenarioText};
 use sim_tally::Tally;
@@ -93,8 +93,8 @@ fn hunt_scenario<H: Threads + Wait + Sync + Clock + Eprint, R: Read, W: Write>(
     let mut ahead = Ahead::new();
     let text = match read_head(alloc, reader, &mut ahead) {
         Ok(text) => text,
-        Err(HeadFault::Failed) => return Status::ReaderFailed,
-        Err(HeadFault::NoMemory) => return Status::MemoryWanted,
+        Err(HeadError::Failed) => return Status::ReaderFailed,
+        Err(HeadError::NoMemory) => return Status::MemoryWanted,
     };
     match read_scenario(alloc, text.as_slice()) {
         WasRead::Scenario(text) => match hunt_protocol(rt, alloc, text, hunt, reader, &mut ahead) {

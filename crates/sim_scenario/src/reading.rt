@@ -19,7 +19,7 @@ use std::alloc::Global;
 use toml::Table;
 
 /// The longest text of a scenario, in bytes.
-const LONGEST_TEXT: usize = 65_536;
+const MAX_TEXT: usize = 65_536;
 
 /// Reads the text of a scenario. An error is the first fault of the text, in the order of the format's description, or
 /// `NoMemory` where memory was refused before the text was read to its first fault or its end. What is read is within the
@@ -30,7 +30,7 @@ pub fn read(alloc: Global, text: &str) -> Result<ScenarioText, ScenarioFault>
     ensures numbered { IfOk result (λ s. IsNumbered s.names) }
     ensures within { IfOk result (λ s. IsWithinLimits (seen s)) }
 {
-    if text.len() > LONGEST_TEXT {
+    if text.len() > MAX_TEXT {
         return Err(ScenarioFault::TooLong);
     }
     match toml::table_from_str(alloc, text) {

@@ -47,7 +47,7 @@ pub enum SearchFault {
 }
 
 /// The most places of a run, but for the first.
-pub const MOST_EVENTS: u64 = 65_536;
+pub const MAX_EVENTS: u64 = 65_536;
 
 /// The most seeds of a sweep.
-pub const MOST_SEEDS: u64 = 0x1_0000_0000;
+pub const MAX_SEEDS: u64 = 0x1_0000_0000;

@@ -4,7 +4,7 @@ ghost use Rattle.sim_watch.specs.Condition.{fault_of};
 ghost use Rattle.sim_watch.specs.Search.{failing_of_seed, first_failing_seed};
 ghost use Rattle.sim_search.specs.Faults.{is_bad_sweep, sweep_fault, reason};
 
-use crate::{MOST_EVENTS, MOST_SEEDS, SearchFault};
+use crate::{MAX_EVENTS, MAX_SEEDS, SearchFault};
 use sim_claims::{Gate, Pieces, least};
 use sim_node::{NoMemory, Node};
 use sim_watch::{Cond, scan_seed};
@@ -49,7 +49,7 @@ fn is_bad(first: u64, count: u64, events: u64) -> bool
     ensures value { result ≡ is_bad_sweep first count events }
     ensures fine { result ≡ false → (0 < count) × (events ≤ 65536) × (first + count ≤ 2 ^ 64) × (count ≤ 2 ^ 32) }
 {
-    count == 0 || MOST_SEEDS < count || MOST_EVENTS < events || first > u64::MAX - (count - 1)
+    count == 0 || MAX_SEEDS < count || MAX_EVENTS < events || first > u64::MAX - (count - 1)
 }
 
 /// The first of `count` seeds, from number `first` on, with a place at which a condition fails, and its first such place, by as many

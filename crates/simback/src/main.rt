@@ -20,7 +20,7 @@
 //! proved or tested over any reader and writer is in the libraries below.
 #![tactic(auto)]
 
-use sim_perform::{LineFault, Status, job, perform};
+use sim_perform::{LineError, Status, job, perform};
 use std::process::ExitCode;
 use std::rt::{Clock, Env};
 use std::sync::Wait;
@@ -38,11 +38,11 @@ fn words<R: Env + AllocGlobal>(rt: &R) -> io::Result<Vec<String>> {
 
 // Tells why there is no job: help on the standard output, a mistake on the standard error. Where that takes nothing, there is nobody
 // to tell.
-fn tell<R: Print + Eprint>(rt: &R, fault: &LineFault) -> u8 {
+fn tell<R: Print + Eprint>(rt: &R, fault: &LineError) -> u8 {
     let _told = match fault {
-        LineFault::Help(text) => print!(rt; "{text}"),
-        LineFault::Usage(text) => eprint!(rt; "{text}"),
-        LineFault::NoMemory => Ok(()),
+        LineError::Help(text) => print!(rt; "{text}"),
+        LineError::Usage(text) => eprint!(rt; "{text}"),
+        LineError::NoMemory => Ok(()),
     };
     fault.status()
 }

@@ -1,4 +1,4 @@
-use sim_lines::{Ahead, HeadFault, NextLine, Outlet, next_line, put, read_head};
+use sim_lines::{Ahead, HeadError, NextLine, Outlet, next_line, put, read_head};
 use std::alloc::{AllocError, Global};
 use std::io;
 use std::io::{ErrorKind, Read, Write};
@@ -82,8 +82,8 @@ fn cut<R: Read>(alloc: Global, reader: &mut R) -> Result<(Vec<u8>, &'static str)
     let mut ahead = Ahead::new();
     let mut text = match read_head(alloc, reader, &mut ahead) {
         Ok(text) => text,
-        Err(HeadFault::Failed) => return Ok((Vec::new(alloc), "no head")),
-        Err(HeadFault::NoMemory) => return Ok((Vec::new(alloc), "no memory")),
+        Err(HeadError::Failed) => return Ok((Vec::new(alloc), "no head")),
+        Err(HeadError::NoMemory) => return Ok((Vec::new(alloc), "no memory")),
     };
     text.push(b'|')?;
     let mut line = Vec::new(alloc);

@@ -1,5 +1,5 @@
 //! Command lines, and what is told where they ask for no job.
-use sim_job::{Job, LineFault, job};
+use sim_job::{Job, LineError, job};
 use std::test::Fail;
 
 // The words ask for this job.
@@ -13,7 +13,7 @@ fn asks(rt: &HostRuntime, words: &[&str], wanted: Job<'_>) -> bool {
 // Help is told, with all these texts in it.
 fn helps(rt: &HostRuntime, words: &[&str], texts: &[&str]) -> bool {
     match job(rt.alloc(), words) {
-        Err(LineFault::Help(told)) => texts.iter().all(|text| told.as_str().contains(*text)),
+        Err(LineError::Help(told)) => texts.iter().all(|text| told.as_str().contains(*text)),
         _ => false,
     }
 }
@@ -21,7 +21,7 @@ fn helps(rt: &HostRuntime, words: &[&str], texts: &[&str]) -> bool {
 // Usage is told, with this mistake.
 fn blames(rt: &HostRuntime, words: &[&str], mistake: &str) -> bool {
     match job(rt.alloc(), words) {
-        Err(LineFault::Usage(told)) => {
+        Err(LineError::Usage(told)) => {
             told.as_str().contains("error: ") && told.as_str().contains(mistake)
         }
         _ => false,
