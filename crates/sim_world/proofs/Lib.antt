@@ -1,7 +1,6 @@
 pub mod Applied
 pub mod Arrivals
 pub mod Bodies
-pub mod Changes
 pub mod Clocks
 pub mod Copying
 pub mod Counts
@@ -23,6 +22,7 @@ pub mod LostIndex
 pub mod OneHost
 pub mod OneTimer
 pub mod Packing
+pub mod PartChanges
 pub mod Places
 pub mod Plain
 pub mod Purges
