@@ -90,10 +90,10 @@ impl<M> PackedLinks<M> {
         requires equal { (m : M) (r : _) → FnReturnsAt F.Fn each m r → IfOk r (λ copy. copy ≡ m) }
         ensures { IfOk result (λ links. links ≡ self.now) }
     {
-        let mut table = Table::new(alloc, self.kept.len())?;
+        let mut table = Table::new(alloc)?;
         for kept in &self.kept {
             let copy = kept.direction.copy(alloc, &each)?;
-            table.put(kept.place as usize, copy)?;
+            table.put(kept.place as usize, copy);
         }
         Ok(Links { table })
     }
