@@ -1,5 +1,5 @@
 //! Disks that are kept for later.
-ghost use Rattle.std.specs.Prelude.{◌≡◌, ◌+◌, ◌<◌, ◌^◌, [], ◌∷◌, ◌++◌, length, slice_get, Some, IfOk, OnOk};
+ghost use Rattle.std.specs.Prelude.{◌≡◌, ◌+◌, ◌<◌, ◌^◌, [], ◌∷◌, ◌++◌, length, slice_get, Some, IfOk, OnOk, OnErr};
 
 use crate::content::Content;
 use crate::lay::append_all;
@@ -71,9 +71,10 @@ impl PackedDisks {
         })
     }
 
-    /// Adds an equal disk behind the others. After `NoMemory` nothing is said of the disks.
+    /// Adds an equal disk behind the others. After `NoMemory` the disks are unchanged.
     pub fn push(&mut self, disk: &Disk) -> Result<(), NoMemory>
-        ensures { OnOk result (self.new ≡ self.old ++ disk.now ∷ []) }
+        ensures ok { OnOk result (self.new ≡ self.old ++ disk.now ∷ []) }
+        ensures err { OnErr result (self.new ≡ self.old) }
     {
         let content = &disk.content;
         let from = self.bytes.len();

@@ -13,9 +13,6 @@ pub use packed::PackedLinks;
 pub use std::alloc::AllocError as NoMemory;
 pub use ways::Ways;
 
-/// The most hosts that a table of directions has.
-pub const MOST_HOSTS: u16 = 32;
-
 /// The state of one direction. `Through` is the state called open.
 #[derive(Clone, Copy, Debug, PartialEq, Eq)]
 pub enum LinkState {

@@ -5,40 +5,16 @@ mod effects;
 mod meter;
 mod node;
 
-ghost use Rattle.std.specs.Prelude.{◌≡◌};
-ghost use Rattle.sim_node.specs.Node.{is_server};
-
 pub use effects::{Effect, Effects};
 pub use meter::Meter;
 pub use node::{Node, there_and_back};
 pub use std::alloc::AllocError as NoMemory;
-
-/// The most hosts of a cluster, which has at least 2: one server and one client.
-pub const MAX_HOSTS: u16 = 32;
-
-/// The most operations of a client, which has at least 1.
-pub const MAX_OPERATIONS: u32 = 1_000;
-
-/// The most messages that are in flight and held together. What is sent beyond them is dropped.
-pub const MAX_MESSAGES: u32 = 4_096;
-
-/// The bytes of a host's disk.
-pub const DISK_BYTES: u32 = 4_096;
 
 /// The most bytes of one write, which has at least 1.
 pub const MAX_WRITE_BYTES: usize = 64;
 
 /// The most effects of one reaction.
 pub const MAX_EFFECTS: usize = 40;
-
-/// The longest delay of a timer in milliseconds; the shortest is 1.
-pub const MAX_DELAY: u32 = 60_000;
-
-/// The longest latency of a message, and of a sync of a disk, in milliseconds; the shortest is 0.
-pub const MAX_LATENCY: u32 = 60_000;
-
-/// The greatest loss, in messages of a thousand.
-pub const MAX_LOSS: u32 = 1_000;
 
 /// How many servers and hosts there are, and how many operations each host has as a client.
 ///
@@ -66,11 +42,4 @@ pub enum Input<M> {
     Timer,
     /// A sync that the node asked for has happened: the writes before it are stable.
     Synced,
-}
-
-/// Whether the host is a server.
-pub fn serves(setup: &Setup, host: u16) -> bool
-    ensures { result ≡ is_server setup.now host }
-{
-    host < setup.servers
 }

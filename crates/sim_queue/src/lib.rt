@@ -60,6 +60,13 @@ impl<B> Queue<B> {
         }
     }
 
+    /// What is always true of a queue: its items are listed by rising serials, which differ and are below the next serial.
+    pub fn laws(&self)
+        ensures { IsQueue self.now }
+    {
+        let _store = &self.store;
+    }
+
     /// Adds an item that is due at `due` (ms), and answers its serial, which is the next one.
     ///
     /// The next serial has to be below 2^40. After `NoMemory` the queue is unchanged, and the body is dropped.
@@ -107,7 +114,7 @@ impl<B> Queue<B> {
         self.store.count()
     }
 
-    /// Takes the first item out. It can be put back.
+    /// Takes the first item out. It can be put back. It takes no memory.
     #[inline(always)]
     pub fn take_first(&mut self) -> Option<Item<B>>
         ensures item { result ≡ first self.old.items }
@@ -120,7 +127,7 @@ impl<B> Queue<B> {
         self.store.remove_first()
     }
 
-    /// Takes out the item of a serial, if it is pending. It can be put back.
+    /// Takes out the item of a serial, if it is pending. It can be put back. It takes no memory.
     #[inline(always)]
     pub fn take(&mut self, serial: u64) -> Option<Item<B>>
         ensures item { result ≡ with_serial serial self.old.items }
@@ -149,7 +156,7 @@ impl<B> Queue<B> {
 
     /// Takes the newest item out, as if it had never been added: the next serial is lowered by one.
     ///
-    /// The item with the serial below the next one has to be pending.
+    /// The item with the serial below the next one has to be pending. It takes no memory.
     #[inline(always)]
     pub fn uninsert(&mut self) -> Item<B>
         requires { HasNewest self.old }

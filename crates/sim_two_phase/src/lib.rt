@@ -26,7 +26,6 @@
 //!   box.
 #![tactic(auto)]
 
-mod boxed;
 mod client;
 mod conduct;
 mod coordinator;
@@ -35,9 +34,8 @@ mod node;
 mod participant;
 mod roles;
 
-pub use boxed::BoxedCoordinator;
 pub use node::TwoPhase;
 pub use roles::{
-    CommitMsg, CommitUndo, Conduct, Coordinator, First, Owed, Participant, Phase, Role, SlotBefore,
-    Slots, State, Status,
+    CommitMsg, CommitUndo, Conduct, Coordinator, First, Owed, Participant, Phase, Role, Slots, State,
+    Status,
 };
