@@ -13,6 +13,8 @@ pub struct Boxed<T> {
 }
 
 impl<T> Model for Boxed<T> {
+    ghost use Rattle.std.specs.Prelude.{◌≡◌};
+
     ghost Value = { T };
 
     ghost view = { λ boxed. boxed.inner.value };

@@ -1,4 +1,4 @@
-ghost use Rattle.std.specs.Prelude.{List, Option, ◌≡◌, ◌<◌, ◌≤◌, IfSome, slice_set};
+ghost use Rattle.std.specs.Prelude.{◌≡◌, ◌<◌, ◌≤◌, IfSome, slice_set};
 ghost use Rattle.sim_hosts.specs.Waiting.{lowest_waiting, restored, IsPlacedSlot};
 
 use sim_node::Setup;
@@ -39,20 +39,11 @@ pub fn wait_with<A: Copy>(
     ensures back { restored result waiting.new ≡ waiting.old }
     ensures placed { IsPlacedSlot result }
 {
-    let before = slot_before(host, waiting[host as usize]);
+    let before = waiting[host as usize];
     waiting[host as usize] = what;
-    before
-}
-
-// The host waited with this.
-fn slot_before<A: Copy>(host: u16, what: Option<A>) -> SlotBefore<A>
-    requires { host < 32 }
-    ensures placed { IsPlacedSlot result }
-    ensures back { (waiting : List (Option A)) → restored result waiting ≡ slice_set waiting host what }
-{
-    match what {
+    match before {
         None => SlotBefore::Empty(host),
-        Some(what) => SlotBefore::Waited(host, what),
+        Some(before) => SlotBefore::Waited(host, before),
     }
 }
 

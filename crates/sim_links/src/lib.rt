@@ -1,4 +1,24 @@
-//! The links between hosts: for each direction a state and the messages that it holds, and how messages go over it.
+//! The links between hosts, and how messages go over them.
+//!
+//! A link has two directions, and each direction is by itself. It is open (`Through`), held (messages
+//! wait in it), or cut (messages are dropped). [`Links::change`] applies one of four changes and returns
+//! the messages that leave the direction, with a record; [`Links::undo`] takes the change back, given
+//! both. `specs/Link.antt` has the table of changes. [`Ways`] says for each direction how long a message
+//! over an open link takes and how many messages are lost.
+//!
+//! # How it is built
+//!
+//! Contracts see the list of all 1,024 directions between 32 hosts. Most of them are never changed, so
+//! the table stores only those that were:
+//!
+//! - Each direction has a slot of two bytes. Slot 0 is one open direction that stands for all that were
+//!   never changed; a changed direction has a slot of its own. A copy and a drop cost what the changed
+//!   directions cost, and a look at a state is two loads.
+//! - The vector has room for all directions from the start (32 KB that are not touched before they are
+//!   needed). So `change` and `undo` take no memory and cannot fail, and a fault can always be taken
+//!   back. Only `keep` takes memory, for the message.
+//! - [`PackedLinks`] keeps links for later, as in a checkpoint: the directions that are not open, with
+//!   their places, and no table.
 #![tactic(auto)]
 
 mod direction;

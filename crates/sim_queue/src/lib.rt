@@ -1,6 +1,30 @@
-//! The occurrences that are pending: a set of items, each with a due and a serial, and the next serial.
+//! What is pending: a set of items, each with a due time (ms), a serial and a body.
 //!
-//! Every change can be taken back: `uninsert` takes back an `insert`, and `put_back` a `take` or a `take_first`.
+//! [`Queue::insert`] gives an item the next serial. [`Queue::take_first`] takes the item with the least
+//! due and, among equal dues, the least serial. Every change can be taken back: `uninsert` takes back an
+//! `insert`, and `put_back` a `take` or a `take_first`. Contracts see a list of items in the order of
+//! their serials and the next serial (`specs/Pending.antt`).
+//!
+//! # How it is built
+//!
+//! - `slots`: the items stand in a vector in any order, and each serial from the first one on has a slot
+//!   of four bytes with the index of its item. So an item is found by its serial in two loads, and a copy
+//!   copies what is pending and little else. A taken item is replaced by the last one.
+//! - `lists` and `wheel`: keys (a due and a serial) stand in 256 linked lists, one for all dues that are
+//!   equal modulo 256, each in the order of its keys. With delays of less than 256 ms a list has keys of
+//!   one due, so a new key goes to the end of its list. The wheel knows the least due; `marks` has a bit
+//!   for each list, by which the next due is found in a few steps.
+//! - `agenda`: the wheel, and a heap for the keys that no list accepts: those whose list has a later due
+//!   with an earlier serial before their place. That happens only if dues lie at least 256 ms apart.
+//! - `store`: slots and agenda together. A heap may keep the key of an item that is gone; such dead
+//!   keys are dropped when they come to the front.
+//! - `packed`: a queue that is kept for later has only its items; slots and keys are made again.
+//!
+//! A heap alone was measured too. The wheel saves a seventh of all instructions of a run, and most of the
+//! branches that a processor cannot predict. If all dues lie far apart, a heap alone would be faster.
+//!
+//! Only `insert`, `put_back`, `copy` and `pack` take memory. Room for what a removal notes is made when
+//! the item comes in.
 #![tactic(auto)]
 
 mod agenda;
