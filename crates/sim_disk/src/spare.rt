@@ -1,4 +1,4 @@
-//! The memory of records that are done with.
+//! Memory of records that are no longer needed.
 ghost use Rattle.std.specs.Prelude.{◌≡◌};
 
 use crate::NoMemory;
@@ -9,8 +9,8 @@ use std::marker::Model;
 // The most boxes that are kept.
 const MAX_SPARE: usize = 4096;
 
-/// The memory of records that are done with, which serves those to come: at most 4,096 pieces. What there is of it changes
-/// nothing but the speed.
+/// Memory of records that are no longer needed, kept for later records: at most 4,096 boxes. It
+/// changes nothing but the speed.
 #[derive(Drop)]
 pub struct SpareDisks {
     contents: Vec<Box<Content>>,
@@ -23,14 +23,14 @@ impl Model for SpareDisks {
 }
 
 impl SpareDisks {
-    /// None. It takes no memory.
+    /// No spare memory. Takes no memory.
     pub fn new(alloc: Global) -> SpareDisks {
         SpareDisks {
             contents: Vec::new(alloc),
         }
     }
 
-    // Some content in a box. Where a box is made, so is the room to keep it later.
+    // A box with any content. Making a box also makes the room to keep it later.
     pub(crate) fn take(&mut self, alloc: Global) -> Result<Box<Content>, NoMemory> {
         if let Some(content) = self.contents.pop() {
             return Ok(content);

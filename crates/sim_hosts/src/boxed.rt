@@ -6,7 +6,8 @@ use sim_node::NoMemory;
 use std::alloc::Global;
 use std::marker::Model;
 
-/// The state of a role in memory of its own, so that hosts in other roles do not carry it. Contracts see the state.
+/// The state of a role in memory of its own, so that hosts in other roles do not carry it. Contracts
+/// see the state.
 #[derive(Drop)]
 pub struct Boxed<T> {
     inner: Box<T>,

@@ -1,15 +1,17 @@
 //! What the protocols with several servers share.
 //!
 //! - [`HostSet`]: a set of hosts in 32 bits, for those that answered or voted.
-//! - `send_to_all` and `send_to_missing`: a message to each server, or to each that is not in a set.
-//! - `lowest_waiting`, `wait_with`, `put_back` and [`SlotBefore`]: a table of what each of 32 hosts waits
-//!   with, and the record by which a change of one slot is taken back.
-//! - [`Boxed`]: the state of a role in memory of its own, so that hosts in other roles do not carry it.
-//! - `byte_at`, `number_at` and `put_number`: numbers on a disk, low byte first. Bytes that the disk does
-//!   not have are 0, so that a server can boot from an empty disk.
+//! - `send_to_all` and `send_to_missing`: a message to each server, or to each that is not in a
+//!   set.
+//! - `lowest_waiting`, `wait_with`, `put_back` and [`SlotBefore`]: a table of what each of 32 hosts
+//!   waits with, and the record by which a change of one slot is taken back.
+//! - [`Boxed`]: the state of a role in memory of its own, so that hosts in other roles do not carry
+//!   it.
+//! - `byte_at`, `number_at` and `put_number`: numbers on a disk, low byte first. Bytes that the
+//!   disk does not have are 0, so that a server can boot from an empty disk.
 //!
-//! Each function has a definition of the same name in `specs/`, from which the protocols' own tables are
-//! built.
+//! Each function has a definition of the same name in `specs/`, from which the protocols' own
+//! tables are built.
 #![tactic(auto)]
 
 mod boxed;

@@ -39,7 +39,7 @@ impl LinkState {
     }
 }
 
-// The messages in the same order, each as `each` copies it.
+// A copy of the messages, in the same order.
 fn copied<M: Drop, F: Fn(&M) -> Result<M, NoMemory>>(
     alloc: Global,
     messages: &[M],

@@ -65,8 +65,8 @@ impl<M> Links<M> {
         direction.state()
     }
 
-    /// How many messages the direction from host a to host b holds, both hosts below 32. The greatest number of 32 bits
-    /// stands for more than that.
+    /// How many messages the direction from host a to host b holds, both hosts below 32. Returns
+    /// `u32::MAX` if there are more.
     pub fn held(&self, a: u16, b: u16) -> u32
         requires from { a < 32 }
         requires to { b < 32 }
@@ -76,8 +76,9 @@ impl<M> Links<M> {
         direction.count().min(u32::MAX as usize) as u32
     }
 
-    /// Changes the direction from host a to host b, both below 32. Returns the record of the change, and the messages that leave
-    /// the direction: those that a release gives out, or a cut drops, in the order in which they were sent. Takes no memory.
+    /// Changes the direction from host a to host b, both below 32. Returns the record of the change
+    /// and the messages that leave the direction, which a release delivers and a cut drops, in the
+    /// order in which they were sent. Takes no memory.
     pub fn change(&mut self, a: u16, b: u16, change: Change) -> (LinkUndo, Vec<M>)
         requires from { a < 32 }
         requires to { b < 32 }
@@ -99,8 +100,9 @@ impl<M> Links<M> {
         (undo, messages)
     }
 
-    /// Takes a change back, given its record and the messages that left the direction by it. The direction has to be as the change
-    /// left it; a change after which it is held let no message go. Takes no memory.
+    /// Takes a change back, given its record and the messages that left the direction. The direction
+    /// has to be as the change left it. No message left a direction that is held after the change.
+    /// Takes no memory.
     pub fn undo(&mut self, undo: LinkUndo, messages: Vec<M>)
     where
         M: Drop,
@@ -108,17 +110,16 @@ impl<M> Links<M> {
         requires to { undo.b < 32 }
         requires fits { fits undo (link undo.a undo.b self.old) }
         requires none_left { kept_in (state_after undo.change undo.was) messages.items ≡ [] }
-        ensures {
-            self.new ≡ with_link undo.a undo.b (back undo messages.items (link undo.a undo.b self.old)) self.old
-        }
+        ensures { self.new ≡ with_link undo.a undo.b (back undo messages.items (link undo.a undo.b self.old)) self.old }
     {
         let slot = self.table.touch(place(undo.a, undo.b));
         let direction = &mut self.table.touched[slot];
         direction.undo(undo, messages);
     }
 
-    /// Adds a message to those that the direction from host a to host b holds, as the newest; both hosts are below 32, and the
-    /// direction is held and holds fewer than 4,096. After `NoMemory` the links are unchanged and the message is dropped.
+    /// Adds a message to those that the direction from host a to host b holds, as the newest. Both
+    /// hosts are below 32, and the direction is held and holds fewer than 4,096 messages. After
+    /// `NoMemory` the links are unchanged and the message is dropped.
     pub fn keep(&mut self, a: u16, b: u16, message: M) -> Result<(), NoMemory>
     where
         M: Drop,
@@ -136,8 +137,8 @@ impl<M> Links<M> {
         direction.keep(message)
     }
 
-    /// Takes the newest message out of those that the direction from host a to host b holds; both hosts are below 32, and it
-    /// holds at least one. Takes no memory.
+    /// Takes out the newest message that the direction from host a to host b holds. Both hosts are
+    /// below 32, and it holds at least one. Takes no memory.
     pub fn unkeep(&mut self, a: u16, b: u16) -> M
         requires from { a < 32 }
         requires to { b < 32 }
@@ -150,7 +151,7 @@ impl<M> Links<M> {
         direction.unkeep()
     }
 
-    /// Equal links. `each` copies a message: it answers an equal one, or `NoMemory`, which is then the answer.
+    /// A copy. `each` copies a message; if it fails, so does the call.
     pub fn copy<F: Fn(&M) -> Result<M, NoMemory>>(
         &self,
         alloc: Global,

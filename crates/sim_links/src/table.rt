@@ -1,4 +1,5 @@
-//! A table of directions. It stores only the directions that were ever changed, so that a copy and a drop cost what those cost.
+//! A table of directions. It stores only the directions that were ever changed, so that a copy and a
+//! drop cost what those cost.
 ghost use Rattle.std.specs.Prelude.{◌≡◌, ◌<◌, slice_index_or, slice_set, IfOk};
 ghost use Rattle.std.specs.Fn.{FnReturnsAt};
 ghost use Rattle.sim_links.specs.Link.{all_open, open_link};
@@ -8,15 +9,16 @@ use crate::NoMemory;
 use crate::direction::Direction;
 use std::alloc::Global;
 
-/// The directions by their slots. It has no invariant: each call says what it asks for and what it leaves.
+/// The directions by their slots. It has no invariant: each call states what it requires and ensures.
 #[derive(Drop)]
 pub(crate) struct Table<M> {
-    // The slot of each direction: 0 where it was never touched.
+    // The slot of each direction: 0 if it was never changed.
     pub(crate) slots: Vec<u16>,
-    // The touched directions, in the order in which they were first touched, behind an open one that stands for all others. No
-    // two have one slot. There is room for all 1,024 from the start, so that a touch takes no memory.
+    // An open direction that stands for all others, and then the touched ones in the order in which
+    // they were first touched. No two share a slot. There is room for all 1,024 from the start, so
+    // that a touch takes no memory.
     pub(crate) touched: Vec<Direction<M>>,
-    // From this place on no direction was ever touched.
+    // No direction from this place on was ever touched.
     pub(crate) past: u16,
 }
 
@@ -50,7 +52,7 @@ impl<M> Table<M> {
         &self.touched[self.slots[place] as usize]
     }
 
-    /// The slot of the direction of a place, which gets one of its own if it has none.
+    /// The slot of the direction of a place. Gives it one of its own if it has none.
     pub(crate) fn touch(&mut self, place: usize) -> usize
         requires sound { IsSound self.old }
         requires within { place < 1024 }
@@ -84,7 +86,7 @@ impl<M> Table<M> {
         self.touched[slot] = direction;
     }
 
-    /// How many directions are not open. It serves as a capacity alone, so no more is said of it.
+    /// How many directions are not open. It is only used as a capacity, so it has no contract.
     pub(crate) fn count(&self) -> usize {
         self.touched
             .iter()

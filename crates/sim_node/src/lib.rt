@@ -1,28 +1,31 @@
 //! What a node is: the code that runs on one host of the cluster.
 //!
-//! A type is a node if it implements [`Node`]. It boots from the stable bytes of its disk, reacts to an
-//! [`Input`] with one random word by asking for [`Effects`] (messages, a timer, writes, a sync, done), and
-//! takes its last reaction back. `probe` shows numbers of its state to the outside.
+//! A type is a node if it implements [`Node`]. It boots from the stable bytes of its disk, reacts
+//! to an [`Input`] with one random word by asking for [`Effects`] (messages, a timer, writes, a
+//! sync, done), and takes its last reaction back. `probe` shows numbers of its state to the
+//! outside.
 //!
 //! # The laws
 //!
-//! An implementation names, as ghost members, what it does: `laws` (how it boots and reacts, and what its
-//! probes show, as functions), `records` (which states a record fits, and where it leads back to) and
-//! `told` (the setup, which never changes). Each method is proved to follow them. So the world that runs
-//! nodes needs to know nothing about a node but this trait:
+//! An implementation names, as ghost members, what it does: `laws` (how it boots and reacts, and
+//! what its probes show, as functions), `records` (which states a record fits, and where it leads
+//! back to) and `told` (the setup, which never changes). Each method is proved to follow them. So
+//! the world that runs nodes needs to know nothing about a node but this trait:
 //!
-//! - `act` gives the state and the effects that `laws.react` names, and a record that fits the new state
-//!   and leads back to the old one;
+//! - `act` gives the state and the effects that `laws.react` names, and a record that fits the new
+//!   state and leads back to the old one;
 //! - `undo` of a record that fits gives that state;
 //! - `copy` gives an equal node.
 //!
-//! In practice: write the reaction as a function in `specs/`, write the same in Rust, and let the record
-//! keep the fields that the reaction may change. docs/NODES.md goes through a whole example.
+//! In practice: write the reaction as a function in `specs/`, write the same in Rust, and let the
+//! record keep the fields that the reaction may change. docs/NODES.md goes through a whole example.
 //!
 //! Effects are stored with the limits of a cluster as an invariant (at most 40, each to a host that
-//! exists, and so on), so that nobody has to check them again. A node that breaks a limit is not proved.
+//! exists, and so on), so that nobody has to check them again. A node that breaks a limit is not
+//! proved.
 //!
-//! A [`Meter`] counts boots, reactions, copies and undos. Contracts state the work of whole runs by it.
+//! A [`Meter`] counts boots, reactions, copies and undos. Contracts state the work of whole runs by
+//! it.
 #![tactic(auto)]
 
 mod effects;

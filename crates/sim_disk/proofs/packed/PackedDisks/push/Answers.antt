@@ -51,4 +51,4 @@ pub returns-in_err-push-clause-err : goal.returns-in_err-push-clause-err
 returns-in_err-push-clause-err c =
     on_err c.from_residual-in_err-push.result
     (disks_still c.as_slice.result.now c.as_slice-2.result.now c.in_ok-extend_from_slice.ensures.items c.in_ok-append_all.ensures.ok
-      c.in_err-push.ensures.items c.self.invariant ∙ c.self.view_is)
+    c.in_err-push.ensures.items c.self.invariant ∙ c.self.view_is)
