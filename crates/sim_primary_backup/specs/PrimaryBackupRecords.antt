@@ -1,11 +1,10 @@
 -- The records of primary-backup: what a role was before a reaction.
-use Rattle.std.specs.Prelude.{ℕ, ◌<◌, List, Option, None, Some, slice_set, IfSome}
+use Rattle.std.specs.Prelude.{ℕ, ◌<◌, List, Option, slice_set, IfSome}
 use Rattle.sim_node.specs.Node.{NodeRecords}
 use Rattle.sim_hosts.specs.Waiting.{restored, IsPlacedSlot}
 use Rattle.sim_primary_backup.specs.declared.roles.Progress.{Progress}
 use Rattle.sim_primary_backup.specs.declared.roles.Store.{Store}
 use Rattle.sim_primary_backup.specs.declared.roles.Request.{Request}
-use Rattle.sim_primary_backup.specs.declared.roles.Waiter.{Waiter}
 use Rattle.sim_primary_backup.specs.declared.roles.Primary.{Primary}
 use Rattle.sim_primary_backup.specs.declared.roles.Role.{Role}
 use Rattle.sim_primary_backup.specs.declared.roles.Role.TheVariants as role

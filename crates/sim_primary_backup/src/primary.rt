@@ -5,11 +5,10 @@ ghost use Rattle.sim_hosts.specs.Waiting.{restored, IsPlacedSlot};
 ghost use Rattle.sim_primary_backup.specs.PrimaryBackup.{primary_at_boot, started, begun, begun_lowest, is_of_another, put_by, fin_of, acknowledged, acked, spread, primary_timer, settled, primary_synced, react_primary};
 ghost use Rattle.sim_primary_backup.specs.PrimaryBackupRecords.{IsPlacedPrimary, IsPlacedCell, IsPlacedChanges, restored_cell, primary_before};
 
-use crate::{
-    BackupMsg, CellBefore, Changes, Primary, Progress, Request, Store, Waiter,
-};
+use crate::{BackupMsg, CellBefore, Changes, Primary, Progress, Request, Store, Waiter};
 use sim_hosts::{
-    HostSet, SlotBefore, is_other, lowest_waiting, put_back, send_to_all, send_to_missing, wait_with,
+    HostSet, SlotBefore, is_other, lowest_waiting, put_back, send_to_all, send_to_missing,
+    wait_with,
 };
 use sim_node::{Effects, Input, Setup};
 

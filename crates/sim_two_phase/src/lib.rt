@@ -22,7 +22,7 @@
 //! - The coordinator's record ([`CommitUndo`]) keeps its whole conduct and at most two of the 32
 //!   places where hosts wait. No record has a collection.
 //! - The coordinator lies in a box, so that other hosts do not carry its table of waiting hosts.
-//!   [`BoxedCoordinator`] is a type whose value is what the box holds, so that definitions see no
+//!   `sim_hosts::Boxed` is a type whose value is what the box holds, so that definitions see no
 //!   box.
 #![tactic(auto)]
 
@@ -36,6 +36,6 @@ mod roles;
 
 pub use node::TwoPhase;
 pub use roles::{
-    CommitMsg, CommitUndo, Conduct, Coordinator, First, Owed, Participant, Phase, Role, Slots, State,
-    Status,
+    CommitMsg, CommitUndo, Conduct, Coordinator, First, Owed, Participant, Phase, Role, Slots,
+    State, Status,
 };
