@@ -4,7 +4,7 @@ use Rattle.std.proofs.Math.Seq.{drop-append_seam}
 use Rattle.std.proofs.lemmas.List.{take-append-le, drop-append-le, length-map, map-append, take_all}
 use Rattle.std.proofs.lemmas.List.Elements.{All-head, All-tail, All-push}
 use Rattle.std.proofs.lemmas.Option.{slice_get-map, slice_get_read}
-use Rattle.std.specs.Prelude.{Some, option_map}
+use Rattle.std.specs.Prelude.{Some, option_map, Result, Ok, Err, OnErr}
 use Rattle.std.specs.List.{slice_get, slice_range}
 use Rattle.sim_disk.specs.Disk.{Disk, Write, IsDisk}
 use Rattle.sim_disk.specs.Spans.{disk_at, disks_at, IsSpan, AreSpans}
@@ -53,6 +53,17 @@ disks_grown bytes more writes others (s ∷ spans) are =
       disk_grown bytes more writes others s (All-head (IsSpan bytes writes) s spans are),
       disks_grown bytes more writes others spans (All-tail (IsSpan bytes writes) s spans are),
     ) refl
+
+pub disks_still : {bytes new_bytes : List ℕ} {writes new_writes : List Write} {spans new_spans : List Span} (more : List ℕ) (others : List Write)
+    → new_bytes ≡ bytes ++ more → new_writes ≡ writes ++ others → new_spans ≡ spans → AreSpans bytes writes spans
+    → disks_at new_bytes new_writes new_spans ≡ disks_at bytes writes spans
+disks_still {bytes = bytes} {writes = writes} {spans = spans} more others bytes_are writes_are spans_are are =
+    rw (bytes_are, writes_are, spans_are) (disks_grown bytes more writes others spans are)
+
+-- what is true at all is true after an error
+pub on_err : {T E P : Type 0} (r : Result T E) → P → OnErr r P
+on_err (Ok v) p = tt
+on_err (Err e) p = p
 
 -- This span marks a disk that comes behind so many bytes and writes.
 pub record IsBehind (bytes writes : ℕ) (d : Disk) (s : Span) : Type 0 where

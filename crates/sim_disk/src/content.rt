@@ -1,4 +1,4 @@
-//! What a disk is made of, and what it becomes by a sync and by a crash.
+//! The content of a disk, and what a sync and a crash make of it.
 ghost use Rattle.std.specs.Prelude.{◌≡◌, ◌≤◌, length, IfOk, OnOk};
 ghost use Rattle.sim_disk.specs.Disk as disk;
 ghost use Rattle.sim_disk.specs.Change.{disk_in};
@@ -8,7 +8,8 @@ use crate::lay::{all_laid, append_all, copy_all, kept_laid, lay_all};
 use crate::write::Write;
 use std::alloc::Global;
 
-/// Stable bytes, and in order the writes that are not stable yet. It has no invariant: a record that is done with can have any.
+/// Stable bytes and, in order, the writes that are not stable yet. It has no invariant, since spare
+/// memory can hold any content.
 #[derive(Drop)]
 pub(crate) struct Content {
     pub(crate) stable: Vec<u8>,
@@ -29,7 +30,7 @@ impl Content {
         }
     }
 
-    /// Equal bytes and writes, and so many of these covered.
+    /// A copy of these bytes and writes, of which syncs cover the first `asked`.
     pub(crate) fn of(
         alloc: Global,
         bytes: &[u8],
@@ -48,7 +49,8 @@ impl Content {
         })
     }
 
-    /// Becomes what another content is once a sync of its first `count` writes came. After an error it can be anything.
+    /// Becomes what a sync of the first `count` writes makes of another content. After an error it can
+    /// be anything.
     pub(crate) fn become_synced(&mut self, was: &Content, count: u32) -> Result<(), NoMemory>
         requires asked { count ≤ was.now.asked }
         requires there { count ≤ length was.now.writes.items }
@@ -61,7 +63,7 @@ impl Content {
         Ok(())
     }
 
-    /// A sync of its first `count` writes came: they are laid over the stable bytes where these stand. After an error it can be anything.
+    /// Makes its first `count` writes stable, in place. After an error it can be anything.
     pub(crate) fn settle(&mut self, count: u32) -> Result<(), NoMemory>
         requires asked { count ≤ self.old.asked }
         requires there { count ≤ length self.old.writes.items }
@@ -80,7 +82,7 @@ impl Content {
         Ok(())
     }
 
-    /// There are no bytes and no writes any more.
+    /// Drops all bytes and writes.
     pub(crate) fn clear(&mut self)
         ensures { disk_in self.new ≡ disk.empty_disk }
     {
@@ -89,7 +91,8 @@ impl Content {
         self.asked = 0;
     }
 
-    /// Becomes what another content is once it crashed, by a word for each of its writes. After an error it can be anything.
+    /// Becomes what a crash makes of another content, given a word for each of its writes. After an
+    /// error it can be anything.
     pub(crate) fn become_crashed(&mut self, was: &Content, words: &[u32]) -> Result<(), NoMemory>
         requires { length words.now ≡ length was.now.writes.items }
         ensures { OnOk result (disk_in self.new ≡ disk.crashed words.now (disk_in was.now)) }

@@ -1,5 +1,5 @@
 //! Disks that are kept for later.
-ghost use Rattle.std.specs.Prelude.{◌≡◌, ◌+◌, ◌<◌, ◌^◌, [], ◌∷◌, ◌++◌, length, slice_get, Some, IfOk, OnOk};
+ghost use Rattle.std.specs.Prelude.{◌≡◌, ◌+◌, ◌<◌, ◌^◌, [], ◌∷◌, ◌++◌, length, slice_get, Some, IfOk, OnOk, OnErr};
 
 use crate::content::Content;
 use crate::lay::append_all;
@@ -8,8 +8,9 @@ use crate::{Disk, NoMemory};
 use std::alloc::Global;
 use std::marker::Model;
 
-/// Disks that are kept for later, side by side, in three blocks of memory. Contracts see the list of the disks. Together they
-/// keep at most 2^32 - 1 stable bytes and as many writes; a disk more than that is refused as a want of memory.
+/// Disks that are kept for later, side by side in three vectors. Contracts see a list of disks.
+/// Together they have at most 2^32 - 1 stable bytes and as many writes; adding a disk beyond that
+/// fails with `NoMemory`.
 #[derive(Drop)]
 pub struct PackedDisks {
     // The stable bytes of all disks, and the writes of all.
@@ -55,7 +56,8 @@ fn end(before: usize, more: usize) -> Result<u32, NoMemory>
 }
 
 impl PackedDisks {
-    /// No disks, with room for so many, and for so many stable bytes and so many writes of them together.
+    /// No disks, with room for `disks` disks that have `bytes` stable bytes and `writes` writes
+    /// together.
     pub fn with_room(
         alloc: Global,
         disks: usize,
@@ -71,9 +73,10 @@ impl PackedDisks {
         })
     }
 
-    /// Adds an equal disk behind the others. After `NoMemory` nothing is said of the disks.
+    /// Adds an equal disk at the end. After `NoMemory` the disks are unchanged.
     pub fn push(&mut self, disk: &Disk) -> Result<(), NoMemory>
-        ensures { OnOk result (self.new ≡ self.old ++ disk.now ∷ []) }
+        ensures ok { OnOk result (self.new ≡ self.old ++ disk.now ∷ []) }
+        ensures err { OnErr result (self.new ≡ self.old) }
     {
         let content = &disk.content;
         let from = self.bytes.len();
@@ -93,7 +96,7 @@ impl PackedDisks {
         Ok(())
     }
 
-    /// A disk equal to the one at a place.
+    /// A copy of the disk at a place.
     pub fn get(&self, alloc: Global, place: usize) -> Result<Disk, NoMemory>
         requires { place < length self.now }
         ensures { IfOk result (λ d. slice_get self.now place ≡ Some d) }

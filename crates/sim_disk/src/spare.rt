@@ -1,4 +1,4 @@
-//! The memory of records that are done with.
+//! Memory of records that are no longer needed.
 ghost use Rattle.std.specs.Prelude.{◌≡◌};
 
 use crate::NoMemory;
@@ -6,7 +6,11 @@ use crate::content::Content;
 use std::alloc::Global;
 use std::marker::Model;
 
-/// The memory of records that are done with, which serves those to come. What there is of it changes nothing but the speed.
+// The most boxes that are kept.
+const MAX_SPARE: usize = 4096;
+
+/// Memory of records that are no longer needed, kept for later records: at most 4,096 boxes. It
+/// changes nothing but the speed.
 #[derive(Drop)]
 pub struct SpareDisks {
     contents: Vec<Box<Content>>,
@@ -19,24 +23,29 @@ impl Model for SpareDisks {
 }
 
 impl SpareDisks {
-    /// None. It takes no memory.
+    /// No spare memory. Takes no memory.
     pub fn new(alloc: Global) -> SpareDisks {
         SpareDisks {
             contents: Vec::new(alloc),
         }
     }
 
-    // Some content in a box.
+    // A box with any content. Making a box also makes the room to keep it later.
     pub(crate) fn take(&mut self, alloc: Global) -> Result<Box<Content>, NoMemory> {
         if let Some(content) = self.contents.pop() {
             return Ok(content);
+        }
+        if self.contents.capacity() < MAX_SPARE {
+            self.contents.reserve(MAX_SPARE)?;
         }
         let content = Box::new(alloc, Content::empty(alloc))?;
         Ok(content)
     }
 
-    // Keeps a box for later, where there is memory to note it.
+    // Keeps a box for later, if there is room. It takes no memory.
     pub(crate) fn put(&mut self, content: Box<Content>) {
-        let _ = self.contents.push(content);
+        if self.contents.len() < self.contents.capacity() {
+            self.contents.push_reserved(content);
+        }
     }
 }

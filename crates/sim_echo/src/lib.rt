@@ -1,4 +1,12 @@
-//! Echo: a client sends a ping, a server answers it with a pong.
+//! Echo, the smallest protocol: clients send pings, and servers answer them with pongs.
+//!
+//! Each client sends its pings to one server, the next one when the last is answered, and is done
+//! after as many as it has operations. A message that is lost is not sent again, and nothing is
+//! kept on disk: after a restart a client begins with ping 1, and a server counts from 0.
+//!
+//! It is the node to read first, and the one that most tests run, since each of its states is a
+//! single number. `specs/Echo.antt` has the whole protocol as functions of state and input;
+//! [`Echo`] is proved to follow them. Its record of a reaction is the number before it.
 #![tactic(auto)]
 
 mod echo;

@@ -1,2 +1,3 @@
 pub mod ServerSteps
 pub mod FirstWaiting
+mod Slots

@@ -4,14 +4,14 @@ ghost use Rattle.sim_hosts.specs.Hosts.{servers_from, is_other, not_in, to_all};
 use crate::HostSet;
 use sim_node::{Effects, Setup};
 
-/// Whether the host is a server other than server 0.
+/// Whether the host is a server, but not server 0 (the primary or the coordinator).
 pub fn is_other(setup: &Setup, host: u16) -> bool
     ensures { result ≡ is_other setup.now host }
 {
     1 <= host && host < setup.servers
 }
 
-/// A message to each server from one on.
+/// Sends a message to each server from `first` on.
 pub fn send_to_all<M: Copy + Drop>(first: u16, setup: &Setup, msg: M, effects: &mut Effects<M>)
     requires room { length effects.old.list + setup.now.servers ≤ 40 }
     requires hosts { setup.now.servers ≤ effects.old.hosts }
@@ -23,7 +23,7 @@ pub fn send_to_all<M: Copy + Drop>(first: u16, setup: &Setup, msg: M, effects: &
     }
 }
 
-/// A message to each server from one on that is not in the set.
+/// Sends a message to each server from `first` on that is not in the set.
 pub fn send_to_missing<M: Copy + Drop>(
     first: u16,
     setup: &Setup,

@@ -42,7 +42,7 @@ impl HostSet {
         self.bits.count_ones()
     }
 
-    /// Whether all servers from one on are in the set.
+    /// Whether all servers from `first` on are in the set.
     pub fn has_servers_from(self, first: u16, setup: &Setup) -> bool
         requires { setup.now.servers ≤ 32 }
         ensures { result ≡ all_in (servers_from first setup.now) self }

@@ -1,7 +1,18 @@
-ghost use Rattle.std.specs.Prelude.{◌≡◌, ◌<◌, ◌≤◌, IfSome};
-ghost use Rattle.sim_hosts.specs.Waiting.{lowest_waiting};
+ghost use Rattle.std.specs.Prelude.{◌≡◌, ◌<◌, ◌≤◌, IfSome, slice_set};
+ghost use Rattle.sim_hosts.specs.Waiting.{lowest_waiting, restored, IsPlacedSlot};
 
 use sim_node::Setup;
+
+/// What a host waited with before a reaction: the record by which its waiting is taken back.
+#[derive(Clone, Copy, Debug, PartialEq, Eq)]
+pub enum SlotBefore<A> {
+    /// The same: the reaction has changed nobody's waiting.
+    Same,
+    /// This host did not wait.
+    Empty(u16),
+    /// This host waited with this.
+    Waited(u16, A),
+}
 
 /// The lowest host that waits, with what it waits with.
 pub fn lowest_waiting<A: Copy>(setup: &Setup, waiting: &[Option<A>; 32]) -> Option<(u16, A)>
@@ -15,4 +26,35 @@ pub fn lowest_waiting<A: Copy>(setup: &Setup, waiting: &[Option<A>; 32]) -> Opti
         }
     }
     None
+}
+
+/// Lets a host wait with this from now on. Returns what it waited with.
+pub fn wait_with<A: Copy>(
+    waiting: &mut [Option<A>; 32],
+    host: u16,
+    what: Option<A>,
+) -> SlotBefore<A>
+    requires { host < 32 }
+    ensures after { waiting.new ≡ slice_set waiting.old host what }
+    ensures back { restored result waiting.new ≡ waiting.old }
+    ensures placed { IsPlacedSlot result }
+{
+    let before = waiting[host as usize];
+    waiting[host as usize] = what;
+    match before {
+        None => SlotBefore::Empty(host),
+        Some(before) => SlotBefore::Waited(host, before),
+    }
+}
+
+/// Lets the host of a slot wait again with what it waited with.
+pub fn put_back<A: Copy>(waiting: &mut [Option<A>; 32], slot: SlotBefore<A>)
+    requires { IsPlacedSlot slot }
+    ensures { waiting.new ≡ restored slot waiting.old }
+{
+    match slot {
+        SlotBefore::Same => {}
+        SlotBefore::Empty(host) => waiting[host as usize] = None,
+        SlotBefore::Waited(host, what) => waiting[host as usize] = Some(what),
+    }
 }

@@ -1,5 +1,5 @@
 -- The slots of directions, and what they stand for.
-use Rattle.std.proofs.Common.{◌≡◌, ◌==◌, ◌⊎◌, ℕ, zero, suc, ◌+◌, ◌<◌, ◌≤◌, List, [], ◌∷◌, ◌++◌, cond, inl, inr, refl, sym, ap, ◌∙◌, subst, max, take, get_or, set, length, map, replicate, arith}
+use Rattle.std.proofs.Common.{◌≡◌, ◌==◌, ◌⊎◌, ℕ, zero, suc, ◌+◌, ◌<◌, ◌≤◌, List, [], ◌∷◌, ◌++◌, cond, inl, inr, refl, sym, ap, ◌∙◌, subst, max, take, get_or, set, length, map, replicate, vec_capacity, arith}
 use Rattle.std.proofs.lemmas.Bool.Decides.{nat_tests}
 use Rattle.std.proofs.Math.ListN.{length-set}
 use Rattle.std.proofs.Math.Seq.{map-set_same}
@@ -125,8 +125,9 @@ pub record IsCopy {M : Type 0} (t u : Table M) : Type 0 where
 
 module _ {M : Type 0} where
   -- a table of the same slots and directions
-  same_parts : (t u : Table M) → u.slots.items ≡ t.slots.items → u.touched.items ≡ t.touched.items → u.past ≡ t.past → IsSound t → IsCopy t u
-  same_parts t u slots touched past sound = record {
+  same_parts : (t u : Table M) → u.slots.items ≡ t.slots.items → u.touched.items ≡ t.touched.items → 1024 < vec_capacity u.touched → u.past ≡ t.past
+      → IsSound t → IsCopy t u
+  same_parts t u slots touched room past sound = record {
     same =
         ap (λ (ss : List ℕ). map (λ s. get_or u.touched.items s open_link) ss) slots
         ∙ ap (λ (ls : List (Link M)). map (λ s. get_or ls s open_link) t.slots.items) touched;
@@ -134,6 +135,7 @@ module _ {M : Type 0} where
       whole = ap (λ (ss : List ℕ). length ss) slots ∙ sound.whole;
       slots = rw (slots, touched) sound.slots;
       first = ap (λ (ls : List (Link M)). get_or ls 0 open_link) touched ∙ sound.first;
+      room = room;
       end = rw past sound.end;
       rest = λ place from. ap (λ (ss : List ℕ). get_or ss place 0) slots ∙ sound.rest place (rw past at from);
     };
@@ -156,22 +158,25 @@ module _ {M : Type 0} where
       ∙ ap (λ (ls : List (Link M)). map (λ s. get_or ls s open_link) (replicate 1024 0)) touched_are ∙ same_map (λ s. get_or (open_link ∷ []) s open_link) 1024 0
 
   -- at first all directions are in slot 0
-  pub sound_new : (t : Table M) → t.slots.items ≡ replicate 1024 0 → t.touched.items ≡ open_link ∷ [] → t.past ≡ 0 → IsSound t
-  sound_new t slots touched past = record {
+  pub sound_new : (t : Table M) → t.slots.items ≡ replicate 1024 0 → t.touched.items ≡ open_link ∷ [] → 1024 < vec_capacity t.touched → t.past ≡ 0 → IsSound t
+  sound_new t slots touched room past = record {
     whole = ap (λ (ss : List ℕ). length ss) slots;
     slots = rw (slots, touched) (slots_new 1024);
     first = ap (λ (ls : List (Link M)). get_or ls 0 open_link) touched;
+    room = room;
     end = omega arith;
     rest = λ place lt. ap (λ (ss : List ℕ). get_or ss place 0) slots ∙ get_or-same 1024 place 0;
   }
 
   -- the table after a place got the next slot
   pub sound_taken : (t u : Table M) (place n : ℕ) → IsSound t → place < 1024 → slot_at place t ≡ 0 → n ≡ length t.touched.items
-      → u.slots.items ≡ set t.slots.items place n → u.touched.items ≡ t.touched.items ++ open_link ∷ [] → u.past ≡ max t.past (place + 1) → IsSound u
-  sound_taken t u place n sound inside none count slots touched past = record {
+      → u.slots.items ≡ set t.slots.items place n → u.touched.items ≡ t.touched.items ++ open_link ∷ []
+      → vec_capacity u.touched ≡ vec_capacity t.touched → u.past ≡ max t.past (place + 1) → IsSound u
+  sound_taken t u place n sound inside none count slots touched room past = record {
     whole = ap (λ (ss : List ℕ). length ss) slots ∙ length-set t.slots.items place n ∙ sound.whole;
     slots = rw (slots, long) (slots_taken t.slots.items place n (rw (← count) at sound.slots) (omega (arith, inside, sound.whole)) none);
     first = ap (λ (ls : List (Link M)). get_or ls 0 open_link) touched ∙ get_or-one_more t.touched.items 0 open_link ∙ sound.first;
+    room = omega (arith, sound.room, room);
     end = omega (arith, past, inside, sound.end);
     rest = λ q from. ap (λ (ss : List ℕ). get_or ss q 0) slots ∙ get_or-set_other t.slots.items place q n 0 (λ at. absurd (omega (arith, past, from, at)))
         ∙ sound.rest q (omega (arith, past, from));
@@ -182,8 +187,8 @@ module _ {M : Type 0} where
 
   -- the copy of a table of which a view shows the slots, and another the directions
   pub is_copy : (t u : Table M) (slots : List ℕ) (all : List (Link M)) (i : ℕ) → u.slots.items ≡ slots → slots ≡ t.slots.items
-      → u.touched.items ≡ take i all → length all ≤ i → all ≡ t.touched.items → u.past ≡ t.past → IsSound t → IsCopy t u
-  is_copy t u slots all i from is taken past touched end sound = same_parts t u (from ∙ is) (taken ∙ take_all i all past ∙ touched) end sound
+      → u.touched.items ≡ take i all → length all ≤ i → all ≡ t.touched.items → 1024 < vec_capacity u.touched → u.past ≡ t.past → IsSound t → IsCopy t u
+  is_copy t u slots all i from is taken past touched room end sound = same_parts t u (from ∙ is) (taken ∙ take_all i all past ∙ touched) room end sound
 
   -- a direction that holds a message has a slot of its own
   own_of_held : (t : Table M) (links : Links M) (place i : ℕ) → IsSound t → links_in t ≡ links → place < 1024 → place ≡ i
@@ -219,6 +224,7 @@ module _ {M : Type 0} where
     whole = sound.whole;
     slots = subst (AreSlots t.slots.items) (sym (length-set t.touched.items slot x)) sound.slots;
     first = get_or-set_other t.touched.items slot 0 x open_link (λ same. absurd (omega arith)) ∙ sound.first;
+    room = sound.room;
     end = sound.end;
     rest = sound.rest;
   }

@@ -1,5 +1,5 @@
 -- The slots of directions: what a table of them stands for, and what is true of it.
-use Rattle.std.specs.Prelude.{◌≡◌, ◌==◌, ℕ, ◌+◌, ◌<◌, ◌≤◌, List, length, map, count_by, slice_index_or}
+use Rattle.std.specs.Prelude.{◌≡◌, ◌==◌, ℕ, ◌+◌, ◌<◌, ◌≤◌, List, length, map, count_by, slice_index_or, vec_capacity}
 use Rattle.std.specs.List.{All}
 use Rattle.sim_links.specs.Link.{Links, open_link}
 use Rattle.sim_links.specs.declared.table.Table.{Table}
@@ -20,10 +20,11 @@ pub record AreSlots (slots : List ℕ) (count : ℕ) : Type 0 where
       → slice_index_or slots p 0 ≡ slice_index_or slots q 0 → p ≡ q
   pub free : count + count_by (λ slot. slot == 0) slots ≡ length slots + 1
 
--- The slots are those of the touched directions, the first of which is open. From a place on none was touched.
+-- The slots are those of the touched directions, the first of which is open. There is room for all. From a place on none was touched.
 pub record IsSound {M : Type 0} (t : Table M) : Type 0 where
   pub whole : length t.slots.items ≡ 1024
   pub slots : AreSlots t.slots.items (length t.touched.items)
   pub first : slice_index_or t.touched.items 0 open_link ≡ open_link
+  pub room : 1024 < vec_capacity t.touched
   pub end : t.past ≤ 1024
   pub rest : (place : ℕ) → t.past ≤ place → slot_at place t ≡ 0

@@ -39,7 +39,7 @@ impl LinkState {
     }
 }
 
-// The messages in the same order, each as `each` copies it.
+// A copy of the messages, in the same order.
 fn copied<M: Drop, F: Fn(&M) -> Result<M, NoMemory>>(
     alloc: Global,
     messages: &[M],
@@ -93,11 +93,12 @@ impl<M> Direction<M> {
         }
     }
 
-    /// Changes it, and answers the messages that leave it.
-    pub fn change(&mut self, alloc: Global, change: Change) -> Vec<M>
+    /// Changes it, and returns the messages that leave it.
+    pub fn change(&mut self, change: Change) -> Vec<M>
         ensures after { self.new ≡ changed change self.old }
         ensures left { result.items ≡ let_go change self.old }
     {
+        let alloc = *self.held.allocator();
         self.state = self.state.after(change);
         match self.state {
             LinkState::Held => Vec::new(alloc),

@@ -1,4 +1,24 @@
-//! The links between hosts: for each direction a state and the messages that it holds, and how messages go over it.
+//! The links between hosts, and how messages go over them.
+//!
+//! A link has two directions, and each direction is by itself. It is open (`Through`), held
+//! (messages wait in it), or cut (messages are dropped). [`Links::change`] applies one of four
+//! changes and returns the messages that leave the direction, with a record; [`Links::undo`] takes
+//! the change back, given both. `specs/Link.antt` has the table of changes. [`Ways`] says for each
+//! direction how long a message over an open link takes and how many messages are lost.
+//!
+//! # How it is built
+//!
+//! Contracts see the list of all 1,024 directions between 32 hosts. Most of them are never changed,
+//! so the table stores only those that were:
+//!
+//! - Each direction has a slot of two bytes. Slot 0 is one open direction that stands for all that
+//!   were never changed; a changed direction has a slot of its own. A copy and a drop cost what the
+//!   changed directions cost, and a look at a state is two loads.
+//! - The vector has room for all directions from the start (32 KB that are not touched before they
+//!   are needed). So `change` and `undo` take no memory and cannot fail, and a fault can always be
+//!   taken back. Only `keep` takes memory, for the message.
+//! - [`PackedLinks`] keeps links for later, as in a checkpoint: the directions that are not open,
+//!   with their places, and no table.
 #![tactic(auto)]
 
 mod direction;
@@ -12,9 +32,6 @@ pub use links::Links;
 pub use packed::PackedLinks;
 pub use std::alloc::AllocError as NoMemory;
 pub use ways::Ways;
-
-/// The most hosts that a table of directions has.
-pub const MOST_HOSTS: u16 = 32;
 
 /// The state of one direction. `Through` is the state called open.
 #[derive(Clone, Copy, Debug, PartialEq, Eq)]
@@ -33,8 +50,8 @@ pub enum Change {
     Repair,
 }
 
-/// How messages go over an open link: the least and the greatest latency in milliseconds (0 to 60,000 ms), and how many
-/// messages in a thousand are lost (0 to 1,000).
+/// How messages go over an open link: the least and the greatest latency in milliseconds (0 to
+/// 60,000 ms), and how many messages in a thousand are lost (0 to 1,000).
 #[derive(Clone, Copy, Debug, PartialEq, Eq)]
 pub struct Way {
     pub latency_min: u32,
@@ -42,7 +59,7 @@ pub struct Way {
     pub loss: u32,
 }
 
-/// The record of a change of the direction from a to b: the change, and the state in which the direction was.
+/// The record of a change of the direction from a to b: the change, and the state before it.
 #[derive(Clone, Copy, Debug, PartialEq, Eq)]
 pub struct LinkUndo {
     pub a: u16,

@@ -43,8 +43,15 @@ impl<M> Links<M> {
         M: Drop,
         ensures { IfOk result (λ links. links ≡ all_open) }
     {
-        let table = Table::new(alloc, 0)?;
+        let table = Table::new(alloc)?;
         Ok(Links { table })
+    }
+
+    /// What is always true of links: there is a direction from each of 32 hosts to each.
+    pub fn laws(&self)
+        ensures { length self.now ≡ 1024 }
+    {
+        let _table = &self.table;
     }
 
     /// The state of the direction from host a to host b, both below 32.
@@ -58,8 +65,8 @@ impl<M> Links<M> {
         direction.state()
     }
 
-    /// How many messages the direction from host a to host b holds, both hosts below 32. The greatest number of 32 bits
-    /// stands for more than that.
+    /// How many messages the direction from host a to host b holds, both hosts below 32. Returns
+    /// `u32::MAX` if there are more.
     pub fn held(&self, a: u16, b: u16) -> u32
         requires from { a < 32 }
         requires to { b < 32 }
@@ -69,59 +76,50 @@ impl<M> Links<M> {
         direction.count().min(u32::MAX as usize) as u32
     }
 
-    /// Changes the direction from host a to host b, both below 32. Answers the record of the change, and the messages that
-    /// leave the direction: those that a release gives out, or a cut drops, in the order in which they were sent.
-    /// Memory is wanted at most where the direction was as at first; after `NoMemory` the links are unchanged.
-    pub fn change(
-        &mut self,
-        alloc: Global,
-        a: u16,
-        b: u16,
-        change: Change,
-    ) -> Result<(LinkUndo, Vec<M>), NoMemory>
-    where
-        M: Drop,
+    /// Changes the direction from host a to host b, both below 32. Returns the record of the change
+    /// and the messages that leave the direction, which a release delivers and a cut drops, in the
+    /// order in which they were sent. Takes no memory.
+    pub fn change(&mut self, a: u16, b: u16, change: Change) -> (LinkUndo, Vec<M>)
         requires from { a < 32 }
         requires to { b < 32 }
-        ensures after { OnOk result (self.new ≡ with_link a b (changed change (link a b self.old)) self.old) }
-        ensures left { IfOk result (λ r. r.1.items ≡ let_go change (link a b self.old)) }
+        ensures after { self.new ≡ with_link a b (changed change (link a b self.old)) self.old }
+        ensures left { result.1.items ≡ let_go change (link a b self.old) }
         ensures whole { length self.old ≡ 1024 }
-        ensures undo { IfOk result (λ r. r.0 ≡ record { a = a; b = b; change = change; was = (link a b self.old).state }) }
-        ensures err { OnErr result (self.new ≡ self.old) }
+        ensures undo { result.0 ≡ record { a = a; b = b; change = change; was = (link a b self.old).state } }
 
         // What an undo of it asks for, and that it leads back.
-        ensures fits { IfOk result (λ r. fits r.0 (link a b self.new)) }
-        ensures none_left { IfOk result (λ r. kept_in (state_after r.0.change r.0.was) r.1.items ≡ []) }
-        ensures back { IfOk result (λ r. with_link a b (back r.0 r.1.items (link a b self.new)) self.new ≡ self.old) }
+        ensures fits { fits result.0 (link a b self.new) }
+        ensures none_left { kept_in (state_after result.0.change result.0.was) result.1.items ≡ [] }
+        ensures back { with_link a b (back result.0 result.1.items (link a b self.new)) self.new ≡ self.old }
     {
-        let slot = self.table.touch(place(a, b))?;
+        let slot = self.table.touch(place(a, b));
         let direction = &mut self.table.touched[slot];
         let was = direction.state();
-        let messages = direction.change(alloc, change);
+        let messages = direction.change(change);
         let undo = LinkUndo { a, b, change, was };
-        Ok((undo, messages))
+        (undo, messages)
     }
 
-    /// Takes a change back, given its record and the messages that left the direction by it. The direction is as the change
-    /// left it; a change after which it is held let no message go. After `NoMemory` the links are unchanged and the messages dropped.
-    pub fn undo(&mut self, undo: LinkUndo, messages: Vec<M>) -> Result<(), NoMemory>
+    /// Takes a change back, given its record and the messages that left the direction. The direction
+    /// has to be as the change left it. No message left a direction that is held after the change.
+    /// Takes no memory.
+    pub fn undo(&mut self, undo: LinkUndo, messages: Vec<M>)
     where
         M: Drop,
         requires from { undo.a < 32 }
         requires to { undo.b < 32 }
         requires fits { fits undo (link undo.a undo.b self.old) }
         requires none_left { kept_in (state_after undo.change undo.was) messages.items ≡ [] }
-        ensures ok { OnOk result (self.new ≡ with_link undo.a undo.b (back undo messages.items (link undo.a undo.b self.old)) self.old) }
-        ensures err { OnErr result (self.new ≡ self.old) }
+        ensures { self.new ≡ with_link undo.a undo.b (back undo messages.items (link undo.a undo.b self.old)) self.old }
     {
-        let slot = self.table.touch(place(undo.a, undo.b))?;
+        let slot = self.table.touch(place(undo.a, undo.b));
         let direction = &mut self.table.touched[slot];
         direction.undo(undo, messages);
-        Ok(())
     }
 
-    /// Adds a message to those that the direction from host a to host b holds, as the newest; both hosts are below 32, and the
-    /// direction is held and holds fewer than 4,096. After `NoMemory` the links are unchanged and the message is dropped.
+    /// Adds a message to those that the direction from host a to host b holds, as the newest. Both
+    /// hosts are below 32, and the direction is held and holds fewer than 4,096 messages. After
+    /// `NoMemory` the links are unchanged and the message is dropped.
     pub fn keep(&mut self, a: u16, b: u16, message: M) -> Result<(), NoMemory>
     where
         M: Drop,
@@ -134,13 +132,13 @@ impl<M> Links<M> {
         ensures back { OnOk result (with_link a b (without_newest (link a b self.new)) self.new ≡ self.old) }
         ensures err { OnErr result (self.new ≡ self.old) }
     {
-        let slot = self.table.touch(place(a, b))?;
+        let slot = self.table.touch(place(a, b));
         let direction = &mut self.table.touched[slot];
         direction.keep(message)
     }
 
-    /// Takes the newest message out of those that the direction from host a to host b holds; both hosts are below 32, and it
-    /// holds at least one. Takes no memory.
+    /// Takes out the newest message that the direction from host a to host b holds. Both hosts are
+    /// below 32, and it holds at least one. Takes no memory.
     pub fn unkeep(&mut self, a: u16, b: u16) -> M
         requires from { a < 32 }
         requires to { b < 32 }
@@ -153,7 +151,7 @@ impl<M> Links<M> {
         direction.unkeep()
     }
 
-    /// Equal links. `each` copies a message: it answers an equal one, or `NoMemory`, which is then the answer.
+    /// A copy. `each` copies a message; if it fails, so does the call.
     pub fn copy<F: Fn(&M) -> Result<M, NoMemory>>(
         &self,
         alloc: Global,

@@ -1,4 +1,4 @@
-//! Links that are kept for later.
+//! Links that are kept for later, as in a checkpoint.
 ghost use Rattle.std.specs.Prelude.{◌≡◌, ◌<◌, slice_index_or, slice_set, IfOk, OnOk};
 ghost use Rattle.std.specs.Fn.{FnReturnsAt};
 ghost use Rattle.sim_links.specs.Link.{open_link};
@@ -11,8 +11,8 @@ use crate::table::Table;
 use std::alloc::Global;
 use std::marker::Model;
 
-/// Links that are kept for later, in less memory: the directions that are not open, and none where all are. Contracts see the
-/// links.
+/// Links that are kept for later, in less memory: only the directions that are not open. Contracts
+/// see the links.
 #[derive(Drop)]
 pub struct PackedLinks<M> {
     kept: Vec<Kept<M>>,
@@ -28,8 +28,7 @@ impl<M> Model for PackedLinks<M> {
 }
 
 impl<M> Links<M> {
-    /// Equal links that are kept for later. `each` copies a message: it answers an equal one, or `NoMemory`, which is then the
-    /// answer.
+    /// A copy that is kept for later. `each` copies a message; if it fails, so does the call.
     pub fn pack<F: Fn(&M) -> Result<M, NoMemory>>(
         &self,
         alloc: Global,
@@ -78,7 +77,7 @@ impl<M> PackedLinks<M> {
         Ok(())
     }
 
-    /// Equal links. `each` copies a message: it answers an equal one, or `NoMemory`, which is then the answer.
+    /// A copy to be used. `each` copies a message; if it fails, so does the call.
     pub fn open<F: Fn(&M) -> Result<M, NoMemory>>(
         &self,
         alloc: Global,
@@ -90,10 +89,10 @@ impl<M> PackedLinks<M> {
         requires equal { (m : M) (r : _) → FnReturnsAt F.Fn each m r → IfOk r (λ copy. copy ≡ m) }
         ensures { IfOk result (λ links. links ≡ self.now) }
     {
-        let mut table = Table::new(alloc, self.kept.len())?;
+        let mut table = Table::new(alloc)?;
         for kept in &self.kept {
             let copy = kept.direction.copy(alloc, &each)?;
-            table.put(kept.place as usize, copy)?;
+            table.put(kept.place as usize, copy);
         }
         Ok(Links { table })
     }

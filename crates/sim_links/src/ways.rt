@@ -4,7 +4,7 @@ ghost use Rattle.sim_links.specs.Ways as ways;
 use crate::Way;
 use std::marker::Model;
 
-/// How messages go over each open direction: a fixed table of 32 by 32 ways, which takes no memory beside itself.
+/// How messages go over each open direction: a fixed table of 32 by 32 ways, in place.
 #[derive(Drop)]
 pub struct Ways {
     table: [Way; 1024],

@@ -64,6 +64,13 @@ impl<M> Effects<M> {
         })
     }
 
+    /// What is always true of effects: there are at most 40, and each is within the limits.
+    pub fn laws(&self)
+        ensures { IsLimited self.now }
+    {
+        let _list = &self.list;
+    }
+
     /// How many effects there are: at most 40, and each is within the limits.
     pub fn len(&self) -> usize
         ensures value { result ≡ length self.now.list }

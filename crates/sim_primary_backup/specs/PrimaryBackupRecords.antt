@@ -1,18 +1,16 @@
 -- The records of primary-backup: what a role was before a reaction.
-use Rattle.std.specs.Prelude.{ℕ, ◌<◌, List, Option, None, Some, slice_set, IfSome}
+use Rattle.std.specs.Prelude.{ℕ, ◌<◌, List, Option, slice_set, IfSome}
 use Rattle.sim_node.specs.Node.{NodeRecords}
+use Rattle.sim_hosts.specs.Waiting.{restored, IsPlacedSlot}
 use Rattle.sim_primary_backup.specs.declared.roles.Progress.{Progress}
 use Rattle.sim_primary_backup.specs.declared.roles.Store.{Store}
 use Rattle.sim_primary_backup.specs.declared.roles.Request.{Request}
-use Rattle.sim_primary_backup.specs.declared.roles.Waiter.{Waiter}
 use Rattle.sim_primary_backup.specs.declared.roles.Primary.{Primary}
 use Rattle.sim_primary_backup.specs.declared.roles.Role.{Role}
 use Rattle.sim_primary_backup.specs.declared.roles.Role.TheVariants as role
 use Rattle.sim_primary_backup.specs.declared.roles.State.{State}
 use Rattle.sim_primary_backup.specs.declared.roles.CellBefore.{CellBefore}
 use Rattle.sim_primary_backup.specs.declared.roles.CellBefore.TheVariants as cell
-use Rattle.sim_primary_backup.specs.declared.roles.SlotBefore.{SlotBefore}
-use Rattle.sim_primary_backup.specs.declared.roles.SlotBefore.TheVariants as slot
 use Rattle.sim_primary_backup.specs.declared.roles.Changes.{Changes}
 use Rattle.sim_primary_backup.specs.declared.roles.BackupUndo.{BackupUndo}
 use Rattle.sim_primary_backup.specs.declared.roles.BackupUndo.TheVariants as undo
@@ -33,15 +31,10 @@ IsPlaced hosts (role.Client next) = Unit {0}
 IsPlaced hosts (role.Primary p) = IsPlacedPrimary hosts p.store.progress p.current
 IsPlaced hosts (role.Backup store) = IsPlacedStore store.progress
 
--- a cell has its value again, and a host waits again with what it waited with
+-- a cell has its value again
 abbrev pub restored_cell : CellBefore → List ℕ → List ℕ
 restored_cell cell.Same cells = cells
 restored_cell (cell.Held place val) cells = slice_set cells place val
-
-abbrev pub restored_slot : SlotBefore → List (Option Waiter) → List (Option Waiter)
-restored_slot slot.Same waiting = waiting
-restored_slot (slot.Empty host) waiting = slice_set waiting host None
-restored_slot (slot.Waited host waiter) waiting = slice_set waiting host (Some waiter)
 
 abbrev pub store_before : Progress → CellBefore → Store → Store
 store_before progress before store = record { cells = restored_cell before store.cells; progress = progress }
@@ -50,18 +43,13 @@ abbrev pub primary_before : Progress → Option Request → Changes → Primary 
 primary_before progress current changes p = record {
   store = store_before progress changes.cell p.store;
   current = current;
-  waiting = restored_slot changes.slot p.waiting;
+  waiting = restored changes.slot p.waiting;
 }
 
 -- What has changed is one of the 16 cells, and what one of the 32 hosts waits with.
 abbrev pub IsPlacedCell : CellBefore → Type 0
 IsPlacedCell cell.Same = Unit {0}
 IsPlacedCell (cell.Held place val) = place < 16
-
-abbrev pub IsPlacedSlot : SlotBefore → Type 0
-IsPlacedSlot slot.Same = Unit {0}
-IsPlacedSlot (slot.Empty host) = host < 32
-IsPlacedSlot (slot.Waited host waiter) = host < 32
 
 abbrev pub IsPlacedChanges : Changes → Type 0
 IsPlacedChanges changes = IsPlacedCell changes.cell × IsPlacedSlot changes.slot

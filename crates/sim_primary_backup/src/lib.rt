@@ -18,23 +18,21 @@
 //! - The record of a reaction ([`BackupUndo`]) keeps what that reaction can change: the progress,
 //!   the current put, one cell and one waiting host. It is plain data of fixed size.
 //! - The primary lies in a box, so that a client or a backup does not carry its table of waiting
-//!   hosts. [`BoxedPrimary`] is a type whose value is what the box holds, so that definitions see
+//!   hosts. `sim_hosts::Boxed` is a type whose value is what the box holds, so that definitions see
 //!   no box.
 //! - The hosts in a state (whose put it is, who waits) are below the number of hosts by the node's
 //!   invariant, because `send` asks for it.
 #![tactic(auto)]
 
 mod backup;
-mod boxed;
 mod client;
 mod node;
 mod primary;
 mod roles;
 mod store;
 
-pub use boxed::BoxedPrimary;
 pub use node::PrimaryBackup;
 pub use roles::{
-    BackupMsg, BackupUndo, CellBefore, Changes, Primary, Progress, Request, Role, SlotBefore,
-    State, Store, Waiter,
+    BackupMsg, BackupUndo, CellBefore, Changes, Primary, Progress, Request, Role, State, Store,
+    Waiter,
 };

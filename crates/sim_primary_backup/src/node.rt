@@ -1,4 +1,5 @@
-use crate::{BackupMsg, BackupUndo, BoxedPrimary, Primary, Role, State, Store, client};
+use crate::{BackupMsg, BackupUndo, Primary, Role, State, Store, client};
+use sim_hosts::Boxed;
 use sim_node::{Effects, Input, Meter, NoMemory, Node, Setup};
 use std::alloc::Global;
 use std::marker::{Model, PhantomData};
@@ -54,7 +55,7 @@ impl<T: Meter> Node for PrimaryBackup<T> {
         let role = if me >= setup.servers {
             Role::Client { next: 0 }
         } else if me == 0 {
-            Role::Primary(BoxedPrimary::new(alloc, Primary::at_boot(disk))?)
+            Role::Primary(Boxed::new(alloc, Primary::at_boot(disk))?)
         } else {
             Role::Backup(Store::on(disk))
         };
@@ -130,7 +131,7 @@ impl<T: Meter> Node for PrimaryBackup<T> {
         meter.copied();
         let role = match &self.state.role {
             Role::Client { next } => Role::Client { next: *next },
-            Role::Primary(primary) => Role::Primary(BoxedPrimary::new(alloc, *primary.get())?),
+            Role::Primary(primary) => Role::Primary(Boxed::new(alloc, *primary.get())?),
             Role::Backup(store) => Role::Backup(*store),
         };
         Ok(PrimaryBackup {

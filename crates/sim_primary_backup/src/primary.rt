@@ -1,13 +1,15 @@
 ghost use Rattle.std.specs.Prelude.{ℕ, List, Option, ◌≡◌, ◌+◌, ◌<◌, ◌≤◌, ◌++◌, [], length, Some, IfSome, slice_set};
 ghost use Rattle.sim_node.specs.Node.{IsSetup, IsFrom};
 ghost use Rattle.sim_hosts.specs.Reactions.{asked_for};
+ghost use Rattle.sim_hosts.specs.Waiting.{restored, IsPlacedSlot};
 ghost use Rattle.sim_primary_backup.specs.PrimaryBackup.{primary_at_boot, started, begun, begun_lowest, is_of_another, put_by, fin_of, acknowledged, acked, spread, primary_timer, settled, primary_synced, react_primary};
-ghost use Rattle.sim_primary_backup.specs.PrimaryBackupRecords.{IsPlacedPrimary, IsPlacedCell, IsPlacedSlot, IsPlacedChanges, restored_cell, restored_slot, primary_before};
+ghost use Rattle.sim_primary_backup.specs.PrimaryBackupRecords.{IsPlacedPrimary, IsPlacedCell, IsPlacedChanges, restored_cell, primary_before};
 
-use crate::{
-    BackupMsg, CellBefore, Changes, Primary, Progress, Request, SlotBefore, Store, Waiter,
+use crate::{BackupMsg, CellBefore, Changes, Primary, Progress, Request, Store, Waiter};
+use sim_hosts::{
+    HostSet, SlotBefore, is_other, lowest_waiting, put_back, send_to_all, send_to_missing,
+    wait_with,
 };
-use sim_hosts::{HostSet, is_other, lowest_waiting, send_to_all, send_to_missing};
 use sim_node::{Effects, Input, Setup};
 
 /// How long the primary waits for the backups before it sends again, in milliseconds.
@@ -38,20 +40,6 @@ impl Request {
     {
         if let Some(client) = self.client {
             effects.send(client, BackupMsg::Fin(self.number));
-        }
-    }
-}
-
-impl SlotBefore {
-    /// The host waited with this.
-    fn of(host: u16, waiter: Option<Waiter>) -> SlotBefore
-        requires { host < 32 }
-        ensures slot { IsPlacedSlot result }
-        ensures back { (waiting : List (Option Waiter)) → restored_slot result waiting ≡ slice_set waiting host waiter }
-    {
-        match waiter {
-            None => SlotBefore::Empty(host),
-            Some(waiter) => SlotBefore::Waited(host, waiter),
         }
     }
 }
@@ -119,15 +107,13 @@ impl Primary {
     }
 
     /// A host waits with this from now on; the answer is what it waited with.
-    fn put_waiter(&mut self, host: u16, waiter: Option<Waiter>) -> SlotBefore
+    fn put_waiter(&mut self, host: u16, waiter: Option<Waiter>) -> SlotBefore<Waiter>
         requires { host < 32 }
         ensures state { self.new ≡ record self.old { waiting = slice_set self.old.waiting host waiter } }
-        ensures back { restored_slot result self.new.waiting ≡ self.old.waiting }
+        ensures back { restored result self.new.waiting ≡ self.old.waiting }
         ensures slot { IsPlacedSlot result }
     {
-        let before = SlotBefore::of(host, self.waiting[host as usize]);
-        self.waiting[host as usize] = waiter;
-        before
+        wait_with(&mut self.waiting, host, waiter)
     }
 
     /// Begins the put of the lowest host that waits, or rests.
@@ -333,10 +319,6 @@ impl Primary {
     {
         self.store.take_back(progress, changes.cell);
         self.current = current;
-        match changes.slot {
-            SlotBefore::Same => {}
-            SlotBefore::Empty(host) => self.waiting[host as usize] = None,
-            SlotBefore::Waited(host, waiter) => self.waiting[host as usize] = Some(waiter),
-        }
+        put_back(&mut self.waiting, changes.slot);
     }
 }

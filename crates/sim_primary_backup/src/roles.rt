@@ -1,5 +1,4 @@
-use crate::BoxedPrimary;
-use sim_hosts::HostSet;
+use sim_hosts::{Boxed, HostSet, SlotBefore};
 use sim_node::Setup;
 
 /// A message. A put of a client is counted from 1 by the client, and by the primary when it applies it.
@@ -62,7 +61,7 @@ pub struct Primary {
 pub enum Role {
     /// A client waits for the end of this put, counted from 1.
     Client { next: u64 },
-    Primary(BoxedPrimary),
+    Primary(Boxed<Primary>),
     Backup(Store),
 }
 
@@ -83,22 +82,11 @@ pub enum CellBefore {
     Held(u8, u64),
 }
 
-/// What a host waited with before a reaction.
-#[derive(Clone, Copy, Debug, PartialEq, Eq)]
-pub enum SlotBefore {
-    /// The same: the reaction has changed nobody's waiting.
-    Same,
-    /// This host did not wait.
-    Empty(u16),
-    /// This host waited with this put.
-    Waited(u16, Waiter),
-}
-
 /// What a cell held and what a host waited with before a reaction of the primary.
 #[derive(Clone, Copy, Debug, PartialEq, Eq)]
 pub struct Changes {
     pub cell: CellBefore,
-    pub slot: SlotBefore,
+    pub slot: SlotBefore<Waiter>,
 }
 
 /// The record of a reaction: what the host was before it, as far as that may have changed.

@@ -1,6 +1,32 @@
-//! The occurrences that are pending: a set of items, each with a due and a serial, and the next serial.
+//! What is pending: a set of items, each with a due time (ms), a serial and a body.
 //!
-//! Every change can be taken back: `uninsert` takes back an `insert`, and `put_back` a `take` or a `take_first`.
+//! [`Queue::insert`] gives an item the next serial. [`Queue::take_first`] takes the item with the
+//! least due and, among equal dues, the least serial. Every change can be taken back: `uninsert`
+//! takes back an `insert`, and `put_back` a `take` or a `take_first`. Contracts see a list of items
+//! in the order of their serials and the next serial (`specs/Pending.antt`).
+//!
+//! # How it is built
+//!
+//! - `slots`: the items stand in a vector in any order, and each serial from the first one on has a
+//!   slot of four bytes with the index of its item. So an item is found by its serial in two loads,
+//!   and a copy copies what is pending and little else. A taken item is replaced by the last one.
+//! - `lists` and `wheel`: keys (a due and a serial) stand in 256 linked lists, one for all dues
+//!   that are equal modulo 256, each in the order of its keys. With delays of less than 256 ms a
+//!   list has keys of one due, so a new key goes to the end of its list. The wheel knows the least
+//!   due; `marks` has a bit for each list, by which the next due is found in a few steps.
+//! - `agenda`: the wheel, and a heap for the keys that no list accepts: those whose list has a
+//!   later due with an earlier serial before their place. That happens only if dues lie at least
+//!   256 ms apart.
+//! - `store`: slots and agenda together. A heap may keep the key of an item that is gone; such dead
+//!   keys are dropped when they come to the front.
+//! - `packed`: a queue that is kept for later has only its items; slots and keys are made again.
+//!
+//! A heap alone was measured too. The wheel saves a seventh of all instructions of a run, and most
+//! of the branches that a processor cannot predict. If all dues lie far apart, a heap alone would
+//! be faster.
+//!
+//! Only `insert`, `put_back`, `copy` and `pack` take memory. Room for what a removal notes is made
+//! when the item comes in.
 #![tactic(auto)]
 
 mod agenda;
@@ -60,7 +86,15 @@ impl<B> Queue<B> {
         }
     }
 
-    /// Adds an item that is due at `due` (ms), and answers its serial, which is the next one.
+    /// What is always true of a queue: its items are listed by rising serials, which differ and are
+    /// below the next serial.
+    pub fn laws(&self)
+        ensures { IsQueue self.now }
+    {
+        let _store = &self.store;
+    }
+
+    /// Adds an item that is due at `due` (ms). Returns its serial, which was the next one.
     ///
     /// The next serial has to be below 2^40. After `NoMemory` the queue is unchanged, and the body is dropped.
     #[inline(always)]
@@ -77,14 +111,15 @@ impl<B> Queue<B> {
         self.store.add(due, body)
     }
 
-    /// The due (ms), the serial and the body of the first item: the one with the least due, and of these the least serial.
+    /// The due (ms), the serial and the body of the first item: the one with the least due and, among
+    /// equal dues, the least serial.
     pub fn first(&self) -> Option<(u64, u64, &B)>
         ensures { option_map (λ r. item_of r.1 (r.0, r.2.now)) result ≡ first self.now.items }
     {
         self.store.first()
     }
 
-    /// The least serial, of at least `serial`, of an item whose body the test takes.
+    /// The least serial, not below `serial`, of an item whose body passes the test.
     pub fn next_that<F: Fn(&B) -> bool>(&self, serial: u64, test: F) -> Option<u64>
         requires { F.IsAlwaysCallable test }
         ensures { (p : B → Bool) → Decides F.Fn test p → result ≡ next_taken serial p self.now.items }
@@ -107,7 +142,7 @@ impl<B> Queue<B> {
         self.store.count()
     }
 
-    /// Takes the first item out. It can be put back.
+    /// Takes the first item out. It can be put back. It takes no memory.
     #[inline(always)]
     pub fn take_first(&mut self) -> Option<Item<B>>
         ensures item { result ≡ first self.old.items }
@@ -120,7 +155,7 @@ impl<B> Queue<B> {
         self.store.remove_first()
     }
 
-    /// Takes out the item of a serial, if it is pending. It can be put back.
+    /// Takes out the item of a serial, if it is pending. It can be put back. It takes no memory.
     #[inline(always)]
     pub fn take(&mut self, serial: u64) -> Option<Item<B>>
         ensures item { result ≡ with_serial serial self.old.items }
@@ -134,7 +169,8 @@ impl<B> Queue<B> {
 
     /// Puts an item back that was taken. The next serial stays.
     ///
-    /// The item's serial has to be below the next one, and not pending. After `NoMemory` the queue is unchanged, and the item is dropped.
+    /// The item's serial has to be below the next one, and not pending. After `NoMemory` the queue is
+    /// unchanged, and the item is dropped.
     #[inline(always)]
     pub fn put_back(&mut self, item: Item<B>) -> Result<(), NoMemory>
     where
@@ -149,7 +185,7 @@ impl<B> Queue<B> {
 
     /// Takes the newest item out, as if it had never been added: the next serial is lowered by one.
     ///
-    /// The item with the serial below the next one has to be pending.
+    /// The item with the serial below the next one has to be pending. It takes no memory.
     #[inline(always)]
     pub fn uninsert(&mut self) -> Item<B>
         requires { HasNewest self.old }
@@ -159,9 +195,10 @@ impl<B> Queue<B> {
         self.store.remove_last()
     }
 
-    /// An equal queue, whose bodies are those that `each` answers.
+    /// A copy. `each` copies a body.
     ///
-    /// `each` has to answer an equal body or `NoMemory`. After `NoMemory` the bodies copied so far are dropped.
+    /// `each` returns an equal body or `NoMemory`. After `NoMemory` the bodies copied so far are
+    /// dropped.
     pub fn copy<F: Fn(&B) -> Result<B, NoMemory>>(
         &self,
         alloc: Global,
@@ -178,9 +215,10 @@ impl<B> Queue<B> {
         })
     }
 
-    /// An equal queue that is kept for later, whose bodies are those that `each` answers.
+    /// A copy that is kept for later. `each` copies a body.
     ///
-    /// `each` has to answer an equal body or `NoMemory`. After `NoMemory` the bodies copied so far are dropped.
+    /// `each` returns an equal body or `NoMemory`. After `NoMemory` the bodies copied so far are
+    /// dropped.
     pub fn pack<F: Fn(&B) -> Result<B, NoMemory>>(
         &self,
         alloc: Global,

@@ -34,7 +34,7 @@ pub(crate) struct Lists {
     pub(crate) ends: Vec<Ends>,
     // The dues of all nodes are marked.
     pub(crate) marks: Marks,
-    // Places that are most likely free.
+    // Places that are most likely free. There is room to note the place of each node, so that taking a key out takes no memory.
     pub(crate) free: Vec<u32>,
     // How many nodes there are.
     pub(crate) count: usize,
@@ -335,10 +335,10 @@ impl Lists {
         ensures count { IfOk result (λ copied. copied.count ≡ self.now.count) }
     {
         Ok(Lists {
-            nodes: copied(&self.nodes)?,
-            ends: copied(&self.ends)?,
+            nodes: copied(&self.nodes, self.nodes.len())?,
+            ends: copied(&self.ends, self.ends.len())?,
             marks: self.marks,
-            free: copied(&self.free)?,
+            free: copied(&self.free, self.nodes.len())?,
             count: self.count,
         })
     }
@@ -392,35 +392,41 @@ impl Lists {
         ensures keys { keys_of self.new.nodes.items ≡ keys_of self.old.nodes.items }
     {
         let place = self.nodes.len();
-        if place >= u32::MAX as usize || self.nodes.push(Spot::free()).is_err() {
+        if place >= u32::MAX as usize || make_room(&mut self.nodes, &mut self.free).is_err() {
+            return None;
+        }
+        if self.nodes.push(Spot::free()).is_err() {
             return None;
         }
         Some(place as u32)
     }
 }
 
-// Notes a place that is free again, where there is room.
+// Makes room for one more node, and to note the place of each node once it is free.
+fn make_room(nodes: &mut Vec<Spot>, free: &mut Vec<u32>) -> Result<(), NoMemory>
+    ensures { nodes.new.items ≡ nodes.old.items }
+{
+    nodes.reserve(1)?;
+    if free.capacity() < nodes.capacity() {
+        free.reserve(nodes.capacity())?;
+    }
+    Ok(())
+}
+
+// Notes a place that is free again. `make_room` made the room for it; without room the place would not be used again.
 #[inline(always)]
 fn note_free(free: &mut Vec<u32>, place: u32) {
     if free.len() < free.capacity() {
         free.push_reserved(place);
-    } else {
-        note_in_more_room(free, place);
     }
 }
 
-// Notes a place that is free again, where there is memory. Where there is none, it isn't used again.
-#[cold]
-#[inline(never)]
-fn note_in_more_room(free: &mut Vec<u32>, place: u32) {
-    let _ = free.push(place);
-}
-
-// Equal elements, in one piece.
-fn copied<T: Copy>(elements: &Vec<T>) -> Result<Vec<T>, NoMemory>
+// Equal elements, in one piece of memory with at least this room.
+fn copied<T: Copy>(elements: &Vec<T>, room: usize) -> Result<Vec<T>, NoMemory>
     ensures { IfOk result (λ copied. copied.items ≡ elements.now.items) }
 {
-    let mut copied = Vec::with_capacity(*elements.allocator(), elements.len())?;
+    let room = room.max(elements.len());
+    let mut copied = Vec::with_capacity(*elements.allocator(), room)?;
     copied.extend_from_slice(elements)?;
     Ok(copied)
 }

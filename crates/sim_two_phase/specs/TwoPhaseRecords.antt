@@ -1,6 +1,7 @@
 -- The records of two-phase commit: what a role was before a reaction.
 use Rattle.std.specs.Prelude.{ℕ, ◌<◌, List, Option, None, Some, slice_set, IfSome}
 use Rattle.sim_node.specs.Node.{NodeRecords}
+use Rattle.sim_hosts.specs.Waiting.{restored, IsPlacedSlot}
 use Rattle.sim_two_phase.specs.declared.roles.Phase.{Phase}
 use Rattle.sim_two_phase.specs.declared.roles.Phase.TheVariants as phase
 use Rattle.sim_two_phase.specs.declared.roles.Conduct.{Conduct}
@@ -8,8 +9,6 @@ use Rattle.sim_two_phase.specs.declared.roles.Coordinator.{Coordinator}
 use Rattle.sim_two_phase.specs.declared.roles.Role.{Role}
 use Rattle.sim_two_phase.specs.declared.roles.Role.TheVariants as role
 use Rattle.sim_two_phase.specs.declared.roles.State.{State}
-use Rattle.sim_two_phase.specs.declared.roles.SlotBefore.{SlotBefore}
-use Rattle.sim_two_phase.specs.declared.roles.SlotBefore.TheVariants as slot
 use Rattle.sim_two_phase.specs.declared.roles.Slots.{Slots}
 use Rattle.sim_two_phase.specs.declared.roles.CommitUndo.{CommitUndo}
 use Rattle.sim_two_phase.specs.declared.roles.CommitUndo.TheVariants as undo
@@ -27,21 +26,10 @@ abbrev pub IsPlaced : ℕ → Role → Type 0
 IsPlaced hosts (role.Coordinator c) = IsPlacedConduct hosts c.conduct
 IsPlaced hosts _ = Unit {0}
 
--- what a host waited with stands in its slot again
-abbrev pub restored : SlotBefore → List (Option ℕ) → List (Option ℕ)
-restored slot.Same waiting = waiting
-restored (slot.Empty host) waiting = slice_set waiting host None
-restored (slot.Waited host number) waiting = slice_set waiting host (Some number)
-
 abbrev pub coordinator_before : Conduct → Slots → Coordinator → Coordinator
 coordinator_before conduct slots c = record { conduct = conduct; waiting = restored slots.asked (restored slots.begun c.waiting) }
 
--- A slot names one of the 32 hosts.
-abbrev pub IsPlacedSlot : SlotBefore → Type 0
-IsPlacedSlot slot.Same = Unit {0}
-IsPlacedSlot (slot.Empty host) = host < 32
-IsPlacedSlot (slot.Waited host number) = host < 32
-
+-- both slots name one of the 32 hosts
 abbrev pub IsPlacedSlots : Slots → Type 0
 IsPlacedSlots slots = IsPlacedSlot slots.asked × IsPlacedSlot slots.begun
 

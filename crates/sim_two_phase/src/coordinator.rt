@@ -1,13 +1,16 @@
 ghost use Rattle.std.specs.Prelude.{ℕ, List, Option, ◌≡◌, ◌<◌, [], slice_set};
 ghost use Rattle.sim_node.specs.Node.{IsSetup, IsFrom};
 ghost use Rattle.sim_hosts.specs.Reactions.{asked_for};
+ghost use Rattle.sim_hosts.specs.Waiting.{restored, IsPlacedSlot};
 ghost use Rattle.sim_two_phase.specs.TwoPhase.{presumed, coordinator_at_boot, is_of_this, begun_for, begun, is_voting_for, asked_by, coordinator_timer, heard, react_coordinator};
-ghost use Rattle.sim_two_phase.specs.TwoPhaseRecords.{IsPlacedConduct, IsPlacedSlot, IsPlacedSlots, restored, coordinator_before};
+ghost use Rattle.sim_two_phase.specs.TwoPhaseRecords.{IsPlacedConduct, IsPlacedSlots, coordinator_before};
 
 use crate::conduct::PATIENCE;
 use crate::disk::first_of_byte;
-use crate::{CommitMsg, Conduct, Coordinator, First, Phase, SlotBefore, Slots};
-use sim_hosts::{HostSet, byte_at, is_other, lowest_waiting, number_at};
+use crate::{CommitMsg, Conduct, Coordinator, First, Phase, Slots};
+use sim_hosts::{
+    HostSet, SlotBefore, byte_at, is_other, lowest_waiting, number_at, put_back, wait_with,
+};
 use sim_node::{Effects, Input, Setup};
 
 /// Nobody's waiting has changed.
@@ -24,20 +27,6 @@ fn presumed(transaction: u64, first: First) -> First
         First::Aborted
     } else {
         first
-    }
-}
-
-impl SlotBefore {
-    /// The host waited with this.
-    fn of(host: u16, number: Option<u64>) -> SlotBefore
-        requires { host < 32 }
-        ensures host { IsPlacedSlot result }
-        ensures back { (waiting : List (Option ℕ)) → restored result waiting ≡ slice_set waiting host number }
-    {
-        match number {
-            None => SlotBefore::Empty(host),
-            Some(number) => SlotBefore::Waited(host, number),
-        }
     }
 }
 
@@ -61,15 +50,13 @@ impl Coordinator {
     }
 
     /// The host waits with this from now on; the answer is what it waited with.
-    fn put(&mut self, host: u16, number: Option<u64>) -> SlotBefore
+    fn put(&mut self, host: u16, number: Option<u64>) -> SlotBefore<u64>
         requires { host < 32 }
         ensures state { self.new ≡ record self.old { waiting = slice_set self.old.waiting host number } }
         ensures back { restored result self.new.waiting ≡ self.old.waiting }
         ensures host { IsPlacedSlot result }
     {
-        let before = SlotBefore::of(host, self.waiting[host as usize]);
-        self.waiting[host as usize] = number;
-        before
+        wait_with(&mut self.waiting, host, number)
     }
 
     /// Begins a transaction for this operation of a client.
@@ -79,7 +66,7 @@ impl Coordinator {
         number: u64,
         setup: &Setup,
         effects: &mut Effects<CommitMsg>,
-    ) -> SlotBefore
+    ) -> SlotBefore<u64>
         requires setup { IsSetup setup.now }
         requires client { client < setup.now.hosts }
         requires placed { IsPlacedConduct setup.now.hosts self.old.conduct }
@@ -105,7 +92,7 @@ impl Coordinator {
     }
 
     /// Begins a transaction for the lowest host that waits, where one does.
-    fn begin(&mut self, setup: &Setup, effects: &mut Effects<CommitMsg>) -> SlotBefore
+    fn begin(&mut self, setup: &Setup, effects: &mut Effects<CommitMsg>) -> SlotBefore<u64>
         requires setup { IsSetup setup.now }
         requires placed { IsPlacedConduct setup.now.hosts self.old.conduct }
         requires empty { effects.old ≡ asked_for setup.now [] }
@@ -160,7 +147,7 @@ impl Coordinator {
     }
 
     /// The timer.
-    fn timed_out(&mut self, setup: &Setup, effects: &mut Effects<CommitMsg>) -> SlotBefore
+    fn timed_out(&mut self, setup: &Setup, effects: &mut Effects<CommitMsg>) -> SlotBefore<u64>
         requires setup { IsSetup setup.now }
         requires placed { IsPlacedConduct setup.now.hosts self.old.conduct }
         requires empty { effects.old ≡ asked_for setup.now [] }
@@ -244,19 +231,7 @@ impl Coordinator {
         ensures { self.new ≡ coordinator_before conduct slots self.old }
     {
         self.conduct = conduct;
-        self.put_back(slots.begun);
-        self.put_back(slots.asked);
-    }
-
-    /// A host waits again with what it waited with.
-    fn put_back(&mut self, slot: SlotBefore)
-        requires { IsPlacedSlot slot }
-        ensures { self.new ≡ record self.old { waiting = restored slot self.old.waiting } }
-    {
-        match slot {
-            SlotBefore::Same => {}
-            SlotBefore::Empty(host) => self.waiting[host as usize] = None,
-            SlotBefore::Waited(host, number) => self.waiting[host as usize] = Some(number),
-        }
+        put_back(&mut self.waiting, slots.begun);
+        put_back(&mut self.waiting, slots.asked);
     }
 }

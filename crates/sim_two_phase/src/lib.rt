@@ -22,11 +22,10 @@
 //! - The coordinator's record ([`CommitUndo`]) keeps its whole conduct and at most two of the 32
 //!   places where hosts wait. No record has a collection.
 //! - The coordinator lies in a box, so that other hosts do not carry its table of waiting hosts.
-//!   [`BoxedCoordinator`] is a type whose value is what the box holds, so that definitions see no
+//!   `sim_hosts::Boxed` is a type whose value is what the box holds, so that definitions see no
 //!   box.
 #![tactic(auto)]
 
-mod boxed;
 mod client;
 mod conduct;
 mod coordinator;
@@ -35,9 +34,8 @@ mod node;
 mod participant;
 mod roles;
 
-pub use boxed::BoxedCoordinator;
 pub use node::TwoPhase;
 pub use roles::{
-    CommitMsg, CommitUndo, Conduct, Coordinator, First, Owed, Participant, Phase, Role, SlotBefore,
-    Slots, State, Status,
+    CommitMsg, CommitUndo, Conduct, Coordinator, First, Owed, Participant, Phase, Role, Slots,
+    State, Status,
 };

@@ -1,7 +1,6 @@
 use crate::disk::byte_of_first;
-use crate::{
-    BoxedCoordinator, CommitMsg, CommitUndo, Coordinator, Participant, Role, State, client,
-};
+use crate::{CommitMsg, CommitUndo, Coordinator, Participant, Role, State, client};
+use sim_hosts::Boxed;
 use sim_node::{Effects, Input, Meter, NoMemory, Node, Setup};
 use std::alloc::Global;
 use std::marker::{Model, PhantomData};
@@ -57,7 +56,7 @@ impl<T: Meter> Node for TwoPhase<T> {
         let role = if me >= setup.servers {
             Role::Client { next: 0 }
         } else if me == 0 {
-            Role::Coordinator(BoxedCoordinator::new(alloc, Coordinator::at_boot(disk))?)
+            Role::Coordinator(Boxed::new(alloc, Coordinator::at_boot(disk))?)
         } else {
             Role::Participant(Participant::at_boot(disk))
         };
@@ -121,7 +120,7 @@ impl<T: Meter> Node for TwoPhase<T> {
         meter.copied();
         let role = match &self.state.role {
             Role::Client { next } => Role::Client { next: *next },
-            Role::Coordinator(coordinator) => Role::Coordinator(BoxedCoordinator::new(
+            Role::Coordinator(coordinator) => Role::Coordinator(Boxed::new(
                 alloc,
                 *coordinator.get(),
             )?),

@@ -1,5 +1,4 @@
-use crate::BoxedCoordinator;
-use sim_hosts::HostSet;
+use sim_hosts::{Boxed, HostSet, SlotBefore};
 use sim_node::Setup;
 
 /// A message. A transaction is counted from 1 by the coordinator, an operation from 1 by its client.
@@ -100,7 +99,7 @@ pub struct Participant {
 pub enum Role {
     /// A client waits for the answer to this operation, counted from 1.
     Client { next: u64 },
-    Coordinator(BoxedCoordinator),
+    Coordinator(Boxed<Coordinator>),
     Participant(Participant),
 }
 
@@ -112,23 +111,12 @@ pub struct State {
     pub role: Role,
 }
 
-/// What a host waited with before a reaction.
-#[derive(Clone, Copy, Debug, PartialEq, Eq)]
-pub enum SlotBefore {
-    /// The same: the reaction has changed nobody's waiting.
-    Same,
-    /// This host did not wait.
-    Empty(u16),
-    /// This host waited with this operation.
-    Waited(u16, u64),
-}
-
 /// What those hosts waited with whose waiting a reaction has changed: the one that asked, and the one for which a
 /// transaction was begun after that.
 #[derive(Clone, Copy, Debug, PartialEq, Eq)]
 pub struct Slots {
-    pub asked: SlotBefore,
-    pub begun: SlotBefore,
+    pub asked: SlotBefore<u64>,
+    pub begun: SlotBefore<u64>,
 }
 
 /// The record of a reaction: what the host was before it.

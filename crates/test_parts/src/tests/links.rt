@@ -24,17 +24,16 @@ fn is_in(links: &Links<u32>, state: LinkState, count: u32) -> bool {
 }
 
 fn change_and_back(
-    alloc: Global,
     links: &mut Links<u32>,
     change: Change,
     left: &[u32],
     state: LinkState,
     count: u32,
-) -> Result<bool, NoMemory> {
-    let (undo, messages) = links.change(alloc, 3, 5, change)?;
+) -> bool {
+    let (undo, messages) = links.change(3, 5, change);
     let well = is_in(links, state, count) && messages.as_slice() == left;
-    links.undo(undo, messages)?;
-    Ok(well)
+    links.undo(undo, messages);
+    well
 }
 
 fn keep(links: &mut Links<u32>, message: u32) -> Result<bool, NoMemory> {
@@ -53,12 +52,12 @@ fn unkeep(links: &mut Links<u32>) -> Option<u32> {
 }
 
 // Does the act, and says whether the answer is the wanted one.
-fn goes(alloc: Global, links: &mut Links<u32>, act: Act) -> Result<bool, NoMemory> {
+fn goes(links: &mut Links<u32>, act: Act) -> Result<bool, NoMemory> {
     let well = match act {
         Act::Is(state, count) => is_in(links, state, count),
-        Act::Change(change, left) => links.change(alloc, 3, 5, change)?.1.as_slice() == left,
+        Act::Change(change, left) => links.change(3, 5, change).1.as_slice() == left,
         Act::ChangeAndBack(change, left, state, count) => {
-            change_and_back(alloc, links, change, left, state, count)?
+            change_and_back(links, change, left, state, count)
         }
         Act::Keep(message) => keep(links, message)?,
         Act::Unkeep(message) => unkeep(links) == Some(message),
@@ -66,14 +65,9 @@ fn goes(alloc: Global, links: &mut Links<u32>, act: Act) -> Result<bool, NoMemor
     Ok(well)
 }
 
-fn walk(
-    rt: &impl Abort,
-    alloc: Global,
-    links: &mut Links<u32>,
-    acts: &[Act],
-) -> Result<(), NoMemory> {
+fn walk(rt: &impl Abort, links: &mut Links<u32>, acts: &[Act]) -> Result<(), NoMemory> {
     for act in acts {
-        assert!(rt; goes(alloc, links, *act)?);
+        assert!(rt; goes(links, *act)?);
     }
     Ok(())
 }
@@ -82,26 +76,21 @@ fn walk(
 fn held(rt: &impl Abort, alloc: Global) -> Result<Links<u32>, NoMemory> {
     let acts = [Act::Change(Change::Hold, &[]), Act::Keep(7), Act::Keep(8)];
     let mut links = Links::new(alloc)?;
-    walk(rt, alloc, &mut links, &acts)?;
+    walk(rt, &mut links, &acts)?;
     Ok(links)
 }
 
 // Links of which the direction is cut.
 fn cut(rt: &impl Abort, alloc: Global) -> Result<Links<u32>, NoMemory> {
     let mut links = Links::new(alloc)?;
-    walk(rt, alloc, &mut links, &[Act::Change(Change::Cut, &[])])?;
+    walk(rt, &mut links, &[Act::Change(Change::Cut, &[])])?;
     Ok(links)
 }
 
 // Ends the test where the direction is not held with two messages, or another is not open; it takes the newest message.
-fn take_held(rt: &impl Abort, alloc: Global, links: &mut Links<u32>) -> Result<(), NoMemory> {
+fn take_held(rt: &impl Abort, links: &mut Links<u32>) -> Result<(), NoMemory> {
     assert!(rt; others_are_open(links));
-    walk(
-        rt,
-        alloc,
-        links,
-        &[Act::Is(LinkState::Held, 2), Act::Unkeep(8)],
-    )
+    walk(rt, links, &[Act::Is(LinkState::Held, 2), Act::Unkeep(8)])
 }
 
 #[test]
@@ -114,7 +103,7 @@ fn an_open_direction_by_the_table(rt: HostRuntime) -> Result<(), Fail> {
         Act::Is(LinkState::Through, 0),
     ];
     let mut links = Links::new(rt.alloc())?;
-    Ok(walk(&rt, rt.alloc(), &mut links, &acts)?)
+    Ok(walk(&rt, &mut links, &acts)?)
 }
 
 #[test]
@@ -131,7 +120,7 @@ fn a_held_direction_by_the_table(rt: HostRuntime) -> Result<(), Fail> {
         Act::Is(LinkState::Held, 0),
     ];
     let mut links = held(&rt, rt.alloc())?;
-    Ok(walk(&rt, rt.alloc(), &mut links, &acts)?)
+    Ok(walk(&rt, &mut links, &acts)?)
 }
 
 #[test]
@@ -144,7 +133,7 @@ fn a_cut_direction_by_the_table(rt: HostRuntime) -> Result<(), Fail> {
         Act::Is(LinkState::Cut, 0),
     ];
     let mut links = cut(&rt, rt.alloc())?;
-    Ok(walk(&rt, rt.alloc(), &mut links, &acts)?)
+    Ok(walk(&rt, &mut links, &acts)?)
 }
 
 // Whether each direction but that from 3 to 5 is open.
@@ -162,12 +151,7 @@ fn others_are_open(links: &Links<u32>) -> bool {
 fn other_directions_stay(rt: HostRuntime) -> Result<(), Fail> {
     let mut links = held(&rt, rt.alloc())?;
     assert!(rt; others_are_open(&links));
-    walk(
-        &rt,
-        rt.alloc(),
-        &mut links,
-        &[Act::Change(Change::Cut, &[7, 8])],
-    )?;
+    walk(&rt, &mut links, &[Act::Change(Change::Cut, &[7, 8])])?;
     assert!(rt; others_are_open(&links));
     Ok(())
 }
@@ -176,8 +160,8 @@ fn other_directions_stay(rt: HostRuntime) -> Result<(), Fail> {
 fn a_copy_is_equal(rt: HostRuntime) -> Result<(), Fail> {
     let mut links = held(&rt, rt.alloc())?;
     let mut copy = links.copy(rt.alloc(), |message: &u32| Ok(*message))?;
-    take_held(&rt, rt.alloc(), &mut copy)?;
-    walk(&rt, rt.alloc(), &mut links, &[Act::Is(LinkState::Held, 2)])?;
+    take_held(&rt, &mut copy)?;
+    walk(&rt, &mut links, &[Act::Is(LinkState::Held, 2)])?;
     Ok(())
 }
 
@@ -187,7 +171,7 @@ fn kept_for_later(rt: HostRuntime) -> Result<(), Fail> {
     let links = held(&rt, alloc)?;
     let packed = links.pack(alloc, |message: &u32| Ok(*message))?;
     let mut opened = packed.open(alloc, |message: &u32| Ok(*message))?;
-    Ok(take_held(&rt, alloc, &mut opened)?)
+    Ok(take_held(&rt, &mut opened)?)
 }
 
 // Messages that a trait copies.

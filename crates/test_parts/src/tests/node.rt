@@ -1,7 +1,7 @@
 //! Who is a server, and the effects of a reaction in their order.
 ghost use Rattle.std.specs.Prelude.{◌≡◌};
 
-use sim_node::{Effect, Effects, Setup, serves};
+use sim_node::{Effect, Effects, Setup};
 use std::process::Abort;
 use std::test::Fail;
 
@@ -88,13 +88,6 @@ fn walk(rt: &impl Abort, effects: &mut Effects<u32>, acts: &[Act])
 {
     for act in acts {
         assert!(rt; goes(effects, *act));
-    }
-}
-
-#[test]
-fn servers_come_first(rt: HostRuntime) {
-    for (host, server) in [(0, true), (1, true), (2, false), (3, false)] {
-        assert_eq!(rt; serves(&FOUR_HOSTS, host), server, "host {host}");
     }
 }
 

@@ -1,7 +1,7 @@
-use Rattle.std.proofs.Common.{length, refl, sym, subst, arith}
+use Rattle.std.proofs.Common.{length, refl, ◌∙◌, sym, subst, arith}
 use Rattle.sim_disk.specs.Change.{disk_in}
 use Rattle.sim_disk.specs.Spans.{AreSpans}
-use Rattle.sim_disk.proofs.Spans.{IsBehind, spans_still, spans_pushed, disks_pushed}
+use Rattle.sim_disk.proofs.Spans.{IsBehind, on_err, spans_still, disks_still, spans_pushed, disks_pushed}
 use Rattle.sim_disk.proofs.packed.PackedDisks.push.Goals as goal
 
 behind : (c : goal.In_ok-push) → IsBehind (length c.self.inside.bytes.items) (length c.self.inside.writes.items) (disk_in c.disk.inside.content)
@@ -13,8 +13,8 @@ invariant_of-self-2 c =
     rw (c.in_ok-push.ensures.items, c.in_ok-append_all.ensures.ok, c.as_slice-2.ensures.value, c.in_ok-extend_from_slice.ensures.items, c.as_slice.ensures.value)
     (spans_pushed _ _ _ (disk_in c.disk.inside.content) _ (behind c) c.self.invariant c.disk.invariant)
 
-pub returns : goal.returns
-returns c =
+pub returns-clause-ok : goal.returns-clause-ok
+returns-clause-ok c =
     rw (
       c.in_ok-push.ensures.items,
       c.in_ok-append_all.ensures.ok,
@@ -40,3 +40,15 @@ pub invariant_of-self-in_err-push : goal.invariant_of-self-in_err-push
 invariant_of-self-in_err-push c =
     spans_still c.as_slice.result.now c.as_slice-2.result.now c.in_ok-extend_from_slice.ensures.items c.in_ok-append_all.ensures.ok
     c.in_err-push.ensures.items c.self.invariant
+
+pub returns-in_err-append_all-clause-err : goal.returns-in_err-append_all-clause-err
+returns-in_err-append_all-clause-err c =
+    let grown = c.in_err-append_all.ensures.grown in
+    on_err c.from_residual-in_err-append_all.result
+    (disks_still c.as_slice.result.now grown.0 c.in_ok-extend_from_slice.ensures.items grown.1 refl c.self.invariant ∙ c.self.view_is)
+
+pub returns-in_err-push-clause-err : goal.returns-in_err-push-clause-err
+returns-in_err-push-clause-err c =
+    on_err c.from_residual-in_err-push.result
+    (disks_still c.as_slice.result.now c.as_slice-2.result.now c.in_ok-extend_from_slice.ensures.items c.in_ok-append_all.ensures.ok
+    c.in_err-push.ensures.items c.self.invariant ∙ c.self.view_is)

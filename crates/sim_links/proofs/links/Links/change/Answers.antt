@@ -4,12 +4,12 @@ use Rattle.sim_links.proofs.RoundTrips.{is_changed}
 use Rattle.sim_links.proofs.Slots.{is_touched, inside, read, wrote, sound_with, whole_links}
 use Rattle.sim_links.proofs.links.Links.change.Goals as goal
 
-pub invariant_of-self-2 : goal.invariant_of-self-2
-invariant_of-self-2 g c = sound_with c.touch.new.self c.in_ok-slot.slot c.change-messages.new.self c.in_ok-slot.ensures.sound c.in_ok-slot.ensures.own
+pub invariant_of-self : goal.invariant_of-self
+invariant_of-self g c = sound_with c.touch-slot.new.self c.touch-slot.result c.change-messages.new.self c.touch-slot.ensures.sound c.touch-slot.ensures.own
 
 pub returns : goal.returns
 returns g c =
-    let e = c.in_ok-slot.ensures in
+    let e = c.touch-slot.ensures in
     let a = c.args.a in
     let b = c.args.b in
     let old = c.index_mut-direction.result.now in
@@ -23,7 +23,6 @@ returns g c =
       left = done.left;
       whole = whole_links c.self.inside.table c.self.invariant c.self.view_is;
       undo = ap (λ s. record { a = a; b = b; change = c.args.change; was = s }) done.was;
-      err = tt;
       fits = done.fits;
       none_left = done.none_left;
       back = done.back;

@@ -6,12 +6,12 @@ use Rattle.sim_links.proofs.RoundTrips.{some_held, unkept}
 use Rattle.sim_links.proofs.Slots.{is_touched, inside, read, wrote, sound_with}
 use Rattle.sim_links.proofs.links.Links.keep.Goals as goal
 
-pub invariant_of-self-2 : goal.invariant_of-self-2
-invariant_of-self-2 g c = sound_with c.touch.new.self c.in_ok-slot.slot c.keep.new.self c.in_ok-slot.ensures.sound c.in_ok-slot.ensures.own
+pub invariant_of-self : goal.invariant_of-self
+invariant_of-self g c = sound_with c.touch-slot.new.self c.touch-slot.result c.keep.new.self c.touch-slot.ensures.sound c.touch-slot.ensures.own
 
 pub returns : goal.returns
 returns g c =
-    let e = c.in_ok-slot.ensures in
+    let e = c.touch-slot.ensures in
     let touched = is_touched _ _ _ _ _ _ e.sound e.links c.self.view_is c.place.ensures.within c.place.ensures.value e.slot e.own in
     let links = c.args.self.now in
     let i = direction c.args.a c.args.b in

@@ -5,20 +5,17 @@ use Rattle.sim_links.proofs.links.Links.undo.Goals as goal
 
 pub undo-requires-clause-fits : goal.undo-requires-clause-fits
 undo-requires-clause-fits g c =
-    let e = c.in_ok-slot.ensures in
+    let e = c.touch-slot.ensures in
     let touched = is_touched _ _ _ _ _ _ e.sound e.links c.self.view_is c.place.ensures.within c.place.ensures.value e.slot e.own in
     subst (fits c.args.undo) (sym (read c.index_mut-direction.result.now touched c.index_mut-direction.ensures.value)) c.requires.fits
 
-pub invariant_of-self-2 : goal.invariant_of-self-2
-invariant_of-self-2 g c = sound_with c.touch.new.self c.in_ok-slot.slot c.undo.new.self c.in_ok-slot.ensures.sound c.in_ok-slot.ensures.own
+pub invariant_of-self : goal.invariant_of-self
+invariant_of-self g c = sound_with c.touch-slot.new.self c.touch-slot.result c.undo.new.self c.touch-slot.ensures.sound c.touch-slot.ensures.own
 
 pub returns : goal.returns
 returns g c =
-    let e = c.in_ok-slot.ensures in
+    let e = c.touch-slot.ensures in
     let undo = c.args.undo in
     let touched = is_touched _ _ _ _ _ _ e.sound e.links c.self.view_is c.place.ensures.within c.place.ensures.value e.slot e.own in
     let was = read c.index_mut-direction.result.now touched c.index_mut-direction.ensures.value in
-    record {
-      ok = wrote c.undo.new.self touched ∙ ap (set c.args.self.now (direction undo.a undo.b)) (c.undo.ensures ∙ ap (back undo c.args.messages.items) was);
-      err = tt;
-    }
+    wrote c.undo.new.self touched ∙ ap (set c.args.self.now (direction undo.a undo.b)) (c.undo.ensures ∙ ap (back undo c.args.messages.items) was)

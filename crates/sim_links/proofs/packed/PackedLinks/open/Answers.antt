@@ -19,9 +19,9 @@ returns g c =
 
 pub loop-kept-preserved : goal.loop-kept-preserved
 loop-kept-preserved g c = record {
-  sound = c.in_ok-put.ensures.sound;
+  sound = c.put.ensures.sound;
   rest = next_put (links_in c.loop-kept.table) (links_in c.put.new.self) c.deref-kept-items.result.now c.loop-kept.kept-index c.kept-item.result c.in_ok-copy.copy
-      c.loop-kept.invariant.rest c.loop-kept-test.true c.kept-item.is c.in_ok-copy.ensures c.in_ok-put.ensures.ok;
+      c.loop-kept.invariant.rest c.loop-kept-test.true c.kept-item.is c.in_ok-copy.ensures c.put.ensures.links;
 }
 
 pub invariant_of-result : goal.invariant_of-result

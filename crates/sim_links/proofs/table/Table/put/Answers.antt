@@ -4,9 +4,8 @@ use Rattle.sim_links.proofs.table.Table.put.Goals as goal
 
 pub returns : goal.returns
 returns g c =
-    let e = c.in_ok-slot.ensures in
+    let e = c.touch-slot.ensures in
     record {
-      ok = wrote c.args.direction (is_touched _ _ _ _ _ _ e.sound e.links refl c.requires.within refl e.slot e.own);
-      err = tt;
-      sound = sound_with c.touch.new.self c.in_ok-slot.slot c.args.direction e.sound e.own;
+      links = wrote c.args.direction (is_touched _ _ _ _ _ _ e.sound e.links refl c.requires.within refl e.slot e.own);
+      sound = sound_with c.touch-slot.new.self c.touch-slot.result c.args.direction e.sound e.own;
     }

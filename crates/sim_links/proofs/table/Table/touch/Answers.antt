@@ -27,11 +27,11 @@ returns g c =
     let read : c.index.result.now ≡ get_or t.slots.items place 0 =
     get_or_read_under t.slots.items place 1024 c.index.result.now 0 c.index.ensures c.requires.within (sym sound.whole) in
     let none : get_or t.slots.items place 0 ≡ 0 = omega (arith, read, c.if-slot-gt0.false) in
-    let touched : c.push.new.self.items ≡ t.touched.items ++ open_link ∷ [] =
-    c.in_ok-push.ensures.items ∙ ap (λ x. t.touched.items ++ x ∷ []) c.open.ensures in
+    let touched : c.push_reserved.new.self.items ≡ t.touched.items ++ open_link ∷ [] =
+    c.push_reserved.ensures.items ∙ ap (λ x. t.touched.items ++ x ∷ []) c.open.ensures in
     record {
       slot = sym (get_or-set_same t.slots.items place free 0 (omega (arith, c.requires.within, sound.whole)));
       own = omega (arith, count, below_at t.slots.items (length t.touched.items) place sound.slots (omega (arith, c.requires.within, sound.whole)));
       links = rw touched (taken t.slots.items t.touched.items place free open_link count sound.first none);
-      sound = sound_taken t _ place free sound c.requires.within none count refl touched c.max-self.ensures;
+      sound = sound_taken t _ place free sound c.requires.within none count refl touched c.push_reserved.ensures.capacity c.max-self.ensures;
     }

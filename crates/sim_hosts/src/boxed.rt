@@ -1,0 +1,50 @@
+ghost use Rattle.std.specs.Prelude.{◌≡◌, IfOk};
+ghost use Rattle.std.specs.Borrow.{Lends, sem};
+ghost use Rattle.sim_hosts.specs.contracts.boxed.Boxed as boxed;
+
+use sim_node::NoMemory;
+use std::alloc::Global;
+use std::marker::Model;
+
+/// The state of a role in memory of its own, so that hosts in other roles do not carry it. Contracts
+/// see the state.
+#[derive(Drop)]
+pub struct Boxed<T> {
+    inner: Box<T>,
+}
+
+impl<T> Model for Boxed<T> {
+    ghost use Rattle.std.specs.Prelude.{◌≡◌};
+
+    ghost Value = { T };
+
+    ghost view = { λ boxed. boxed.inner.value };
+}
+
+impl<T: Copy> Boxed<T> {
+    /// The state, in memory of its own. The only error is want of memory.
+    pub fn new(alloc: Global, state: T) -> Result<Boxed<T>, NoMemory>
+        ensures { IfOk result (λ boxed. boxed ≡ state) }
+    {
+        Ok(Boxed {
+            inner: Box::new(alloc, state)?,
+        })
+    }
+
+    /// The state.
+    #[inline]
+    pub fn get(&self) -> &T
+        ensures { result.now ≡ self.now }
+    {
+        &self.inner
+    }
+
+    /// The state, to be changed.
+    #[inline]
+    pub fn get_mut(&mut self) -> &mut T
+        ensures value { result.now ≡ self.old }
+        ensures* writes_back { sem 𝓛 (Lends (boxed.the_row T.row) T.row self.entry result (λ now. now)) }
+    {
+        &mut self.inner
+    }
+}
