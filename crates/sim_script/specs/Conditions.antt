@@ -127,6 +127,11 @@ abbrev pub unless_number : (ℕ → Term) → List Text → Read Term
 unless_number make (unless ∷ n ∷ rest) = before rest (if bytes_eq unless (codes "unless") then option_map make (bound n) else None)
 unless_number make _ = None
 
+-- OP K
+abbrev pub counted : ℕ → Comparison → List Text → Read Term
+counted k c (op ∷ n ∷ rest) = before rest (option_and_then (λ o. option_map (Count k c o) (bound n)) (op_of op))
+counted k c _ = None
+
 module _ (names : Names) where
   -- HOST.PROBE: a host before the first dot, and a probe after it
   abbrev pub host_and_probe : Text → Option (ℕ × ℕ)
@@ -161,11 +166,6 @@ module _ (names : Names) where
   abbrev pub on_values : (ℕ → Comparison → Term) → List Text → Read Term
   on_values make (k ∷ given) = option_and_then (λ p. with_comparison (make p) given) (probe names k)
   on_values make _ = None
-
-  -- OP K
-  abbrev pub counted : ℕ → Comparison → List Text → Read Term
-  counted k c (op ∷ n ∷ rest) = before rest (option_and_then (λ o. option_map (Count k c o) (bound n)) (op_of op))
-  counted k c _ = None
 
   -- PROBE OP VALUE OP K
   abbrev pub counting : List Text → Read Term
