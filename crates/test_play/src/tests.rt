@@ -3,6 +3,7 @@ mod examples;
 mod faults;
 mod full;
 mod lines;
+mod ports;
 mod probes;
 mod rows;
 mod scenes;

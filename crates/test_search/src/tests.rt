@@ -1,4 +1,3 @@
-mod claims;
 mod comers;
 mod fold;
 mod long;

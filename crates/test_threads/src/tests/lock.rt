@@ -2,8 +2,8 @@
 ghost use Rattle.std.specs.Prelude.{◌≡◌, ◌≤◌, ◌<◌, ◌+◌, ℕ, List, [], ◌++◌, ◌∷◌, ◌==◌, length, All, IfOk, OnOk, count_by, IsTrue};
 ghost use Rattle.sim_lock.specs.Entries.{HasEntry};
 ghost use Rattle.sim_lock.specs.Seats.{IsOf, IsReceipt};
-ghost use Rattle.test_shared.specs.declared.tests.lock.Ask.TheVariants.{Freeze};
-ghost use Rattle.test_shared.specs.declared.tests.lock.Full.{Full};
+ghost use Rattle.test_threads.specs.declared.tests.lock.Ask.TheVariants.{Freeze};
+ghost use Rattle.test_threads.specs.declared.tests.lock.Full.{Full};
 
 use sim_lock::{Freezes, History, Kept, Lock, Seat};
 use std::alloc::{AllocError, Global};

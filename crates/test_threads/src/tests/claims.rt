@@ -1,13 +1,14 @@
 //! Searches over a row of numbers, with gates that count and that wait.
-ghost use Rattle.std.specs.Prelude.{◌≡◌, ◌==◌, length, ltb, cond, Some, None, slice_index, vec_len, IfOk};
+ghost use Rattle.std.specs.Prelude.{◌≡◌, ◌≤◌, ◌==◌, length, ltb, cond, Some, None, slice_index, vec_len, IfOk};
 
 use sim_claims::{Gate, NoMemory, OpenGate, Pieces, least};
 use std::alloc::Global;
+use std::process::Abort;
 use std::sync::Wait;
 use std::sync::atomic::Ordering::SeqCst;
 use std::sync::atomic::{AtomicBool, AtomicU64};
 use std::test::Fail;
-use std::thread::yield_now;
+use std::thread::{Threads, yield_now};
 
 // Each number above `most` is a finding. It counts the scans.
 #[derive(Drop)]
@@ -105,40 +106,48 @@ impl Gate for Counts {
     }
 }
 
+// So many workers find this, and enter and leave each piece once. How many scans that took.
+fn scans_of<R: Threads + Wait + Sync + Abort>(
+    rt: &R,
+    alloc: Global,
+    workers: u32,
+    most: u32,
+    want: Option<(u64, u32)>,
+) -> Result<u64, NoMemory>
+    requires { (1 ≤ workers) × (workers ≤ 16) }
+{
+    let meters = units(alloc, workers)?;
+    let gate = no_counts();
+    let row = row_of(&NUMBERS, most);
+    let found = least(rt, alloc, &row, &gate, meters);
+    assert!(rt;
+        found == Ok(want) && gate.are_even(),
+        "{workers} above {most}"
+    );
+    Ok(row.scans.load(SeqCst))
+}
+
 #[test]
 fn any_number_of_workers(rt: HostRuntime) -> Result<(), Fail> {
-    let alloc = rt.alloc();
     for workers in 1..17u32 {
-        let gate = no_counts();
-        let row = row_of(&NUMBERS, 5);
-        let found = least(&rt, alloc, &row, &gate, units(alloc, workers)?);
-        assert!(rt; found == Ok(Some((5, 9))));
-        assert!(rt; gate.are_even(), "one enter and one leave a piece");
+        scans_of(&rt, rt.alloc(), workers, 5, Some((5, 9)))?;
     }
     Ok(())
 }
 
 #[test]
 fn each_piece_is_scanned_once(rt: HostRuntime) -> Result<(), Fail> {
-    let alloc = rt.alloc();
     for workers in 1..17u32 {
-        let gate = no_counts();
-        let row = row_of(&NUMBERS, 9);
-        assert!(rt; least(&rt, alloc, &row, &gate, units(alloc, workers)?) == Ok(None));
-        assert_eq!(rt; row.scans.load(SeqCst), 8);
-        assert!(rt; gate.are_even(), "one enter and one leave a piece");
+        let scans = scans_of(&rt, rt.alloc(), workers, 9, None)?;
+        assert_eq!(rt; scans, 8);
     }
     Ok(())
 }
 
 #[test]
 fn a_worker_scans_no_piece_past_its_finding(rt: HostRuntime) -> Result<(), Fail> {
-    let alloc = rt.alloc();
-    let gate = no_counts();
-    let row = row_of(&NUMBERS, 4);
-    assert!(rt; least(&rt, alloc, &row, &gate, units(alloc, 1)?) == Ok(Some((4, 5))));
-    assert_eq!(rt; row.scans.load(SeqCst), 5);
-    assert!(rt; gate.are_even(), "one enter and one leave a piece");
+    let scans = scans_of(&rt, rt.alloc(), 1, 4, Some((4, 5)))?;
+    assert_eq!(rt; scans, 5);
     Ok(())
 }
 
@@ -237,24 +246,22 @@ impl Pieces<()> for Together {
 }
 
 #[test]
-fn two_workers_overlap(rt: HostRuntime) -> Result<(), Fail> {
-    let alloc = rt.alloc();
+fn two_workers_are_inside_the_gate(rt: HostRuntime) -> Result<(), Fail> {
+    let meters = units(rt.alloc(), 2)?;
     let gate = new_meeting();
     let row = row_of(&NUMBERS, 4);
-    assert!(rt; least(&rt, alloc, &row, &gate, units(alloc, 2)?) == Ok(Some((4, 5))));
-    assert_eq!(rt;
-        gate.met.load(SeqCst),
-        2,
-        "both workers were inside the gate"
-    );
+    let found = least(&rt, rt.alloc(), &row, &gate, meters);
+    assert!(rt; found == Ok(Some((4, 5))) && gate.met.load(SeqCst) == 2);
+    Ok(())
+}
+
+#[test]
+fn two_workers_scan_at_once(rt: HostRuntime) -> Result<(), Fail> {
+    let meters = units(rt.alloc(), 2)?;
     let pieces = Together {
         meeting: new_meeting(),
     };
-    assert!(rt; least(&rt, alloc, &pieces, &OpenGate, units(alloc, 2)?) == Ok(None));
-    assert_eq!(rt;
-        pieces.meeting.met.load(SeqCst),
-        2,
-        "both workers scanned at once"
-    );
+    let found = least(&rt, rt.alloc(), &pieces, &OpenGate, meters);
+    assert!(rt; found == Ok(None) && pieces.meeting.met.load(SeqCst) == 2);
     Ok(())
 }
