@@ -3,7 +3,7 @@ use Rattle.std.proofs.Crossing.{crosses}
 use Rattle.sim_tally.specs.contracts.tally.Tally as Tally
 use Rattle.test_search.specs.contracts.tests.comers.Comer as Comer
 use Rattle.test_search.specs.contracts.tests.meeting.Meeting as Meeting
-use Rattle.test_search.proofs.tests.overlap.two_workers_overlap.Goals as goal
+use Rattle.test_search.proofs.tests.overlap.two_workers_search_at_once.Goals as goal
 
 meeting_sync : IsSync Meeting.the_row
 meeting_sync = search (crosses, sendable) depth 24
@@ -16,6 +16,3 @@ comer_send κ = search (meeting_sync, tally_send, sendable) depth 24
 
 pub search-found-requires-send-N-Meter : goal.search-found-requires-send-N-Meter
 search-found-requires-send-N-Meter g c κs within = search (comer_send, sendable) depth 16
-
-pub sweep-found-requires-send-N-Meter : goal.sweep-found-requires-send-N-Meter
-sweep-found-requires-send-N-Meter g c κs within = search (comer_send, sendable) depth 16
