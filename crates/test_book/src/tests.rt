@@ -136,8 +136,8 @@ const KEPT: [Event; 8] = [
     Event::Step,
     Event::Step,
     Event::Step,
-    Event::Advance(100),
-    Event::Advance(200),
+    Event::Advance(140),
+    Event::Advance(240),
 ];
 
 // The frozen events of branch 0.

@@ -288,22 +288,15 @@ fn stops_at_a_failed_write(rt: HostRuntime) {
     }
 }
 
+const TWO_STEPS: &[u8] = b"place 1 clock 0\nplace 2 clock 0\n";
+
 #[test]
 fn stops_at_a_failed_flush(rt: HostRuntime) {
-    // Where the next line takes a read, at the end of the input, and for a fault.
-    let rows: [(&[u8], &[u8], usize, &[u8]); 3] = [
-        (
-            HEAD,
-            b"step\nstep\n",
-            0,
-            b"place 1 clock 0\nplace 2 clock 0\n",
-        ),
-        (
-            HEAD,
-            b"step\nstep\n",
-            1,
-            b"place 1 clock 0\nplace 2 clock 0\n",
-        ),
+    // Where the script takes a read, where its next line does, at the end of the input, and for a fault.
+    let rows: [(&[u8], &[u8], usize, &[u8]); 4] = [
+        (HEAD, b"step\nstep\n", 0, b""),
+        (HEAD, b"step\nstep\n", 1, TWO_STEPS),
+        (HEAD, b"step\nstep\n", 2, TWO_STEPS),
         (b"---\n", b"", 0, b"scenario fault 4 format\n"),
     ];
     for (head, script, flushes, want) in rows {
