@@ -53,7 +53,7 @@ enum Measure {
     Looks(Sessions),
 }
 
-const MEASURES: [(&'static str, u32, Measure); 33] = [
+const MEASURES: [(&'static str, u32, Measure); 34] = [
     ("draws", 10_000_000, Measure::Draws),
     ("draws and undraws", 5_000_000, Measure::Undraws),
     (
@@ -85,6 +85,11 @@ const MEASURES: [(&'static str, u32, Measure); 33] = [
         "world steps, 32 hosts",
         1_000_000,
         Measure::WorldSteps(Cluster::ThirtyTwo),
+    ),
+    (
+        "world steps, 32 hosts, seconds apart",
+        1_000_000,
+        Measure::WorldSteps(Cluster::Slow),
     ),
     (
         "world steps and undos, 2 hosts",

@@ -17,6 +17,8 @@ pub enum Cluster {
     Two,
     /// one server and 31 clients, a message takes 10 to 20 ms
     ThirtyTwo,
+    /// one server and 31 clients, a message takes 1 to 60 s
+    Slow,
     /// four servers and 28 clients, a message takes 5 to 15 ms
     FourServers,
 }
@@ -49,7 +51,7 @@ impl Cluster {
     {
         match self {
             Cluster::Two => echo_setup(1, 2),
-            Cluster::ThirtyTwo => echo_setup(1, 32),
+            Cluster::ThirtyTwo | Cluster::Slow => echo_setup(1, 32),
             Cluster::FourServers => echo_setup(4, 32),
         }
     }
@@ -60,6 +62,7 @@ impl Cluster {
     {
         let (latency_min, latency_max) = match self {
             Cluster::Two | Cluster::ThirtyTwo => (10, 20),
+            Cluster::Slow => (1_000, 60_000),
             Cluster::FourServers => (5, 15),
         };
         Way {

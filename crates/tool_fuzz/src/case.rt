@@ -88,6 +88,29 @@ fn expected<N: Node>(
     Ok((play, hunt))
 }
 
+/// The same, over the nodes of the setting's protocol.
+fn expected_of(
+    alloc: Global,
+    setting: &Setting,
+    naming: Naming,
+    lines: &[Line],
+    asker: &mut Asker,
+) -> Result<(String, Hunt), Trouble> {
+    let meter = Tally::new();
+    match setting.protocol {
+        Protocol::Echo => expected::<Echo<Tally>>(alloc, setting, naming, lines, asker, meter),
+        Protocol::PrimaryBackup => {
+            expected::<PrimaryBackup<Tally>>(alloc, setting, naming, lines, asker, meter)
+        }
+        Protocol::AbdRegister => {
+            expected::<AbdRegister<Tally>>(alloc, setting, naming, lines, asker, meter)
+        }
+        Protocol::TwoPhase => {
+            expected::<TwoPhase<Tally>>(alloc, setting, naming, lines, asker, meter)
+        }
+    }
+}
+
 impl Case {
     /// The case of a number.
     pub fn new(alloc: Global, number: u64) -> Result<Case, Trouble> {
@@ -108,23 +131,7 @@ impl Case {
             probes: probes(setting.protocol),
         };
         let lines = script(alloc, &mut asker, naming, count, &mut input)?;
-        let lines = lines.as_slice();
-        let asker = &mut asker;
-        let meter = Tally::new();
-        let (expected, hunt) = match setting.protocol {
-            Protocol::Echo => {
-                expected::<Echo<Tally>>(alloc, &setting, naming, lines, asker, meter)?
-            }
-            Protocol::PrimaryBackup => {
-                expected::<PrimaryBackup<Tally>>(alloc, &setting, naming, lines, asker, meter)?
-            }
-            Protocol::AbdRegister => {
-                expected::<AbdRegister<Tally>>(alloc, &setting, naming, lines, asker, meter)?
-            }
-            Protocol::TwoPhase => {
-                expected::<TwoPhase<Tally>>(alloc, &setting, naming, lines, asker, meter)?
-            }
-        };
+        let (expected, hunt) = expected_of(alloc, &setting, naming, lines.as_slice(), &mut asker)?;
         Ok(Case {
             input,
             expected,

@@ -146,6 +146,33 @@ fn sweep<N: Node>(
     Ok(Found::Nowhere)
 }
 
+/// What a hunt there is to find.
+fn found_on<N: Node>(
+    alloc: Global,
+    setting: &Setting,
+    ground: Ground,
+    events: &[Event],
+    terms: &[Term],
+    meter: &mut N::Meter,
+) -> Result<Found, Trouble> {
+    let Some(scenario) = setting.scenario() else {
+        return Err(Trouble::Impossible);
+    };
+    match ground {
+        Ground::Places { lo, hi } => {
+            search::<N>(alloc, &scenario, events, (lo, hi), terms, meter)
+        }
+        Ground::Seeds {
+            first,
+            count,
+            events,
+        } => {
+            let range = (first, count, events);
+            sweep::<N>(alloc, setting, scenario.hosts(), range, terms, meter)
+        }
+    }
+}
+
 /// Writes the line that tells what was found.
 fn write_found(alloc: Global, found: Found) -> Result<String, AllocError> {
     match found {
@@ -187,27 +214,12 @@ impl Hunt {
         events: &[Event],
         meter: &mut N::Meter,
     ) -> Result<Hunt, Trouble> {
-        let Some(scenario) = setting.scenario() else {
-            return Err(Trouble::Impossible);
-        };
         let terms = asker.condition(alloc)?;
         let terms = terms.as_slice();
+        let ground = Ground::some(asker, events.len());
+        let found = found_on::<N>(alloc, setting, ground, events, terms, meter)?;
         let mut condition = String::new(alloc);
         naming.condition(&mut condition, terms)?;
-        let ground = Ground::some(asker, events.len());
-        let found = match ground {
-            Ground::Places { lo, hi } => {
-                search::<N>(alloc, &scenario, events, (lo, hi), terms, meter)?
-            }
-            Ground::Seeds {
-                first,
-                count,
-                events,
-            } => {
-                let range = (first, count, events);
-                sweep::<N>(alloc, setting, scenario.hosts(), range, terms, meter)?
-            }
-        };
         Ok(Hunt {
             ground,
             workers: u64::from(1 + asker.dice.below(3)),

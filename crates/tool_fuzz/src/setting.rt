@@ -69,10 +69,21 @@ fn some_operations(dice: &mut Dice) -> [u16; 32] {
     operations
 }
 
-/// Latencies of at most 99 ms, equal ones among them, and a loss that is mostly none.
+/// A time that is mostly below 50 ms, and once in eight times anything up to half of the longest latency.
+fn some_time(dice: &mut Dice) -> u32
+    ensures { result < 30001 }
+{
+    if dice.once_in(8) {
+        dice.below(30_001)
+    } else {
+        dice.below(50)
+    }
+}
+
+/// Latencies, equal ones among them, and a loss that is mostly none.
 fn some_way(dice: &mut Dice) -> Way {
-    let latency_min = dice.below(50);
-    let spread = if dice.once_in(3) { 0 } else { dice.below(50) };
+    let latency_min = some_time(dice);
+    let spread = if dice.once_in(3) { 0 } else { some_time(dice) };
     let loss = match dice.below(4) {
         0 => dice.below(500),
         1 => 1_000 * dice.below(2),
@@ -82,6 +93,24 @@ fn some_way(dice: &mut Dice) -> Way {
         latency_min,
         latency_max: latency_min + spread,
         loss,
+    }
+}
+
+/// A tick that is mostly at most 200 ms, and once in eight times anything up to the longest.
+fn some_tick(dice: &mut Dice) -> u32 {
+    if dice.once_in(8) {
+        1 + dice.below(60_000)
+    } else {
+        1 + dice.below(200)
+    }
+}
+
+/// How long a sync takes: mostly below 30 ms, and once in eight times anything up to the longest.
+fn some_sync(dice: &mut Dice) -> u32 {
+    if dice.once_in(8) {
+        dice.below(60_001)
+    } else {
+        dice.below(30)
     }
 }
 
@@ -135,12 +164,12 @@ impl Setting {
         } else {
             None
         };
-        let disk_latency = if second_format { dice.below(30) } else { 0 };
+        let disk_latency = if second_format { some_sync(dice) } else { 0 };
         Setting {
             protocol,
             second_format,
             seed: some_seed(dice),
-            tick: 1 + dice.below(200),
+            tick: some_tick(dice),
             way,
             link,
             disk_latency,

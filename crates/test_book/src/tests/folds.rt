@@ -1,8 +1,5 @@
 //! A book beside plain folds: each branch is a list of events and a place, and its world is made from the start for each answer.
-ghost use Rattle.std.specs.Prelude.{◌<◌};
-
-use super::meter::Counts;
-use super::{Told, asked, tell};
+use super::{EchoBook, Told, asked, tell};
 use sim_book::{Book, Command, Refusal, Stop};
 use sim_echo::Echo;
 use sim_node::Node;
@@ -10,32 +7,11 @@ use sim_world::{Event, Fault, Query, Scenario, World};
 use std::alloc::Global;
 use std::process::Abort;
 use std::test::Fail;
-
-/// Numbers that look random.
-#[derive(Drop)]
-pub struct Dice(u64);
-
-impl Dice {
-    pub fn new(seed: u64) -> Dice {
-        Dice(seed)
-    }
-
-    // The next number below one that is not 0.
-    fn below(&mut self, most: u32) -> u32
-        requires { 0 < most }
-        ensures { result < most }
-    {
-        self.0 = self
-            .0
-            .wrapping_mul(6_364_136_223_846_793_005)
-            .wrapping_add(1_442_695_040_888_963_407);
-        ((self.0 >> 33) % u64::from(most)) as u32
-    }
-}
+use test_support::{Counts, Dice};
 
 /// A command on a branch.
 #[derive(Clone, Copy, Debug, PartialEq, Eq)]
-enum Ask {
+pub enum Ask {
     Step,
     Run(u32),
     Tick,
@@ -45,7 +21,8 @@ enum Ask {
     Goto(u32),
     Rewind(u32),
     Cut,
-    Look,
+    Look(Query),
+    Unwatch,
 }
 
 // A command at random; mostly it is a step.
@@ -63,13 +40,13 @@ fn chosen(dice: &mut Dice) -> Ask {
         8 => Ask::Goto(n),
         9 => Ask::Rewind(n),
         10 => Ask::Cut,
-        11 => Ask::Look,
+        11 => Ask::Look(Query::Summary),
         _ => Ask::Step,
     }
 }
 
-// The command on this branch.
-fn on(ask: Ask, b: u32) -> Command {
+/// The command on this branch.
+pub fn on(ask: Ask, b: u32) -> Command {
     match ask {
         Ask::Step => Command::Step(b),
         Ask::Run(n) => Command::Run(b, n),
@@ -80,7 +57,8 @@ fn on(ask: Ask, b: u32) -> Command {
         Ask::Goto(p) => Command::Goto(b, p),
         Ask::Rewind(n) => Command::Rewind(b, n),
         Ask::Cut => Command::Cut(b),
-        Ask::Look => Command::Look(b, Query::Summary),
+        Ask::Look(query) => Command::Look(b, query),
+        Ask::Unwatch => Command::Unwatch(b, 0),
     }
 }
 
@@ -151,23 +129,23 @@ fn folded<N: Node>(
 
 /// A book, and what its branches are to be.
 #[derive(Drop)]
-pub struct Fold<R: Abort + Drop> {
-    book: Book<Echo<Counts<R>>>,
+pub struct Fold {
+    book: EchoBook,
     plains: Vec<Plain>,
     scenario: Scenario,
-    meter: Counts<R>,
+    meter: Counts,
 }
 
 /// A plain branch, and what folds it.
 #[derive(Drop)]
-struct Folding<'a, R: Abort + Drop> {
+struct Folding<'a> {
     plain: &'a mut Plain,
     scenario: &'a Scenario,
-    meter: &'a mut Counts<R>,
+    meter: &'a mut Counts,
 }
 
-impl<R: Abort + Drop> Folding<'_, R> {
-    fn world(&mut self, alloc: Global) -> Result<World<Echo<Counts<R>>>, Fail> {
+impl Folding<'_> {
+    fn world(&mut self, alloc: Global) -> Result<World<Echo<Counts>>, Fail> {
         folded(alloc, self.scenario, self.plain, self.meter)
     }
 
@@ -268,16 +246,16 @@ impl<R: Abort + Drop> Folding<'_, R> {
         }
         let world = self.world(alloc)?;
         Ok(match ask {
-            Ask::Look => Told::Seen(self.plain.place, world.look(Query::Summary)),
+            Ask::Look(_) => Told::Seen(self.plain.place, world.look(Query::Summary)),
             _ => asked(self.plain.place, world.clock()),
         })
     }
 }
 
-impl<R: Abort + Drop + Copy> Fold<R> {
+impl Fold {
     /// An opening book.
-    pub fn new(alloc: Global, scenario: &Scenario, rt: R) -> Result<Fold<R>, Fail> {
-        let book = Book::new(alloc, scenario, Counts::new(rt))?;
+    pub fn new(alloc: Global, scenario: &Scenario) -> Result<Fold, Fail> {
+        let book = Book::new(alloc, scenario, Counts::new())?;
         let mut plains = Vec::new(alloc);
         plains.push(Plain {
             events: Vec::new(alloc),
@@ -287,7 +265,7 @@ impl<R: Abort + Drop + Copy> Fold<R> {
             book,
             plains,
             scenario: scenario.copy(),
-            meter: Counts::new(rt),
+            meter: Counts::new(),
         })
     }
 
@@ -307,7 +285,7 @@ impl<R: Abort + Drop + Copy> Fold<R> {
     }
 
     // The book answers as the plain branch.
-    fn same(&mut self, rt: &R, alloc: Global, b: u32, ask: Ask) -> Result<(), Fail> {
+    fn same(&mut self, rt: &impl Abort, alloc: Global, b: u32, ask: Ask) -> Result<(), Fail> {
         let want = self.answer(alloc, b, ask)?;
         let entry = self.book.turn(alloc, 0, on(ask, b))?;
         assert_eq!(rt;
@@ -320,7 +298,7 @@ impl<R: Abort + Drop + Copy> Fold<R> {
     }
 
     // A branch more, of the first events of another.
-    fn split(&mut self, rt: &R, alloc: Global, b: u32) -> Result<(), Fail> {
+    fn split(&mut self, rt: &impl Abort, alloc: Global, b: u32) -> Result<(), Fail> {
         let Some(plain) = self.plains.get(b as usize) else {
             return Err(Fail::from("no branch"));
         };
@@ -334,7 +312,7 @@ impl<R: Abort + Drop + Copy> Fold<R> {
     }
 
     /// A command at random on one of three branches, and a look at another.
-    pub fn turn(&mut self, rt: &R, alloc: Global, dice: &mut Dice) -> Result<(), Fail> {
+    pub fn turn(&mut self, rt: &impl Abort, alloc: Global, dice: &mut Dice) -> Result<(), Fail> {
         let count = self.plains.len().clamp(1, 3) as u32;
         let b = dice.below(count);
         if count < 3 && dice.below(8) == 0 {
@@ -342,6 +320,6 @@ impl<R: Abort + Drop + Copy> Fold<R> {
         }
         let ask = chosen(dice);
         self.same(rt, alloc, b, ask)?;
-        self.same(rt, alloc, dice.below(count), Ask::Look)
+        self.same(rt, alloc, dice.below(count), Ask::Look(Query::Summary))
     }
 }

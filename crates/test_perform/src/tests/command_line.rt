@@ -1,6 +1,6 @@
 //! Command lines, and what is told where they ask for no job.
 use sim_job::{Job, LineError, job};
-use std::test::Fail;
+use std::process::Abort;
 
 // The words ask for this job.
 fn asks(rt: &HostRuntime, words: &[&str], wanted: Job<'_>) -> bool {
@@ -37,7 +37,7 @@ fn status_of(rt: &HostRuntime, words: &[&str]) -> Option<u8> {
 }
 
 #[test]
-fn jobs(rt: HostRuntime) -> Result<(), Fail> {
+fn jobs(rt: HostRuntime) {
     assert!(rt; asks(&rt, &["simback", "play"], Job::Play));
     let plain = Job::Search {
         workers: 2,
@@ -83,11 +83,10 @@ fn jobs(rt: HostRuntime) -> Result<(), Fail> {
         "16",
     ];
     assert!(rt; asks(&rt, &words, sweep));
-    Ok(())
 }
 
 #[test]
-fn help_and_version(rt: HostRuntime) -> Result<(), Fail> {
+fn help_and_version(rt: HostRuntime) {
     let commands = [
         "Usage: simback <COMMAND>",
         "play",
@@ -118,11 +117,10 @@ fn help_and_version(rt: HostRuntime) -> Result<(), Fail> {
     ];
     assert!(rt; helps(&rt, &["simback", "sweep", "-h"], &sweep));
     assert_eq!(rt; status_of(&rt, &["simback", "--help"]), Some(0));
-    Ok(())
 }
 
 #[test]
-fn mistakes(rt: HostRuntime) -> Result<(), Fail> {
+fn mistakes(rt: HostRuntime) {
     assert!(rt; blames(&rt, &["simback"], "Usage: simback <COMMAND>"));
     assert_eq!(rt; status_of(&rt, &["simback"]), Some(2));
     assert!(rt; blames(&rt, &["simback", "walk"], "unrecognized subcommand 'walk'"));
@@ -151,5 +149,4 @@ fn mistakes(rt: HostRuntime) -> Result<(), Fail> {
         "up a",
     ];
     assert!(rt; blames(&rt, &twice, "cannot be used multiple times"));
-    Ok(())
 }

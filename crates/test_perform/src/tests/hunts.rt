@@ -4,9 +4,9 @@ ghost use Rattle.sim_job.specs.CommandLine.{HasFewWorkers};
 
 use sim_perform::{Job, Status, perform};
 use std::alloc::Global;
+use std::process::Abort;
 use std::rt::Clock;
 use std::sync::Wait;
-use std::test::Fail;
 use std::thread::Threads;
 
 const BASE: &str = r#"format = 1
@@ -71,31 +71,30 @@ pub fn ends<R: Threads + Wait + Sync + Clock + Eprint>(
     input: &str,
     status: Status,
     want: &str,
-) -> Result<bool, Fail>
+) -> bool
     requires { HasFewWorkers job }
 {
     let mut reader = input.as_bytes();
     let mut written = Vec::new(alloc);
     let ended = perform(rt, alloc, &job, &mut reader, &mut written);
-    Ok(ended == status && str::from_utf8(written.as_slice())? == want)
+    ended == status && written.as_slice() == want.as_bytes()
 }
 
 #[test]
-fn searches_of_the_first_run(rt: HostRuntime) -> Result<(), Fail> {
+fn searches_of_the_first_run(rt: HostRuntime) {
     let alloc = rt.alloc();
     for workers in [1, 2, 16] {
         let job = search(workers, 0, 6, "w.next <= 1");
-        assert!(rt; ends(&rt, alloc, job, BASE, Status::Well, "first 4\n")?);
+        assert!(rt; ends(&rt, alloc, job, BASE, Status::Well, "first 4\n"));
         let job = search(workers, 0, 6, "w.next <= 3");
-        assert!(rt; ends(&rt, alloc, job, BASE, Status::Well, "none\n")?);
+        assert!(rt; ends(&rt, alloc, job, BASE, Status::Well, "none\n"));
         let job = search(workers, 0, 7, "up a");
-        assert!(rt; ends(&rt, alloc, job, BASE, Status::BadRequest, "bad range\n")?);
+        assert!(rt; ends(&rt, alloc, job, BASE, Status::BadRequest, "bad range\n"));
     }
-    Ok(())
 }
 
 #[test]
-fn sweeps_of_the_base_scenario(rt: HostRuntime) -> Result<(), Fail> {
+fn sweeps_of_the_base_scenario(rt: HostRuntime) {
     let alloc = rt.alloc();
     let rows = [
         (0, 3, 6, "w.next <= 1", Status::Well, "seed 0 place 4\n"),
@@ -116,16 +115,15 @@ fn sweeps_of_the_base_scenario(rt: HostRuntime) -> Result<(), Fail> {
     for workers in [1, 2, 16] {
         for (first, count, events, cond, status, want) in rows {
             let job = sweep(workers, first, count, events, cond);
-            assert!(rt; ends(&rt, alloc, job, BASE, status, want)?, "{want}");
+            assert!(rt; ends(&rt, alloc, job, BASE, status, want), "{want}");
         }
     }
-    Ok(())
 }
 
 // A scenario's fault is told before words that are no condition, these before a range's, and that before a host or probe that is
 // not there.
 #[test]
-fn faults_come_in_order(rt: HostRuntime) -> Result<(), Fail> {
+fn faults_come_in_order(rt: HostRuntime) {
     let alloc = rt.alloc();
     let rows = [
         (
@@ -149,14 +147,13 @@ fn faults_come_in_order(rt: HostRuntime) -> Result<(), Fail> {
     ];
     for (input, cond, hi, status, want) in rows {
         assert!(rt;
-            ends(&rt, alloc, search(2, 0, hi, cond), input, status, want)?,
+            ends(&rt, alloc, search(2, 0, hi, cond), input, status, want),
             "{want}"
         );
         let seeds = if hi == 7 { 0 } else { 1 };
         assert!(rt;
-            ends(&rt, alloc, sweep(2, 0, seeds, 6, cond), input, status, want)?,
+            ends(&rt, alloc, sweep(2, 0, seeds, 6, cond), input, status, want),
             "{want}"
         );
     }
-    Ok(())
 }

@@ -1,6 +1,7 @@
 //! The plays of the folder `examples`, as they stand there.
-use sim_cli::{Status, play};
-use std::test::Fail;
+use super::scenes::status_of;
+use sim_cli::Status;
+use std::process::Abort;
 
 const FIRST_RUN: &str =
     r#"# One server `a` and one client `w`, which sends two pings. Every message takes 10 ms.
@@ -550,8 +551,8 @@ const ABORTED_ANSWERS: &str = "place 11 clock 45 all done
 ";
 
 #[test]
-fn plays_the_examples(rt: HostRuntime) -> Result<(), Fail> {
-    let rows = [
+fn plays_the_examples(rt: HostRuntime) {
+    for (input, want) in [
         (FIRST_RUN, FIRST_RUN_ANSWERS),
         (PARTITION, PARTITION_ANSWERS),
         (CRASH_AND_BOUNCE, CRASH_AND_BOUNCE_ANSWERS),
@@ -560,13 +561,8 @@ fn plays_the_examples(rt: HostRuntime) -> Result<(), Fail> {
         (TORN_COMMIT, TORN_COMMIT_ANSWERS),
         (WALK_BACK, WALK_BACK_ANSWERS),
         (ABORTED, ABORTED_ANSWERS),
-    ];
-    for (input, want) in rows {
-        let mut reader = input.as_bytes();
-        let mut written = Vec::new(rt.alloc());
-        let status = play(rt.alloc(), &mut reader, &mut written);
-        assert_eq!(rt; status, Status::Well);
-        assert_eq!(rt; str::from_utf8(written.as_slice())?, want);
+    ] {
+        let status = status_of(rt.alloc(), input.as_bytes(), b"", want.as_bytes());
+        assert_eq!(rt; status, Some(Status::Well), "{want}");
     }
-    Ok(())
 }

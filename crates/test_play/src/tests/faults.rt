@@ -1,5 +1,5 @@
 //! Scenarios that are none, and plays without a script.
-use super::scenes::{FORMAT_1, FORMAT_2, Scene, TWO_PINGS, played, scenario};
+use super::scenes::{FORMAT_1, FORMAT_2, Scene, TWO_PINGS, scenario, status_of};
 use sim_cli::Status;
 use std::alloc::Global;
 use std::process::Abort;
@@ -13,10 +13,9 @@ fn is_bad(rt: &impl Abort, alloc: Global, text: &[u8], want: &str) -> Result<(),
             input.push(b'\n')?;
         }
         input.extend_from_slice(end.as_bytes())?;
-        let (status, written) = played(alloc, input.as_slice());
         let line = format!(in alloc; "scenario fault {want}\n")?;
-        assert_eq!(rt; str::from_utf8(written.as_slice())?, line.as_str());
-        assert!(rt; status == Status::BadScenario, "{want}");
+        let status = status_of(alloc, input.as_slice(), b"", line.as_bytes());
+        assert_eq!(rt; status, Some(Status::BadScenario), "{want}");
     }
     Ok(())
 }
@@ -91,8 +90,9 @@ fn tells_each_fault(rt: HostRuntime) -> Result<(), Fail> {
         is_bad(&rt, alloc, text.as_bytes(), want)?;
     }
     let whole = scenario(alloc, FORMAT_1, TWO_PINGS, 4, 2)?;
-    let (status, written) = played(alloc, whole.as_bytes());
-    assert_eq!(rt; status, Status::Well);
-    assert!(rt; written.is_empty());
+    assert_eq!(rt;
+        status_of(alloc, whole.as_bytes(), b"", b""),
+        Some(Status::Well)
+    );
     Ok(())
 }

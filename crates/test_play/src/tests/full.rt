@@ -1,6 +1,10 @@
 //! Tables that are full: branches, watches, commands, events and held messages.
-use super::scenes::{FORMAT_1, Scene, TWO_PINGS, TWO_SERVERS, lines, plays_at};
+use super::scenes::{
+    FORMAT_1, Scene, TWO_PINGS, TWO_SERVERS, push_lines, push_times, scenario, status_of,
+};
+use sim_cli::Status;
 use std::alloc::{AllocError, Global};
+use std::process::Abort;
 use std::test::Fail;
 
 /// A play that fills a table: a line so many times, and a script; and a line of the answers so many times, and other answers.
@@ -68,34 +72,36 @@ const ROWS: [Full; 5] = [
     },
 ];
 
-/// A text so many times, and then these lines.
-fn repeated(alloc: Global, text: &str, times: u32, more: &str) -> Result<String, AllocError> {
-    let mut whole = String::new(alloc);
-    for _ in 0..times {
-        whole.push_str(text)?;
-    }
-    let more = lines(alloc, more)?;
-    whole.push_str(more.as_str())?;
-    Ok(whole)
+/// The line so many times, and the script.
+fn script_of(alloc: Global, row: &Full) -> Result<String, AllocError> {
+    let mut script = String::from_str(alloc, "---\n")?;
+    push_times(&mut script, row.line, row.times)?;
+    push_lines(&mut script, row.script)?;
+    Ok(script)
 }
 
-/// Each with one checkpoint and one window alone, since these plays are long.
+/// The answer so many times, and the other answers.
+fn answers_of(alloc: Global, row: &Full) -> Result<String, AllocError> {
+    let mut answers = String::new(alloc);
+    push_times(&mut answers, row.answer, row.answers)?;
+    push_lines(&mut answers, row.want)?;
+    Ok(answers)
+}
+
+/// With one checkpoint and one window alone, since these plays are long.
+fn fills(rt: &impl Abort, alloc: Global, row: &Full) -> Result<(), AllocError> {
+    let text = scenario(alloc, FORMAT_1, row.scene, 1024, 2)?;
+    let script = script_of(alloc, row)?;
+    let want = answers_of(alloc, row)?;
+    let status = status_of(alloc, text.as_bytes(), script.as_bytes(), want.as_bytes());
+    assert!(rt; status == Some(Status::Well), "{text}");
+    Ok(())
+}
+
 #[test]
 fn fills_each_table(rt: HostRuntime) -> Result<(), Fail> {
-    let alloc = rt.alloc();
     for row in ROWS {
-        let script = repeated(alloc, row.line, row.times, row.script)?;
-        let want = repeated(alloc, row.answer, row.answers, row.want)?;
-        plays_at(
-            &rt,
-            alloc,
-            FORMAT_1,
-            row.scene,
-            [1024].as_slice(),
-            [2].as_slice(),
-            script.as_str(),
-            want.as_str(),
-        )?;
+        fills(&rt, rt.alloc(), &row)?;
     }
     Ok(())
 }

@@ -1,127 +1,162 @@
 //! Lines that are bad, and lines as they come.
-use super::scenes::{FORMAT_1, TWO_PINGS, lines, played, scenario};
+use super::scenes::{push_times, status_of};
+use super::streams::HEAD;
 use sim_cli::Status;
+use std::alloc::{AllocError, Global};
+use std::process::Abort;
 use std::test::Fail;
 
-/// Lines that are no commands. A carriage return is dropped only before a line's end.
-const BAD: [&[u8]; 61] = [
-    b"   ",
-    b" # step",
-    b"step now",
-    b"Step",
-    b"step\t",
-    b"step\r\r",
-    b"\xff\xfe",
-    b"step \xff",
-    b"tick 1",
-    b"run",
-    b"run x",
-    b"run 1 2",
-    b"run +1",
-    b"run 1234567890",
-    b"back",
-    b"back -1",
-    b"forward a",
-    b"goto",
-    b"goto 1.0",
-    b"rewind 0x1",
-    b"cut 1",
-    b"branch",
-    b"branch a",
-    b"unwatch",
-    b"unwatch 0 1",
-    b"@ step",
-    b"@1",
-    b"@x step",
-    b"@1234567890 step",
-    b"@1 @1 step",
-    b"look at",
-    b"look next w",
-    b"look host",
-    b"look host A",
-    b"look host 1a",
-    b"look host abcdefghijklmnopq",
-    b"look link a",
-    b"look link a w a",
-    b"look probe w",
-    b"look probe w next next",
-    b"crash",
-    b"crash a w",
-    b"hold a",
-    b"trace 0",
-    b"watch",
-    b"watch up",
-    b"watch up a w",
-    b"watch up a or up w",
-    b"watch up a and",
-    b"watch and up a",
-    b"watch up a and and up w",
-    b"watch w.next",
-    b"watch w.next < x",
-    b"watch w.next == 1",
-    b"watch w. next < 1",
-    b"watch w.next.next < 1",
-    b"watch .next < 1",
-    b"watch w.next < 12345678901234567890",
-    b"watch agree next 0",
-    b"watch agree next unless",
-    b"watch up a and up a and up a and up a and up a and up a and up a and up a and up a",
-];
+/// 61 lines that are no commands, and one that is. A carriage return is dropped only before a line's end.
+const BAD: &[u8] = b"   
+ # step
+step now
+Step
+step\t
+step\r\r
+\xff\xfe
+step \xff
+tick 1
+run
+run x
+run 1 2
+run +1
+run 1234567890
+back
+back -1
+forward a
+goto
+goto 1.0
+rewind 0x1
+cut 1
+branch
+branch a
+unwatch
+unwatch 0 1
+@ step
+@1
+@x step
+@1234567890 step
+@1 @1 step
+look at
+look next w
+look host
+look host A
+look host 1a
+look host abcdefghijklmnopq
+look link a
+look link a w a
+look probe w
+look probe w next next
+crash
+crash a w
+hold a
+trace 0
+watch
+watch up
+watch up a w
+watch up a or up w
+watch up a and
+watch and up a
+watch up a and and up w
+watch w.next
+watch w.next < x
+watch w.next == 1
+watch w. next < 1
+watch w.next.next < 1
+watch .next < 1
+watch w.next < 12345678901234567890
+watch agree next 0
+watch agree next unless
+watch up a and up a and up a and up a and up a and up a and up a and up a and up a
+look next
+";
 
 #[test]
 fn refuses_lines_that_are_no_commands(rt: HostRuntime) -> Result<(), Fail> {
-    let alloc = rt.alloc();
-    for line in BAD {
-        let text = scenario(alloc, FORMAT_1, TWO_PINGS, 4, 2)?;
-        let mut input = Vec::from_slice(alloc, text.as_bytes())?;
-        input.extend_from_slice(b"---\n")?;
-        input.extend_from_slice(line)?;
-        input.extend_from_slice(b"\nlook next\n")?;
-        let (status, written) = played(alloc, input.as_slice());
-        assert_eq!(rt; status, Status::Well);
-        assert_eq!(rt;
-            str::from_utf8(written.as_slice())?,
-            "bad line\ndue 0 serial 0 host a start\n"
-        );
-    }
+    let mut want = String::new(rt.alloc());
+    push_times(&mut want, "bad line\n", 61)?;
+    want.push_str("due 0 serial 0 host a start\n")?;
+    let status = status_of(rt.alloc(), HEAD, BAD, want.as_bytes());
+    assert_eq!(rt; status, Some(Status::Well));
     Ok(())
 }
 
-/// A line has at most 256 bytes and is read whatever its spaces; other lines are bad and change nothing.
+/// A scenario, and lines of all forms: a line has at most 256 bytes and is read whatever its spaces; other lines are bad and change
+/// nothing.
+const LINES: &[u8] = b"format = 1
+seed = \"0000000000000000000000000000000000000000000000000000000000000000\"
+protocol = \"echo\"
+tick = 100
+latency_min = 10
+latency_max = 10
+loss = 0
+servers = [\"a\"]
+checkpoint = 4
+window = 2
+[[client]]
+name = \"w\"
+ops = 2
+---\r
+step\r
+# a comment \xff
+
+   
+\xff
+  step  
+back 0000000001
+back 000000001
+look host z
+look host Z
+@0000000000 look
+watch w.next < 00000000000000000001
+unwatch 0
+watch w.next < 0000000000000000001
+";
+
+/// Lines that are long: what they begin with, what follows so many times, and what they end with.
+const LONG: [(&str, &str, u32, &str); 7] = [
+    ("@0 ", " ", 245, "look next\n"),
+    ("@0 ", " ", 244, "look next\n"),
+    ("x", "x", 256, "\n"),
+    ("#", "x", 256, "\n"),
+    ("x", "x", 300_000, "\n"),
+    ("#", "x", 300_000, "\n"),
+    ("back 1", "", 0, ""),
+];
+
+const ANSWERS: &[u8] = b"place 1 clock 0
+bad line
+bad line
+place 2 clock 0
+bad line
+place 1 clock 0
+refused 2 UnknownHost
+bad line
+bad line
+bad line
+refused 10 UnknownWatch
+made 0
+bad line
+due 0 serial 1 host w start
+bad line
+bad line
+place 0 clock 0
+";
+
+fn long_lines(alloc: Global) -> Result<String, AllocError> {
+    let mut text = String::new(alloc);
+    for (start, piece, times, end) in LONG {
+        text.push_str(start)?;
+        push_times(&mut text, piece, times)?;
+        text.push_str(end)?;
+    }
+    Ok(text)
+}
+
 #[test]
 fn takes_lines_as_they_come(rt: HostRuntime) -> Result<(), Fail> {
-    let alloc = rt.alloc();
-    let mut input = Vec::new(alloc);
-    let text = scenario(alloc, FORMAT_1, TWO_PINGS, 4, 2)?;
-    input.extend_from_slice(text.as_bytes())?;
-    input.extend_from_slice(
-        b"---\r\nstep\r\n# a comment \xff\n\n   \n\xff\n  step  \nback 0000000001\nback 000000001\nlook host z\nlook host Z\n",
-    )?;
-    input.extend_from_slice(
-        b"@0000000000 look\nwatch w.next < 00000000000000000001\nunwatch 0\nwatch w.next < 0000000000000000001\n@0 ",
-    )?;
-    for _ in 0..245 {
-        input.push(b' ')?;
-    }
-    input.extend_from_slice(b"look next\n@0 ")?;
-    for _ in 0..244 {
-        input.push(b' ')?;
-    }
-    input.extend_from_slice(b"look next\n")?;
-    for (first, more) in [(b'x', 256), (b'#', 256), (b'x', 300_000), (b'#', 300_000)] {
-        input.push(first)?;
-        for _ in 0..more {
-            input.push(b'x')?;
-        }
-        input.push(b'\n')?;
-    }
-    input.extend_from_slice(b"back 1")?;
-    let (status, written) = played(alloc, input.as_slice());
-    assert_eq!(rt; status, Status::Well);
-    let want = lines(
-        alloc,
-        "place 1 clock 0; bad line; bad line; place 2 clock 0; bad line; place 1 clock 0; refused 2 UnknownHost; bad line; bad line; bad line; refused 10 UnknownWatch; made 0; bad line; due 0 serial 1 host w start; bad line; bad line; place 0 clock 0",
-    )?;
-    assert_eq!(rt; str::from_utf8(written.as_slice())?, want.as_str());
+    let long = long_lines(rt.alloc())?;
+    let status = status_of(rt.alloc(), LINES, long.as_bytes(), ANSWERS);
+    assert_eq!(rt; status, Some(Status::Well));
     Ok(())
 }

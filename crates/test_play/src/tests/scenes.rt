@@ -1,8 +1,8 @@
 //! Scenarios, scripts, and plays of both.
+use super::ports::{Narrow, Pieces};
 use sim_cli::{Status, play};
 use std::alloc::{AllocError, Global};
 use std::process::Abort;
-use std::test::Fail;
 
 const SEED: &str = "0000000000000000000000000000000000000000000000000000000000000000";
 
@@ -15,9 +15,23 @@ pub const FORMAT_2: &str = "format = 2\ndisk_latency = 0\n";
 pub const SLOW_DISKS: &str = "format = 2\ndisk_latency = 5\n";
 
 /// How many events lie between two checkpoints, and how many can be undone by their records. None changes a byte of what is written.
-const CHECKPOINTS: [u32; 5] = [1, 2, 3, 4, 1024];
-
-const WINDOWS: [u32; 3] = [1, 2, 4096];
+const GRAINS: [(u32, u32); 15] = [
+    (1, 1),
+    (1, 2),
+    (1, 4096),
+    (2, 1),
+    (2, 2),
+    (2, 4096),
+    (3, 1),
+    (3, 2),
+    (3, 4096),
+    (4, 1),
+    (4, 2),
+    (4, 4096),
+    (1024, 1),
+    (1024, 2),
+    (1024, 4096),
+];
 
 /// What differs from one scenario to another: its protocol, its latencies (ms) and its loss in a thousand, its servers, how many hosts
 /// these and its client `w` are, the operations of this client, and its links.
@@ -85,47 +99,66 @@ pub fn scenario(
     )
 }
 
-/// The lines that are parted by `; `, each with its end.
-pub fn lines(alloc: Global, parted: &str) -> Result<String, AllocError> {
-    let mut lines = String::new(alloc);
-    for line in parted.split("; ") {
-        lines.push_str(line)?;
-        lines.push('\n')?;
+/// Adds a text so many times.
+pub fn push_times(text: &mut String, piece: &str, times: u32) -> Result<(), AllocError> {
+    for _ in 0..times {
+        text.push_str(piece)?;
     }
-    Ok(lines)
+    Ok(())
 }
 
-/// What is written for an input, and how the play ends.
-pub fn played(alloc: Global, input: &[u8]) -> (Status, Vec<u8>) {
-    let mut reader = input;
-    let mut written = Vec::new(alloc);
-    let status = play(alloc, &mut reader, &mut written);
-    (status, written)
+/// Adds the lines that are parted by `; `, each with its end.
+pub fn push_lines(text: &mut String, parted: &str) -> Result<(), AllocError> {
+    for line in parted.split("; ") {
+        text.push_str(line)?;
+        text.push('\n')?;
+    }
+    Ok(())
 }
 
-/// Plays a script on a scenario, for these checkpoints and windows, and wants these lines.
-pub fn plays_at(
+/// How the play of two texts ends, one after the other, where just this is written.
+pub fn status_of(alloc: Global, head: &[u8], script: &[u8], want: &[u8]) -> Option<Status> {
+    let mut reader = Pieces::new(head, script);
+    reader.most = 65_536;
+    let mut writer = Narrow::wide(want);
+    let status = play(alloc, &mut reader, &mut writer);
+    writer.is_done().then_some(status)
+}
+
+/// Wants that just this is written, whatever the checkpoint and the window.
+fn plays_at_each(
     rt: &impl Abort,
     alloc: Global,
     format: &str,
     scene: Scene,
-    checkpoints: &[u32],
-    windows: &[u32],
     script: &str,
     want: &str,
-) -> Result<(), Fail> {
-    for checkpoint in checkpoints {
-        for window in windows {
-            let mut input = scenario(alloc, format, scene, *checkpoint, *window)?;
-            input.push_str("---\n")?;
-            input.push_str(script)?;
-            let (status, written) = played(alloc, input.as_bytes());
-            let written = str::from_utf8(written.as_slice())?;
-            assert!(rt; status == Status::Well, "{input}");
-            assert_eq!(rt; written, want, "{input}");
-        }
+) -> Result<(), AllocError> {
+    for (checkpoint, window) in GRAINS {
+        let text = scenario(alloc, format, scene, checkpoint, window)?;
+        let status = status_of(alloc, text.as_bytes(), script.as_bytes(), want.as_bytes());
+        assert!(rt; status == Some(Status::Well), "{text}{script}");
     }
     Ok(())
+}
+
+/// The lines of a script, and then back to the start.
+fn script_of(alloc: Global, parted: &str) -> Result<String, AllocError> {
+    let mut script = String::from_str(alloc, "---\n")?;
+    push_lines(&mut script, parted)?;
+    script.push_str("goto 0\nlook\n")?;
+    Ok(script)
+}
+
+/// The lines of the answers, and then those of the start, where all is as it was.
+fn answers_of(alloc: Global, hosts: u32, parted: &str) -> Result<String, AllocError> {
+    let mut answers = String::new(alloc);
+    push_lines(&mut answers, parted)?;
+    let start = format!(in alloc;
+        "place 0 clock 0\nplace 0 clock 0 serial {hosts} net 0 torn 0 pending {hosts} held 0\n"
+    )?;
+    answers.push_str(start.as_str())?;
+    Ok(answers)
 }
 
 /// Plays the lines of a script in each of these formats, and wants these lines, whatever the checkpoint and the window. Then back to
@@ -137,26 +170,11 @@ pub fn plays(
     scene: Scene,
     script: &str,
     want: &str,
-) -> Result<(), Fail> {
-    let hosts = scene.hosts;
-    let mut script = lines(alloc, script)?;
-    script.push_str("goto 0\nlook\n")?;
-    let mut want = lines(alloc, want)?;
-    let opening = format!(in alloc;
-        "place 0 clock 0\nplace 0 clock 0 serial {hosts} net 0 torn 0 pending {hosts} held 0\n"
-    )?;
-    want.push_str(opening.as_str())?;
+) -> Result<(), AllocError> {
+    let script = script_of(alloc, script)?;
+    let want = answers_of(alloc, scene.hosts, want)?;
     for format in formats {
-        plays_at(
-            rt,
-            alloc,
-            *format,
-            scene,
-            CHECKPOINTS.as_slice(),
-            WINDOWS.as_slice(),
-            script.as_str(),
-            want.as_str(),
-        )?;
+        plays_at_each(rt, alloc, *format, scene, script.as_str(), want.as_str())?;
     }
     Ok(())
 }

@@ -1,24 +1,22 @@
+//! Plays whose reader gives, and whose writer takes, a byte at a time, and fails at each call in turn.
 ghost use Rattle.std.specs.Prelude.{IfSome};
 ghost use Rattle.sim_scenario.specs.Hosts.{IsNumbered};
 ghost use Rattle.sim_scenario.specs.Limits.{IsWithinLimits};
 ghost use Rattle.sim_scenario.specs.Seen.{seen};
 
-use sim_book::{Book, Reply};
-use sim_cli::{
-    Status, Tally, WasRead, answer_lines, play, play_nodes, probe_names, protocol_of,
-    read_scenario, set_up,
-};
+use super::ports::{Narrow, Pieces};
+use sim_cli::{Status, Tally, WasRead, play, play_nodes, read_scenario};
 use sim_lines::{Ahead, read_head};
 use sim_protocols::Echo;
 use sim_scenario::ScenarioText;
 use std::alloc::{AllocError, Global};
 use std::io;
-use std::io::{ErrorKind, Read, Write};
+use std::io::Read;
 use std::process::Abort;
 use std::test::Fail;
 
 /// A scenario of the server `a` and the client `w`, which sends two pings of 10 ms, and the line `---`: 14 lines.
-const HEAD: &[u8] =
+pub const HEAD: &[u8] =
     b"format = 1\nseed = \"0000000000000000000000000000000000000000000000000000000000000000\"\nprotocol = \"echo\"\ntick = 100\nlatency_min = 10\nlatency_max = 10\nloss = 0\nservers = [\"a\"]\ncheckpoint = 4\nwindow = 2\n[[client]]\nname = \"w\"\nops = 2\n---\n";
 
 /// The first run: all that can happen in the scenario.
@@ -28,7 +26,7 @@ const FIRST_ANSWERS: &[u8] =
     b"place 1 clock 0\nplace 2 clock 0\nplace 3 clock 10\nplace 4 clock 20\nplace 5 clock 30\nplace 6 clock 40\nrefused 7 Idle\nplace 6 clock 40 serial 6 net 8 torn 0 pending 0 held 0\n";
 
 /// A scenario of a primary, a backup and a client, on disks that take 5 ms; the line `---`; and two lines that are passed over.
-const DISKS_HEAD: &str = r#"format = 2
+const DISKS_HEAD: &[u8] = br#"format = 2
 seed = "000102030405060708090a0b0c0d0e0f101112131415161718191a1b1c1d1e1f"
 protocol = "primary_backup"
 tick = 40
@@ -48,7 +46,7 @@ ops = 2
 "#;
 
 /// A script with each command, of which some are refused, on three branches. Its last line has no end.
-const EACH_COMMAND: &str = r#"look next
+const EACH_COMMAND: &[u8] = br#"look next
 step
 run 5
 branch 6
@@ -103,7 +101,7 @@ up p
 look"#;
 
 /// A line for each of them. Another program than this one gave the same.
-const EACH_ANSWER: &str = r#"due 0 serial 0 host p start
+const EACH_ANSWER: &[u8] = br#"due 0 serial 0 host p start
 place 1 clock 0
 place 6 clock 27
 made 1
@@ -158,41 +156,48 @@ bad line
 place 15 clock 95 serial 21 net 16 torn 0 pending 3 held 0
 "#;
 
-/// An input, and what answers it.
-#[derive(Drop)]
+/// A play: a scenario up to its line `---`, a script, and what answers it.
+#[derive(Clone, Copy)]
 struct Example {
-    input: Vec<u8>,
-    /// How many lines there are before the first command.
-    head_lines: usize,
+    head: &'static [u8],
+    script: &'static [u8],
     answers: &'static [u8],
     /// How often the answers are flushed where each byte takes a read: before each line of the script, and at the end.
     flushes: usize,
 }
 
+const FIRST: Example = Example {
+    head: HEAD,
+    script: FIRST_RUN,
+    answers: FIRST_ANSWERS,
+    flushes: 10,
+};
+
+/// Each command, on slow disks.
+const EACH: Example = Example {
+    head: DISKS_HEAD,
+    script: EACH_COMMAND,
+    answers: EACH_ANSWER,
+    flushes: 56,
+};
+
 impl Example {
-    fn new(
-        alloc: Global,
-        head: &'static [u8],
-        script: &'static [u8],
-        answers: &'static [u8],
-        flushes: usize,
-    ) -> Result<Example, AllocError> {
-        Ok(Example {
-            input: joined(alloc, head, script)?,
-            head_lines: line_ends(head),
-            answers,
-            flushes,
-        })
+    fn reader(&self) -> Pieces<'static> {
+        Pieces::new(self.head, self.script)
+    }
+
+    fn len(&self) -> usize {
+        self.head.len().saturating_add(self.script.len())
     }
 
     /// How many lines answer what so many reads of a byte gave: one for each whole line, and for the rest where the reads came to the end.
     fn answered_lines(&self, reads: usize) -> usize {
-        let input = self.input.as_slice();
-        if reads > input.len() {
+        if reads > self.len() {
             return line_ends(self.answers);
         }
-        let (front, _) = input.split_at(reads.min(input.len()));
-        line_ends(front).saturating_sub(self.head_lines)
+        let reads = reads.saturating_sub(self.head.len());
+        let (front, _) = self.script.split_at(reads.min(self.script.len()));
+        line_ends(front)
     }
 }
 
@@ -201,186 +206,71 @@ fn line_ends(text: &[u8]) -> usize {
     text.iter().filter(|byte| **byte == b'\n').count()
 }
 
-/// The first run, and the script with each command.
-fn examples(alloc: Global) -> Result<Vec<Example>, AllocError> {
-    let first = Example::new(alloc, HEAD, FIRST_RUN, FIRST_ANSWERS, 10)?;
-    let each = Example::new(
-        alloc,
-        DISKS_HEAD.as_bytes(),
-        EACH_COMMAND.as_bytes(),
-        EACH_ANSWER.as_bytes(),
-        56,
-    )?;
-    let mut examples = Vec::new(alloc);
-    examples.push(first)?;
-    examples.push(each)?;
-    Ok(examples)
-}
-
-/// A head and a script.
-fn joined(alloc: Global, head: &[u8], script: &[u8]) -> Result<Vec<u8>, AllocError> {
-    let mut input = Vec::from_slice(alloc, head)?;
-    input.extend_from_slice(script)?;
-    Ok(input)
-}
-
-/// The scenario of the first run, the line `---` and a script.
-fn input(alloc: Global, script: &[u8]) -> Result<Vec<u8>, AllocError> {
-    joined(alloc, HEAD, script)
-}
-
-/// Gives one byte a read. After so many reads it fails once; whoever reads on is given more.
-#[derive(Drop)]
-struct Pieces<'a> {
-    rest: &'a [u8],
-    reads_left: usize,
-}
-
-impl<'a> Pieces<'a> {
-    fn new(rest: &'a [u8]) -> Pieces<'a> {
-        Pieces {
-            rest,
-            reads_left: 100_000,
-        }
-    }
-}
-
-impl Read for Pieces<'_> {
-    fn read(&mut self, buf: &mut [u8]) -> io::Result<usize> {
-        if self.reads_left == 0 {
-            self.reads_left = usize::MAX;
-            return Err(io::Error::from(ErrorKind::Other));
-        }
-        self.reads_left -= 1;
-        if buf.is_empty() || self.rest.is_empty() {
-            return Ok(0);
-        }
-        buf[0] = self.rest[0];
-        self.rest = self.rest.split_at(1).1;
-        Ok(1)
-    }
-}
-
-/// Takes at most so many bytes a write. After so many writes it fails once, as after so many flushes; whoever writes on has more taken.
-#[derive(Drop)]
-struct Narrow {
-    held: Vec<u8>,
-    flushed: usize,
-    most: usize,
-    writes_left: usize,
-    flushes_left: usize,
-}
-
-impl Narrow {
-    fn new(alloc: Global) -> Narrow {
-        Narrow {
-            held: Vec::new(alloc),
-            flushed: 0,
-            most: 1,
-            writes_left: 100_000,
-            flushes_left: 1_000,
-        }
-    }
-}
-
-impl Write for Narrow {
-    fn write(&mut self, buf: &[u8]) -> io::Result<usize> {
-        if self.writes_left == 0 {
-            self.writes_left = usize::MAX;
-            return Err(io::Error::from(ErrorKind::Other));
-        }
-        self.writes_left -= 1;
-        let n = buf.len().min(self.most);
-        self.held.extend_from_slice(buf.split_at(n).0)?;
-        Ok(n)
-    }
-
-    fn flush(&mut self) -> io::Result<()> {
-        if self.flushes_left == 0 {
-            self.flushes_left = usize::MAX;
-            return Err(io::Error::from(ErrorKind::Other));
-        }
-        self.flushes_left -= 1;
-        self.flushed = self.held.len();
-        Ok(())
-    }
-}
-
 #[test]
-fn plays_a_byte_at_a_time(rt: HostRuntime) -> Result<(), Fail> {
-    for example in examples(rt.alloc())?.as_slice() {
-        let mut reader = Pieces::new(example.input.as_slice());
-        let mut writer = Narrow::new(rt.alloc());
+fn plays_a_byte_at_a_time(rt: HostRuntime) {
+    for example in [FIRST, EACH] {
+        let mut reader = example.reader();
+        let mut writer = Narrow::new(example.answers);
         let status = play(rt.alloc(), &mut reader, &mut writer);
-        assert_eq!(rt; status, Status::Well);
-        assert_eq!(rt; status.number(), 0);
-        assert_eq!(rt;
-            str::from_utf8(writer.held.as_slice())?,
-            str::from_utf8(example.answers)?
-        );
+        assert_eq!(rt; (status, status.number()), (Status::Well, 0));
         // Before each line that takes a read, and at the end, all is flushed.
-        assert_eq!(rt; writer.flushed, example.answers.len());
+        assert!(rt; writer.took(example.answers, example.answers.len()) && writer.to_flush == 0);
         assert_eq!(rt;
-            writer.flushes_left,
-            1_000_usize.saturating_sub(example.flushes)
+            1_000_usize.saturating_sub(writer.flushes_left),
+            example.flushes
         );
     }
-    Ok(())
+}
+
+/// A play whose reader fails after so many reads of a byte: whole lines are written, as many as there are to be, and all flushed.
+fn a_read_fails<A: Abort + Drop>(rt: &A, alloc: Global, example: &Example, reads: usize) {
+    let mut reader = example.reader();
+    reader.reads_left = reads;
+    let mut writer = Narrow::new(example.answers);
+    let status = play(alloc, &mut reader, &mut writer);
+    let told = writer.told(example.answers);
+    let is_whole = told.last().is_none_or(|byte| *byte == b'\n');
+    let want = if reads <= example.len() {
+        Status::ReaderFailed
+    } else {
+        Status::Well
+    };
+    assert!(rt;
+        writer.is_same && is_whole && writer.to_flush == writer.to_come.len(),
+        "at read {reads}"
+    );
+    assert_eq!(rt;
+        (status, line_ends(told)),
+        (want, example.answered_lines(reads)),
+        "at read {reads}"
+    );
 }
 
 /// Each read of an input fails in turn, also the one that finds its end.
-fn each_read_fails<R: Abort + Drop>(rt: &R, alloc: Global, example: &Example) -> Result<(), Fail> {
-    let input = example.input.as_slice();
-    for reads in 0..input.len() + 2 {
-        let mut reader = Pieces::new(input);
-        reader.reads_left = reads;
-        let mut writer = Narrow::new(alloc);
-        let status = play(alloc, &mut reader, &mut writer);
-        let told = writer.held.as_slice();
-        // Whole lines, as many as there are to be, and all flushed.
-        assert!(rt; example.answers.starts_with(told), "at read {reads}");
-        assert!(rt;
-            told.last().is_none_or(|byte| *byte == b'\n'),
-            "at read {reads}"
-        );
-        assert_eq!(rt;
-            line_ends(told),
-            example.answered_lines(reads),
-            "at read {reads}"
-        );
-        assert_eq!(rt; writer.flushed, told.len(), "at read {reads}");
-        let want = if reads <= input.len() {
-            Status::ReaderFailed
-        } else {
-            Status::Well
-        };
-        assert_eq!(rt; status, want, "at read {reads}");
-    }
-    Ok(())
-}
-
 #[test]
-fn answers_whole_lines_up_to_a_failed_read(rt: HostRuntime) -> Result<(), Fail> {
-    for example in examples(rt.alloc())?.as_slice() {
-        each_read_fails(&rt, rt.alloc(), example)?;
+fn answers_whole_lines_up_to_a_failed_read(rt: HostRuntime) {
+    for example in [FIRST, EACH] {
+        for reads in 0..example.len().saturating_add(2) {
+            a_read_fails(&rt, rt.alloc(), &example, reads);
+        }
     }
-    Ok(())
 }
 
-/// A play ends as its writer fails after so many writes of a byte.
-fn a_write_fails<A: Abort + Drop, R: Read>(
+/// A play, whose reader gives so many bytes a read, ends as its writer fails after so many writes of a byte.
+fn a_write_fails<A: Abort + Drop>(
     rt: &A,
     alloc: Global,
-    reader: &mut R,
-    answers: &[u8],
+    example: &Example,
+    most: usize,
     writes: usize,
 ) {
-    let mut writer = Narrow::new(alloc);
+    let mut reader = example.reader();
+    reader.most = most;
+    let mut writer = Narrow::new(example.answers);
     writer.writes_left = writes;
-    let status = play(alloc, reader, &mut writer);
-    let (front, rest) = answers.split_at(writes.min(answers.len()));
-    assert_eq!(rt; writer.held.as_slice(), front, "at write {writes}");
-    let want = if rest.is_empty() {
+    let status = play(alloc, &mut reader, &mut writer);
+    assert!(rt; writer.took(example.answers, writes), "at write {writes}");
+    let want = if example.answers.len() <= writes {
         Status::Well
     } else {
         Status::WriterFailed
@@ -388,100 +278,86 @@ fn a_write_fails<A: Abort + Drop, R: Read>(
     assert_eq!(rt; status, want, "at write {writes}");
 }
 
-/// Each write of the answers fails in turn, where they are written line by line.
-fn each_write_fails<A: Abort + Drop>(rt: &A, alloc: Global, example: &Example) {
-    for writes in 0..example.answers.len() + 1 {
-        let mut reader = Pieces::new(example.input.as_slice());
-        a_write_fails(rt, alloc, &mut reader, example.answers, writes);
+/// Each write of the answers fails in turn, where they are written line by line, and where they are gathered.
+#[test]
+fn stops_at_a_failed_write(rt: HostRuntime) {
+    for (example, most) in [(FIRST, 1), (EACH, 1), (FIRST, 100_000)] {
+        for writes in 0..example.answers.len().saturating_add(1) {
+            a_write_fails(&rt, rt.alloc(), &example, most, writes);
+        }
     }
 }
 
-#[test]
-fn stops_at_a_failed_write(rt: HostRuntime) -> Result<(), Fail> {
-    for example in examples(rt.alloc())?.as_slice() {
-        each_write_fails(&rt, rt.alloc(), example);
-    }
-    Ok(())
-}
+const TWO_STEPS: &[u8] = b"place 1 clock 0\nplace 2 clock 0\n";
 
 #[test]
-fn stops_at_a_failed_write_of_gathered_answers(rt: HostRuntime) -> Result<(), Fail> {
-    let input = input(rt.alloc(), FIRST_RUN)?;
-    for writes in 0..FIRST_ANSWERS.len() + 1 {
-        let mut at_once = input.as_slice();
-        a_write_fails(&rt, rt.alloc(), &mut at_once, FIRST_ANSWERS, writes);
-    }
-    Ok(())
-}
-
-#[test]
-fn stops_at_a_failed_flush(rt: HostRuntime) -> Result<(), Fail> {
-    // Where the next line takes a read, at the end of the input, and for a fault.
-    let script = input(rt.alloc(), b"step\nstep\n")?;
-    let rows: [(&[u8], usize, &[u8]); 3] = [
-        (script.as_slice(), 0, b"place 1 clock 0\nplace 2 clock 0\n"),
-        (script.as_slice(), 1, b"place 1 clock 0\nplace 2 clock 0\n"),
-        (b"---\n", 0, b"scenario fault 4 format\n"),
+fn stops_at_a_failed_flush(rt: HostRuntime) {
+    // Where the script takes a read, where its next line does, at the end of the input, and for a fault.
+    let rows: [(&[u8], &[u8], usize, &[u8]); 4] = [
+        (HEAD, b"step\nstep\n", 0, b""),
+        (HEAD, b"step\nstep\n", 1, TWO_STEPS),
+        (HEAD, b"step\nstep\n", 2, TWO_STEPS),
+        (b"---\n", b"", 0, b"scenario fault 4 format\n"),
     ];
-    for (input, flushes, want) in rows {
-        let mut reader = input;
-        let mut writer = Narrow::new(rt.alloc());
+    for (head, script, flushes, want) in rows {
+        let mut reader = Pieces::new(head, script);
+        reader.most = 100_000;
+        let mut writer = Narrow::new(want);
         writer.flushes_left = flushes;
         let status = play(rt.alloc(), &mut reader, &mut writer);
         assert_eq!(rt; status, Status::WriterFailed);
-        assert_eq!(rt; writer.held.as_slice(), want);
+        assert!(rt; writer.took(want, want.len()));
     }
-    Ok(())
 }
 
 #[test]
-fn a_writer_that_takes_nothing_has_failed(rt: HostRuntime) -> Result<(), Fail> {
-    let input = input(rt.alloc(), FIRST_RUN)?;
-    let mut reader = input.as_slice();
-    let mut writer = Narrow::new(rt.alloc());
+fn a_writer_that_takes_nothing_has_failed(rt: HostRuntime) {
+    let mut reader = FIRST.reader();
+    let mut writer = Narrow::new(FIRST_ANSWERS);
     writer.most = 0;
     let status = play(rt.alloc(), &mut reader, &mut writer);
     assert_eq!(rt; status, Status::WriterFailed);
-    assert!(rt; writer.held.is_empty());
-    Ok(())
+    assert!(rt; writer.took(FIRST_ANSWERS, 0));
+}
+
+/// Gives so many marks of a comment, a byte a read.
+#[derive(Clone, Copy)]
+struct Marks {
+    left: usize,
+}
+
+impl Read for Marks {
+    fn read(&mut self, buf: &mut [u8]) -> io::Result<usize> {
+        if buf.is_empty() || self.left == 0 {
+            return Ok(0);
+        }
+        self.left -= 1;
+        buf[0] = b'#';
+        Ok(1)
+    }
 }
 
 #[test]
-fn reads_no_more_than_a_bad_scenario(rt: HostRuntime) -> Result<(), Fail> {
-    let mut long = Vec::new(rt.alloc());
-    for _ in 0..65_700 {
-        long.push(b'#')?;
-    }
+fn reads_no_more_than_a_bad_scenario(rt: HostRuntime) {
     // How much is left of a text, of which one byte is given a read.
-    let rows: [(&[u8], usize, &[u8]); 4] = [
+    let rows: [(&[u8], usize, &[u8]); 3] = [
         (b"", 0, b"scenario fault 4 format\n"),
         (b"---\nstep\n", 5, b"scenario fault 4 format\n"),
         (b"\xff\n---\r\nstep\n", 5, b"scenario fault 2 text\n"),
-        (long.as_slice(), 100, b"scenario fault 1 text\n"),
     ];
     for (input, left, want) in rows {
-        let mut reader = Pieces::new(input);
-        let mut written = Vec::new(rt.alloc());
-        let status = play(rt.alloc(), &mut reader, &mut written);
-        assert_eq!(rt; status, Status::BadScenario);
-        assert_eq!(rt; str::from_utf8(written.as_slice())?, str::from_utf8(want)?);
-        assert_eq!(rt; reader.rest.len(), left);
+        let mut reader = Pieces::new(input, b"");
+        let mut writer = Narrow::new(want);
+        let status = play(rt.alloc(), &mut reader, &mut writer);
+        assert_eq!(rt; (status, reader.rest.len()), (Status::BadScenario, left));
+        assert!(rt; writer.took(want, want.len()));
     }
-    Ok(())
-}
-
-/// Takes all, and holds nothing.
-#[derive(Drop)]
-struct Nowhere;
-
-impl Write for Nowhere {
-    fn write(&mut self, buf: &[u8]) -> io::Result<usize> {
-        Ok(buf.len())
-    }
-
-    fn flush(&mut self) -> io::Result<()> {
-        Ok(())
-    }
+    let mut long = Marks { left: 65_700 };
+    let want = b"scenario fault 1 text\n".as_slice();
+    let mut writer = Narrow::new(want);
+    let status = play(rt.alloc(), &mut long, &mut writer);
+    assert_eq!(rt; (status, long.left), (Status::BadScenario, 100));
+    assert!(rt; writer.took(want, want.len()));
 }
 
 /// The scenario that a reader gives, where it gives one.
@@ -498,43 +374,22 @@ fn read_text<R: Read>(alloc: Global, reader: &mut R, ahead: &mut Ahead) -> Optio
     }
 }
 
-#[test]
-fn leaves_a_book_for_others(rt: HostRuntime) -> Result<(), Fail> {
-    let alloc = rt.alloc();
-    let input = input(alloc, FIRST_RUN)?;
-    let mut reader = input.as_slice();
-    let mut ahead = Ahead::new();
-    let text = read_text(alloc, &mut reader, &mut ahead).expect(&rt, "a scenario");
-    let probes = probe_names(alloc, protocol_of(text.protocol))?;
-    assert_eq!(rt; probes.len(), 2);
-    let (scenario, names) = set_up(text, probes);
-    let mut book = Book::<Echo<Tally>>::new(alloc, &scenario, Tally::new())?;
-    let status = answer_lines(
-        alloc,
-        &mut book,
-        &names,
-        &mut reader,
-        &mut ahead,
-        &mut Nowhere,
-    );
-    assert_eq!(rt; status, Status::Well);
-    let entries = book.into_entries();
-    assert_eq!(rt; entries.len(), 8);
-    let last = entries.as_slice().last().expect(&rt, "an entry");
-    assert!(rt; matches!(&last.reply, Reply::Seen { place: 6, .. }));
-    Ok(())
+/// A name for the first probe.
+fn probes(alloc: Global) -> Result<Vec<String>, AllocError> {
+    let mut probes = Vec::new(alloc);
+    probes.push(String::from_str(alloc, "pings")?)?;
+    Ok(probes)
 }
 
 #[test]
 fn plays_over_nodes_of_a_type(rt: HostRuntime) -> Result<(), Fail> {
     let alloc = rt.alloc();
-    let input = input(alloc, b"step\nlook probe w pings\n")?;
-    let mut reader = input.as_slice();
+    let probes = probes(alloc)?;
+    let mut reader = Pieces::new(HEAD, b"step\nlook probe w pings\n");
     let mut ahead = Ahead::new();
     let text = read_text(alloc, &mut reader, &mut ahead).expect(&rt, "a scenario");
-    let mut probes = Vec::new(alloc);
-    probes.push(String::from_str(alloc, "pings")?)?;
-    let mut written = Vec::new(alloc);
+    let want = b"place 1 clock 0\nw pings 0\n".as_slice();
+    let mut writer = Narrow::new(want);
     let status = play_nodes::<Echo<Tally>, _, _>(
         alloc,
         text,
@@ -542,12 +397,9 @@ fn plays_over_nodes_of_a_type(rt: HostRuntime) -> Result<(), Fail> {
         Tally::new(),
         &mut reader,
         &mut ahead,
-        &mut written,
+        &mut writer,
     );
     assert_eq!(rt; status, Status::Well);
-    assert_eq!(rt;
-        written.as_slice(),
-        b"place 1 clock 0\nw pings 0\n".as_slice()
-    );
+    assert!(rt; writer.took(want, want.len()));
     Ok(())
 }

@@ -1,4 +1,6 @@
 //! Worked searches and sweeps of a run of six steps, also those that are refused.
+ghost use Rattle.std.specs.Prelude.{◌≤◌};
+
 use crate::tests::scenes::{echoes, frozen_run, next_at_most, tallies};
 use sim_echo::Echo;
 use sim_search::{Gate, OpenGate, SearchFault, search, sweep};
@@ -6,10 +8,12 @@ use sim_tally::Tally;
 use sim_tape::Frozen;
 use sim_watch::{Cond, Term};
 use std::alloc::Global;
+use std::process::Abort;
 use std::sync::Wait;
 use std::sync::atomic::AtomicU64;
 use std::sync::atomic::Ordering::SeqCst;
 use std::test::Fail;
+use std::thread::Threads;
 
 // The run of the six steps that can happen.
 fn six_steps(alloc: Global) -> Result<Frozen<Echo<Tally>>, Fail> {
@@ -54,124 +58,159 @@ impl Gate for Counts {
     }
 }
 
-#[test]
-fn places_of_a_run(rt: HostRuntime) -> Result<(), Fail> {
-    let alloc = rt.alloc();
-    let run = six_steps(alloc)?;
-    for workers in [1, 2, 16] {
-        let meters = tallies(alloc, workers)?;
-        let gate = no_counts();
-        let cond = next_at_most(1, 1)?;
-        let found = search(&rt, alloc, &run, 0, 6, &cond, meters, &gate);
-        assert!(rt; found == Ok(Some(4)));
-        assert!(rt; gate.are_even(), "one enter and one leave a piece");
-    }
+// The first place at which the client's next operation is above this, as so many workers find it. Each of the two pieces is entered
+// and left once.
+fn finds<R: Threads + Wait + Sync + Abort>(
+    rt: &R,
+    alloc: Global,
+    run: &Frozen<Echo<Tally>>,
+    workers: u32,
+    most: u64,
+    want: Option<u32>,
+) -> Result<(), Fail>
+    requires { (1 ≤ workers) × (workers ≤ 16) }
+{
+    let cond = next_at_most(1, most)?;
+    let meters = tallies(alloc, workers)?;
+    let gate = no_counts();
+    let found = search(rt, alloc, run, 0, 6, &cond, meters, &gate);
+    assert!(rt; found == Ok(want), "above {most}");
+    assert!(rt; gate.are_even(), "one enter and one leave a piece");
     Ok(())
 }
 
 #[test]
-fn no_place_of_a_run(rt: HostRuntime) -> Result<(), Fail> {
-    let alloc = rt.alloc();
-    let run = six_steps(alloc)?;
+fn places_of_a_run(rt: HostRuntime) -> Result<(), Fail> {
+    let run = six_steps(rt.alloc())?;
     for workers in [1, 2, 16] {
-        let meters = tallies(alloc, workers)?;
-        let gate = no_counts();
-        let cond = next_at_most(1, 3)?;
-        let found = search(&rt, alloc, &run, 0, 6, &cond, meters, &gate);
-        assert!(rt; found == Ok(None));
-        assert!(rt; gate.are_even(), "one enter and one leave a piece");
+        finds(&rt, rt.alloc(), &run, workers, 1, Some(4))?;
+        finds(&rt, rt.alloc(), &run, workers, 3, None)?;
     }
     Ok(())
+}
+
+// A search for a place at which the host is down.
+fn is_refused<R: Threads + Wait + Sync + Abort>(
+    rt: &R,
+    alloc: Global,
+    run: &Frozen<Echo<Tally>>,
+    lo: u64,
+    hi: u64,
+    host: u16,
+) -> Result<SearchFault, Fail> {
+    let up = Cond::new().and(Term::Up(host))?;
+    let meters = tallies(alloc, 1)?;
+    match search(rt, alloc, run, lo, hi, &up, meters, &OpenGate) {
+        Ok(_) => Err(Fail::from("an answer")),
+        Err(why) => Ok(why),
+    }
 }
 
 #[test]
 fn searches_that_are_refused(rt: HostRuntime) -> Result<(), Fail> {
-    let alloc = rt.alloc();
-    let run = six_steps(alloc)?;
-    let up = Cond::new().and(Term::Up(0))?;
-    for (lo, hi) in [(0, 7), (4, 3)] {
-        let meters = tallies(alloc, 1)?;
-        let found = search(&rt, alloc, &run, lo, hi, &up, meters, &OpenGate);
-        assert!(rt; found == Err(SearchFault::BadRange));
+    let run = six_steps(rt.alloc())?;
+    for (lo, hi, host, why) in [
+        (0, 7, 0, SearchFault::BadRange),
+        (4, 3, 0, SearchFault::BadRange),
+        (0, 6, 2, SearchFault::BadCondition),
+    ] {
+        assert_eq!(rt; is_refused(&rt, rt.alloc(), &run, lo, hi, host)?, why);
     }
-    let up = Cond::new().and(Term::Up(2))?;
-    let found = search(&rt, alloc, &run, 0, 6, &up, tallies(alloc, 1)?, &OpenGate);
-    assert!(rt; found == Err(SearchFault::BadCondition));
     Ok(())
 }
+
+// The seeds of a sweep and how many steps their runs have.
+#[derive(Clone, Copy)]
+struct Seeds {
+    first: u64,
+    count: u64,
+    events: u64,
+}
+
+// How a sweep by so many workers ends.
+fn swept<R: Threads + Wait + Sync>(
+    rt: &R,
+    alloc: Global,
+    workers: u32,
+    seeds: Seeds,
+    cond: &Cond,
+) -> Result<Result<Option<(u64, u32)>, SearchFault>, Fail>
+    requires { (1 ≤ workers) × (workers ≤ 16) }
+{
+    let Seeds {
+        first,
+        count,
+        events,
+    } = seeds;
+    let scenario = echoes()?;
+    let meters = tallies(alloc, workers)?;
+    Ok(sweep::<Echo<Tally>, _, _>(
+        rt, alloc, &scenario, first, count, events, cond, meters, &OpenGate,
+    ))
+}
+
+// The seeds, the greatest next operation that is allowed, and what is found.
+const SWEEPS: [(Seeds, u64, Option<(u64, u32)>); 3] = [
+    (
+        Seeds {
+            first: 0,
+            count: 3,
+            events: 6,
+        },
+        1,
+        Some((0, 4)),
+    ),
+    (
+        Seeds {
+            first: 5,
+            count: 3,
+            events: 6,
+        },
+        3,
+        None,
+    ),
+    (
+        Seeds {
+            first: 7,
+            count: 2,
+            events: 3,
+        },
+        1,
+        None,
+    ),
+];
 
 #[test]
 fn seeds_of_echo(rt: HostRuntime) -> Result<(), Fail> {
-    let alloc = rt.alloc();
-    let scenario = echoes()?;
-    for workers in [1, 2, 16] {
-        let meters = tallies(alloc, workers)?;
-        let cond = next_at_most(1, 1)?;
-        let found = sweep::<Echo<Tally>, _, _>(
-            &rt, alloc, &scenario, 0, 3, 6, &cond, meters, &OpenGate,
-        );
-        assert!(rt; found == Ok(Some((0, 4))));
+    for (seeds, most, want) in SWEEPS {
+        let cond = next_at_most(1, most)?;
+        for workers in [1, 2, 16] {
+            let found = swept(&rt, rt.alloc(), workers, seeds, &cond)?;
+            assert_eq!(rt; found, Ok(want));
+        }
     }
     Ok(())
 }
 
-#[test]
-fn sweeps_that_find_nothing(rt: HostRuntime) -> Result<(), Fail> {
-    let alloc = rt.alloc();
-    let scenario = echoes()?;
-    let cond = next_at_most(1, 3)?;
-    let found = sweep::<Echo<Tally>, _, _>(
-        &rt,
-        alloc,
-        &scenario,
-        5,
-        3,
-        6,
-        &cond,
-        tallies(alloc, 2)?,
-        &OpenGate,
-    );
-    assert!(rt; found == Ok(None));
-    let cond = next_at_most(1, 1)?;
-    let found = sweep::<Echo<Tally>, _, _>(
-        &rt,
-        alloc,
-        &scenario,
-        7,
-        2,
-        3,
-        &cond,
-        tallies(alloc, 2)?,
-        &OpenGate,
-    );
-    assert!(rt; found == Ok(None));
-    Ok(())
-}
+// The first seed and how many there are, a host, and why there is no sweep for a place at which it is down.
+const REFUSED: [(u64, u64, u16, SearchFault); 4] = [
+    (u64::MAX, 2, 0, SearchFault::BadRange),
+    (0, 0, 0, SearchFault::BadRange),
+    (0, 4_294_967_297, 0, SearchFault::BadRange),
+    (0, 1, 2, SearchFault::BadCondition),
+];
 
 #[test]
 fn sweeps_that_are_refused(rt: HostRuntime) -> Result<(), Fail> {
-    let alloc = rt.alloc();
-    let scenario = echoes()?;
-    let up = Cond::new().and(Term::Up(0))?;
-    for (first, count) in [(u64::MAX, 2), (0, 0), (0, 4_294_967_297)] {
-        let meters = tallies(alloc, 1)?;
-        let found = sweep::<Echo<Tally>, _, _>(
-            &rt, alloc, &scenario, first, count, 6, &up, meters, &OpenGate,
-        );
-        assert!(rt; found == Err(SearchFault::BadRange));
+    for (first, count, host, why) in REFUSED {
+        let up = Cond::new().and(Term::Up(host))?;
+        let seeds = Seeds {
+            first,
+            count,
+            events: 6,
+        };
+        let found = swept(&rt, rt.alloc(), 1, seeds, &up)?;
+        assert_eq!(rt; found, Err(why));
     }
-    let up = Cond::new().and(Term::Up(2))?;
-    let found = sweep::<Echo<Tally>, _, _>(
-        &rt,
-        alloc,
-        &scenario,
-        0,
-        1,
-        6,
-        &up,
-        tallies(alloc, 1)?,
-        &OpenGate,
-    );
-    assert!(rt; found == Err(SearchFault::BadCondition));
     Ok(())
 }

@@ -1,16 +1,36 @@
-//! Eight sessions at once, and a history that is full.
-ghost use Rattle.std.specs.Prelude.{◌≡◌, All};
+//! Eight sessions at once, a freeze, and a history that is full.
+ghost use Rattle.std.specs.Prelude.{◌≡◌, [], All, IfOk};
 ghost use Rattle.sim_shared.specs.Sharing.{IsAt};
 
-use super::shared::{Echoes, echoes, place_of};
-use sim_book::{Command, MOST_ENTRIES, NotTaken};
+use sim_book::{Book, Command, MOST_ENTRIES, NotTaken, Reply};
+use sim_echo::Echo;
 use sim_shared::{History, Receipt, Seat, Shared};
+use sim_tally::Tally;
 use sim_world::Query;
 use std::alloc::Global;
 use std::sync::{Mutex, Wait};
 use std::test::Fail;
 use std::thread;
 use std::thread::Threads;
+use test_support::TWO_ECHOES;
+
+type Echoes = Echo<Tally>;
+
+// A book of one server and one client of echo, which has two operations.
+fn echoes(alloc: Global) -> Result<Book<Echoes>, Fail>
+    ensures { IfOk result (λ b. b.history ≡ []) }
+{
+    let scenario = TWO_ECHOES.scenario()?;
+    Ok(Book::new(alloc, &scenario, Tally::new())?)
+}
+
+// The place that a reply tells.
+fn place_of(reply: &Reply) -> Option<u32> {
+    match reply {
+        Reply::Moved { place, .. } | Reply::Seen { place, .. } => Some(*place),
+        _ => None,
+    }
+}
 
 const SESSIONS: u8 = 8;
 
@@ -115,21 +135,39 @@ fn are_all_entries(history: &History<Echoes>, kept: &[Receipt]) -> bool {
     })
 }
 
+// On a branch of its own each session is where its own commands led: a step ahead, or back at the start. Session 7 made the
+// branches first.
+fn is_led(receipt: &Receipt) -> bool {
+    let before = if receipt.session == 7 { 7 } else { 0 };
+    let place = match receipt.number.wrapping_sub(before) % 3 {
+        0 => 0,
+        _ => 1,
+    };
+    place_of(&receipt.reply) == Some(place)
+}
+
 #[test]
 fn a_branch_for_each_session(rt: HostRuntime) -> Result<(), Fail> {
     let (history, kept) = walk_all(&rt, rt.alloc(), Ground::OneForEach)?;
-    assert_eq!(rt; history.entries.len(), 16_007);
-    assert_eq!(rt; kept.len(), 16_000);
-    assert!(rt; are_all_entries(&history, &kept));
+    let is_all = history.entries.len() == 16_007 && kept.len() == 16_000;
+    assert!(rt; is_all && are_all_entries(&history, &kept));
+    assert!(rt; kept.iter().all(|receipt| is_led(receipt)));
     Ok(())
 }
 
 #[test]
 fn one_branch_for_all_sessions(rt: HostRuntime) -> Result<(), Fail> {
     let (history, kept) = walk_all(&rt, rt.alloc(), Ground::OneForAll)?;
-    assert_eq!(rt; history.entries.len(), 16_007);
-    assert_eq!(rt; kept.len(), 16_000);
-    assert!(rt; are_all_entries(&history, &kept));
+    let is_all = history.entries.len() == 16_007 && kept.len() == 16_000;
+    assert!(rt; is_all && are_all_entries(&history, &kept));
+    Ok(())
+}
+
+#[test]
+fn a_freeze_gives_a_run(rt: HostRuntime) -> Result<(), Fail> {
+    let (shared, mut seats) = Shared::new(rt.alloc(), echoes(rt.alloc())?, 1)?;
+    let (receipt, frozen) = shared.freeze(&rt, &mut seats[0], 0)?;
+    assert!(rt; receipt.number == 1 && frozen.is_some());
     Ok(())
 }
 
