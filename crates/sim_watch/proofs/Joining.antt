@@ -165,7 +165,7 @@ module _ {State Msg : Type 0} (node : NodeLaws State Msg) (w : World State Msg) 
       let j = get_or js i d in
       ap (λ xs. holds_on node s xs w) (drop_more js i d lt)
       ∙ next_end j.begins s (holds_on node (term_holds node j.term w) (drop (i + 1) js) w)
-          (holds_on node (s && term_holds node j.term w) (drop (i + 1) js) w) e
+      (holds_on node (s && term_holds node j.term w) (drop (i + 1) js) w) e
 
   -- one term more
   pub on_more : (js : List JoinedTerm) (i : ℕ) (d : JoinedTerm) (s : Bool) → i < length js → ((get_or js i d).begins && s) ≡ false →
