@@ -37,6 +37,21 @@ pub use meter::Meter;
 pub use node::{Node, there_and_back};
 pub use std::alloc::AllocError as NoMemory;
 
+/// The most hosts of a cluster, which has at least 2: one server and one client.
+pub const MAX_HOSTS: u16 = 32;
+
+/// The most operations of a client, which has at least 1.
+pub const MAX_OPERATIONS: u32 = 1_000;
+
+/// The most messages in flight and held together. A message sent beyond them is dropped.
+pub const MAX_MESSAGES: u32 = 4_096;
+
+/// The longest latency of a message, and of a sync of a disk, in milliseconds; the shortest is 0.
+pub const MAX_LATENCY: u32 = 60_000;
+
+/// The greatest loss, in messages of a thousand.
+pub const MAX_LOSS: u32 = 1_000;
+
 /// The most bytes of one write, which has at least 1.
 pub const MAX_WRITE_BYTES: usize = 64;
 
