@@ -13,7 +13,7 @@ use Rattle.sim_world.specs.declared.Event.{Event}
 use Rattle.sim_world.specs.declared.Event.TheVariants as event
 use Rattle.sim_world.specs.World.{World}
 use Rattle.sim_world.specs.Acts.{acts}
-use Rattle.sim_world.specs.Index.{Kept, InHand}
+use Rattle.sim_world.specs.Records.{EventRecord as Kept, InHand}
 use Rattle.sim_world.specs.Events.{Rules, run, start}
 use Rattle.sim_tape.specs.declared.entry.Entry.{Entry}
 use Rattle.sim_tape.specs.Places.{events_of, world_at, acts_at, IsAt, AreCheckpoints, Answers, AreRecords}

@@ -8,7 +8,7 @@ use Rattle.sim_node.specs.Node.{NodeLaws, NodeRecords}
 use Rattle.sim_world.specs.declared.Event.{Event}
 use Rattle.sim_world.specs.World.{Scenario}
 use Rattle.sim_world.specs.Limits.{IsScenario}
-use Rattle.sim_world.specs.Index.{Kept, InHand}
+use Rattle.sim_world.specs.Records.{EventRecord as Kept, InHand}
 use Rattle.sim_world.specs.Events.{Rules, rules, start}
 use Rattle.sim_tape.specs.declared.entry.Entry.{Entry}
 use Rattle.sim_tape.specs.Places.{IsAt, AreCheckpoints}

@@ -9,8 +9,7 @@ use Rattle.sim_world.specs.declared.Event.{Event}
 use Rattle.sim_world.specs.World.{World}
 use Rattle.sim_world.specs.Acts.{acts}
 use Rattle.sim_world.specs.Events.{Rules}
-use Rattle.sim_world.specs.Index.{Kept, InHand, LeadsBack}
-use Rattle.sim_world.specs.Records.{back, AnswersFor}
+use Rattle.sim_world.specs.Records.{EventRecord as Kept, InHand, LeadsBack, back, AnswersFor}
 use Rattle.sim_world.specs.Undone.{is_reaction, taken_back}
 
 module _ {U : Type 0} where

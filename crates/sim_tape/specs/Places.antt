@@ -9,8 +9,7 @@ use Rattle.sim_world.specs.declared.Event.TheVariants as event
 use Rattle.sim_world.specs.World.{World}
 use Rattle.sim_world.specs.Acts.{acts}
 use Rattle.sim_world.specs.Events.{Rules, run, start}
-use Rattle.sim_world.specs.Index.{Kept, InHand, LeadsBack}
-use Rattle.sim_world.specs.Records.{back}
+use Rattle.sim_world.specs.Records.{EventRecord as Kept, InHand, LeadsBack, back}
 use Rattle.sim_world.specs.Undone.{is_reaction}
 use Rattle.sim_tape.specs.declared.entry.Entry.{Entry}
 use Rattle.sim_tape.specs.Tape.{Tape}

@@ -4,7 +4,7 @@ ghost use Rattle.std.specs.Vec.{vec_capacity};
 ghost use Rattle.sim_world.specs.Clock.{clock_after};
 ghost use Rattle.sim_world.specs.Acts.{turns_of, turned_by};
 ghost use Rattle.sim_world.specs.Events.{rules, next};
-ghost use Rattle.sim_world.specs.Index.{Kept, LeadsBack};
+ghost use Rattle.sim_world.specs.Records.{EventRecord as Kept, LeadsBack};
 ghost use Rattle.circular_buffer.specs.Buffer.{buffer, keep_last, last_item};
 ghost use Rattle.sim_tape.specs.Circle.{around, turned, IsKept, IsTakenBack};
 
@@ -29,7 +29,7 @@ pub(crate) struct Ring<N: Node> {
 impl<N: Node> Model for Ring<N> {
     ghost use Rattle.std.specs.Prelude.{◌+◌, ◌≤◌, ◌<◌, length};
     ghost use Rattle.std.specs.Vec.{vec_capacity};
-    ghost use Rattle.sim_world.specs.Index.{Kept};
+    ghost use Rattle.sim_world.specs.Records.{EventRecord as Kept};
     ghost use Rattle.circular_buffer.specs.Buffer.{Buffer, buffer, keep_last};
     ghost use Rattle.sim_tape.specs.Circle.{around};
 

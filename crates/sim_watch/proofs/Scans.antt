@@ -10,7 +10,7 @@ use Rattle.sim_world.specs.declared.Event.{Event}
 use Rattle.sim_world.specs.declared.Event.TheVariants as event
 use Rattle.sim_world.specs.declared.Refusal.{Refusal}
 use Rattle.sim_world.specs.World.{World, Scenario}
-use Rattle.sim_world.specs.Index.{InHand}
+use Rattle.sim_world.specs.Records.{InHand}
 use Rattle.sim_world.specs.Events.{Rules, rules, run, start, next, after, refusal_of, unless_refused}
 use Rattle.sim_tape.specs.Tape.{Tape, with_world, at}
 use Rattle.sim_tape.specs.Places.{IsAt}

@@ -4,7 +4,7 @@ use Rattle.sim_node.specs.Node.{NodeLaws}
 use Rattle.sim_world.specs.declared.Event.{Event}
 use Rattle.sim_world.specs.declared.Event.TheVariants as event
 use Rattle.sim_world.specs.World.{Scenario}
-use Rattle.sim_world.specs.Index.{InHand}
+use Rattle.sim_world.specs.Records.{InHand}
 use Rattle.sim_world.specs.Events.{rules}
 use Rattle.sim_tape.specs.Tape.{Tape}
 use Rattle.sim_tape.specs.Places.{IsAt}

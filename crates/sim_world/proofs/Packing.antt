@@ -11,10 +11,11 @@ use Rattle.sim_world.specs.declared.host.Host.{Host}
 use Rattle.sim_world.specs.declared.packed_hosts.KeptHost.{KeptHost}
 use Rattle.sim_node.specs.declared.Setup.{Setup}
 use Rattle.sim_world.specs.World.{Occurrence, Scenario, World}
-use Rattle.sim_world.specs.Index.{InHand, IsIndex}
-use Rattle.sim_world.specs.Held.{Held, IsHeld, in_hand}
-use Rattle.sim_world.specs.Packed.{HostsInHand, hosts_in, timers_in, IsPacked}
-use Rattle.sim_world.specs.Sound.{IsSound}
+use Rattle.sim_world.specs.inside.Index.{IsIndex}
+use Rattle.sim_world.specs.Records.{InHand}
+use Rattle.sim_world.specs.inside.Held.{Held, IsHeld, in_hand}
+use Rattle.sim_world.specs.inside.Packed.{HostsInHand, hosts_in, timers_in, IsPacked}
+use Rattle.sim_world.specs.inside.Sound.{IsSound}
 use Rattle.sim_world.proofs.Copying.{index-of-same}
 
 -- the host of a kept one and a disk

@@ -3,8 +3,8 @@ use Rattle.std.specs.Prelude.{◌≡◌, length}
 use Rattle.std.proofs.Common.{refl}
 use Rattle.std.proofs.lemmas.List.{length-set}
 use Rattle.sim_node.specs.Node.{NodeRecords}
-use Rattle.sim_world.specs.declared.undo.Small.{Small}
-use Rattle.sim_world.specs.declared.undo.Small.TheVariants as small
+use Rattle.sim_world.specs.declared.small.Small.{Small}
+use Rattle.sim_world.specs.declared.small.Small.TheVariants as small
 use Rattle.sim_world.specs.World.{World}
 use Rattle.sim_world.specs.Records.{back_one}
 

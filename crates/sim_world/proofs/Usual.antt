@@ -6,13 +6,13 @@ use Rattle.std.proofs.lemmas.List.{map_push}
 use Rattle.std.proofs.lemmas.List.Sums.{sum_by-append}
 use Rattle.sim_disk.specs.Disk as disk
 use Rattle.sim_node.specs.Node.{NodeRecords}
-use Rattle.sim_world.specs.declared.kept.Compact.{Compact}
-use Rattle.sim_world.specs.declared.undo.Small.{Small}
-use Rattle.sim_world.specs.declared.undo.Small.TheVariants as small
+use Rattle.sim_world.specs.declared.trail.Compact.{Compact}
+use Rattle.sim_world.specs.declared.small.Small.{Small}
+use Rattle.sim_world.specs.declared.small.Small.TheVariants as small
 use Rattle.sim_world.specs.World.{World}
 use Rattle.sim_world.specs.Records.{Fits, back, FitsOne, back_one}
 use Rattle.sim_world.specs.Undone.{is_reaction}
-use Rattle.sim_world.specs.Trail.{unboxed, synced_change, drawn_change, acted_change, sent_changes, changes_of}
+use Rattle.sim_world.specs.inside.Trail.{unboxed, synced_change, drawn_change, acted_change, sent_changes, changes_of}
 use Rattle.sim_world.proofs.Trails.{back-append, Fits-front}
 use Rattle.sim_world.proofs.Places.{places-back_one}
 

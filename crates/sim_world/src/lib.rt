@@ -1,38 +1,34 @@
 //! A cluster in one world of discrete events.
 #![tactic(auto)]
 
-mod acted;
-mod apply;
+mod changes;
 mod cluster;
 mod copy;
 mod crash;
 mod effects;
+mod events;
 mod faults;
-mod further;
-mod glance;
 mod host;
 mod index;
-mod kept;
-mod look;
 mod occurrence;
 mod packed;
 mod packed_hosts;
 mod parts;
-mod record;
-mod saved;
 mod scenario;
+mod small;
 mod start;
 mod step;
 mod take_back;
 mod trail;
 mod undo;
+mod views;
 mod world;
 
 pub use packed::PackedWorld;
-pub use record::Undo;
 pub use scenario::{BadLimits, Scenario};
 use sim_links::LinkState;
 pub use std::alloc::AllocError as NoMemory;
+pub use undo::Undo;
 pub use world::World;
 
 /// What is done to the hosts and links from outside.

@@ -1,18 +1,18 @@
 //! Worlds that are kept for later.
 ghost use Rattle.std.specs.Prelude.{◌≡◌, IfOk, OnOk};
 ghost use Rattle.sim_world.specs.Acts.{running, copied_by};
-ghost use Rattle.sim_world.specs.Held.{IsHeld, in_hand};
-ghost use Rattle.sim_world.specs.Index.{IsIndex};
+ghost use Rattle.sim_world.specs.inside.Held.{IsHeld, in_hand};
+ghost use Rattle.sim_world.specs.inside.Index.{IsIndex};
 
 use crate::NoMemory;
 use crate::cluster::Cluster;
 use crate::copy::copied_occurrence;
 use crate::index::Index;
-use crate::kept::Trail;
 use crate::occurrence::Occurrence;
 use crate::packed_hosts::PackedHosts;
 use crate::parts::Parts;
 use crate::scenario::Scenario;
+use crate::trail::Trail;
 use crate::world::World;
 use sim_disk::SpareDisks;
 use sim_links::PackedLinks;
@@ -38,8 +38,8 @@ pub struct PackedWorld<N: Node> {
 }
 
 impl<N: Node> Model for PackedWorld<N> {
-    ghost use Rattle.sim_world.specs.Index.{InHand};
-    ghost use Rattle.sim_world.specs.Packed.{IsPacked};
+    ghost use Rattle.sim_world.specs.Records.{InHand};
+    ghost use Rattle.sim_world.specs.inside.Packed.{IsPacked};
 
     ghost Value = { InHand N N.Msg };
 

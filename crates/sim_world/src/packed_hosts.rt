@@ -2,7 +2,7 @@
 ghost use Rattle.std.specs.Prelude.{◌≡◌, ◌<◌, length, map, slice_get, Some, is_some, IfOk, OnOk};
 ghost use Rattle.std.specs.List.{count_by};
 ghost use Rattle.sim_world.specs.Acts.{copied_by, copied_if};
-ghost use Rattle.sim_world.specs.Packed.{hosts_in, timers_in};
+ghost use Rattle.sim_world.specs.inside.Packed.{hosts_in, timers_in};
 
 use crate::NoMemory;
 use crate::host::Host;
@@ -28,7 +28,7 @@ pub(crate) struct PackedHosts<S> {
 
 impl<S> Model for PackedHosts<S> {
     ghost use Rattle.std.specs.Prelude.{◌≡◌, length};
-    ghost use Rattle.sim_world.specs.Packed.{HostsInHand, hosts_in, timers_in};
+    ghost use Rattle.sim_world.specs.inside.Packed.{HostsInHand, hosts_in, timers_in};
 
     ghost Value = { HostsInHand S };
 

@@ -20,8 +20,8 @@ use Rattle.sim_world.specs.declared.Query.TheVariants as query
 use Rattle.sim_world.specs.declared.Kind.TheVariants as kind
 use Rattle.sim_world.specs.declared.View.{View}
 use Rattle.sim_world.specs.declared.View.TheVariants as view
-use Rattle.sim_world.specs.declared.undo.Small.{Small}
-use Rattle.sim_world.specs.declared.undo.Small.TheVariants as small
+use Rattle.sim_world.specs.declared.small.Small.{Small}
+use Rattle.sim_world.specs.declared.small.Small.TheVariants as small
 use Rattle.sim_world.specs.World.{Body, Occurrence, World, host_at}
 use Rattle.sim_world.specs.Events.{Rules, start, run}
 use Rattle.sim_world.specs.Looks.{looked}

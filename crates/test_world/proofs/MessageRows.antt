@@ -15,8 +15,8 @@ use Rattle.sim_world.specs.declared.Event.TheVariants as event
 use Rattle.sim_world.specs.declared.Fault.TheVariants as fault
 use Rattle.sim_world.specs.declared.Query.TheVariants as query
 use Rattle.sim_world.specs.declared.View.TheVariants as view
-use Rattle.sim_world.specs.declared.undo.Small.{Small}
-use Rattle.sim_world.specs.declared.undo.Small.TheVariants as small
+use Rattle.sim_world.specs.declared.small.Small.{Small}
+use Rattle.sim_world.specs.declared.small.Small.TheVariants as small
 use Rattle.sim_world.specs.World.{Body, Occurrence, World, is_full}
 use Rattle.sim_world.specs.Events.{Rules, start, run}
 use Rattle.sim_world.specs.Looks.{looked}

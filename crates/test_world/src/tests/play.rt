@@ -1,7 +1,6 @@
 //! A run that is gone through act by act, and back by its records.
 ghost use Rattle.std.specs.Prelude.{◌≡◌, ◌-◌, ◌<◌, ◌≤◌, IfOk};
-ghost use Rattle.sim_world.specs.Index.{LeadsBack};
-ghost use Rattle.sim_world.specs.Records.{back};
+ghost use Rattle.sim_world.specs.Records.{LeadsBack, back};
 
 use sim_links::LinkState;
 use sim_node::Node;

@@ -4,7 +4,7 @@ use Rattle.std.proofs.lemmas.List.{take_all, take_more, length_push, map-append}
 use Rattle.sim_world.specs.declared.host.Host.{Host}
 use Rattle.sim_world.specs.declared.packed_hosts.KeptHost.{KeptHost}
 use Rattle.sim_world.specs.Acts.{copied_by}
-use Rattle.sim_world.specs.Packed.{hosts_in, timers_in}
+use Rattle.sim_world.specs.inside.Packed.{hosts_in, timers_in}
 use Rattle.sim_world.proofs.Copying.{counted-more, work-more}
 use Rattle.sim_world.proofs.Packing.{kept-more}
 use Rattle.sim_world.proofs.packed_hosts.kept_hosts.Goals as goal

@@ -1,6 +1,6 @@
 use Rattle.std.proofs.Common.{◌≡◌, ◌+◌, map, take, length, is_some}
 use Rattle.std.specs.List.{count_by}
-use Rattle.sim_world.specs.Packed.{hosts_in, timers_in}
+use Rattle.sim_world.specs.inside.Packed.{hosts_in, timers_in}
 use Rattle.sim_world.proofs.packed_hosts.kept_hosts.Given as goal
 
 abbrev pub invariant-loop-i : goal.invariant-loop-i

@@ -1,5 +1,5 @@
 use Rattle.std.proofs.Common.{◌≡◌, [], ap, ◌∙◌, arith}
-use Rattle.sim_world.specs.Index.{Kept}
+use Rattle.sim_world.specs.Records.{EventRecord as Kept}
 use Rattle.circular_buffer.specs.Buffer.{Buffer, buffer}
 use Rattle.sim_tape.proofs.ring.Ring.take_over.Goals as goal
 use Rattle.sim_tape.proofs.ring.Ring.take_over.Goals.{then-self-spent, else-self-spent}

@@ -2,11 +2,11 @@ use Rattle.std.proofs.Common.{◌+◌, ◌≡◌, ◌<◌, ◌≤◌, None, leng
 use Rattle.sim_world.specs.Acts.{turns_of, turned_by, reactions_of}
 use Rattle.sim_world.specs.Clock.{clock_after}
 use Rattle.sim_world.specs.Events.{rules, after, refusal_of}
-use Rattle.sim_world.specs.Held.{IsHeld}
-use Rattle.sim_world.specs.Index.{LeadsBack, changing_host}
-use Rattle.sim_world.specs.Records.{AnswersFor}
-use Rattle.sim_world.specs.Room.{IsReady}
-use Rattle.sim_world.specs.Sound.{IsLawfulEvent}
+use Rattle.sim_world.specs.inside.Held.{IsHeld}
+use Rattle.sim_world.specs.inside.Index.{changing_host}
+use Rattle.sim_world.specs.Records.{LeadsBack, AnswersFor}
+use Rattle.sim_world.specs.inside.Room.{IsReady}
+use Rattle.sim_world.specs.inside.Sound.{IsLawfulEvent}
 use Rattle.sim_world.proofs.Readies.{ready_of}
 use Rattle.sim_world.proofs.Applied.{changing_there, applied_answers, applied_sound, applied_clock, applied_on, applied_leads}
 use Rattle.sim_world.proofs.cluster.Cluster.apply.Goals as goal

@@ -1,7 +1,7 @@
 use Rattle.std.proofs.Common.{◌∙◌, ap, is_some}
 use Rattle.std.specs.List.{count_by}
 use Rattle.sim_world.specs.Acts.{copied_by}
-use Rattle.sim_world.specs.Held.{in_hand}
+use Rattle.sim_world.specs.inside.Held.{in_hand}
 use Rattle.sim_world.proofs.Packing.{hand-same, packed-same, world-same}
 use Rattle.sim_world.proofs.cluster.Cluster.pack.Goals as goal
 

@@ -3,9 +3,9 @@ use Rattle.sim_queue.specs.Pending.{first}
 use Rattle.sim_world.specs.declared.Event.TheVariants as event
 use Rattle.sim_world.specs.Acts.{acts, turned_if}
 use Rattle.sim_world.specs.Events.{rules, stepped, next, refusal_of}
-use Rattle.sim_world.specs.Held.{IsHeld}
-use Rattle.sim_world.specs.Room.{IsReady}
-use Rattle.sim_world.specs.Sound.{IsLawfulStep}
+use Rattle.sim_world.specs.inside.Held.{IsHeld}
+use Rattle.sim_world.specs.inside.Room.{IsReady}
+use Rattle.sim_world.specs.inside.Sound.{IsLawfulStep}
 use Rattle.sim_world.proofs.Readies.{ready_of}
 use Rattle.sim_world.proofs.Applied.{changing_there, applied_next, applied_sound}
 use Rattle.sim_world.proofs.cluster.Cluster.step_for_good.Goals as goal

@@ -1,5 +1,5 @@
 use Rattle.std.proofs.Common.{◌∙◌, ap, subst, sym}
-use Rattle.sim_world.specs.Held.{IsHeld, in_hand}
+use Rattle.sim_world.specs.inside.Held.{IsHeld, in_hand}
 use Rattle.sim_world.proofs.packed.PackedWorld.open.Goals as goal
 
 pub invariant_of-result : goal.invariant_of-result

@@ -1,6 +1,6 @@
 use Rattle.std.proofs.Common.{◌≡◌, ◌∙◌, ◌+◌, ◌<◌, ◌++◌, ◌∷◌, [], ap, sym, length, take, arith}
 use Rattle.std.proofs.lemmas.List.{take_all, take_more, map-append}
-use Rattle.sim_world.specs.Packed.{timers_in}
+use Rattle.sim_world.specs.inside.Packed.{timers_in}
 use Rattle.sim_world.proofs.packed_hosts.PackedHosts.timers.Goals as goal
 
 pub loop-kept-preserved : goal.loop-kept-preserved

@@ -1,5 +1,5 @@
 use Rattle.std.proofs.Common.{◌≡◌, take}
-use Rattle.sim_world.specs.Packed.{timers_in}
+use Rattle.sim_world.specs.inside.Packed.{timers_in}
 use Rattle.sim_world.proofs.packed_hosts.PackedHosts.timers.Given as goal
 
 abbrev pub invariant-loop-kept : goal.invariant-loop-kept

@@ -1,8 +1,8 @@
 use Rattle.std.proofs.Common.{None, ap, sym, subst, ◌∙◌}
 use Rattle.std.proofs.lemmas.Result.{on_ok_weaker}
 use Rattle.sim_streams.specs.Word.{word}
-use Rattle.sim_world.specs.Crashing.{disk_crashed}
-use Rattle.sim_world.specs.Index.{IsIndex}
+use Rattle.sim_world.specs.inside.Crashing.{disk_crashed}
+use Rattle.sim_world.specs.inside.Index.{IsIndex}
 use Rattle.sim_world.specs.World.{with_node}
 use Rattle.sim_world.proofs.Crashings.{index_crashed}
 use Rattle.sim_world.proofs.Plain.{seeded}

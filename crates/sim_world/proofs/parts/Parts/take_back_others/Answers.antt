@@ -1,9 +1,9 @@
 use Rattle.std.proofs.Common.{◌≡◌, ◌∙◌, [], ◌∷◌, ◌++◌, List, length, map, sym, ap, subst}
-use Rattle.sim_world.specs.declared.undo.Small.{Small}
+use Rattle.sim_world.specs.declared.small.Small.{Small}
 use Rattle.sim_world.specs.Records.{Fits, back, back_one}
 use Rattle.sim_node.specs.Work.{Work}
 use Rattle.sim_world.specs.Undone.{taken_back}
-use Rattle.sim_world.specs.Trail.{unboxed}
+use Rattle.sim_world.specs.inside.Trail.{unboxed}
 use Rattle.sim_world.proofs.Trails.{Fits-pop, back-push}
 use Rattle.sim_world.proofs.Undoing.{taken_back-push}
 use Rattle.sim_world.proofs.Usual.{others_popped}

@@ -1,7 +1,7 @@
 use Rattle.std.proofs.Common.{◌≡◌, length, map}
-use Rattle.sim_world.specs.declared.undo.Small.{Small}
+use Rattle.sim_world.specs.declared.small.Small.{Small}
 use Rattle.sim_world.specs.Records.{Fits, back}
-use Rattle.sim_world.specs.Trail.{unboxed}
+use Rattle.sim_world.specs.inside.Trail.{unboxed}
 use Rattle.sim_world.specs.Undone.{taken_back}
 use Rattle.sim_world.proofs.parts.Parts.take_back_others.Given as goal
 

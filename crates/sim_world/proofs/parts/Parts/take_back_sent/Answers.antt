@@ -1,7 +1,7 @@
 use Rattle.std.proofs.Common.{◌∙◌, ℕ, ◌-◌, ◌<◌, length, sym, ap, subst, arith}
-use Rattle.sim_world.specs.declared.undo.Small.TheVariants as small
+use Rattle.sim_world.specs.declared.small.Small.TheVariants as small
 use Rattle.sim_world.specs.Records.{Fits, FitsOne, back, back_one}
-use Rattle.sim_world.specs.Trail.{sent_changes}
+use Rattle.sim_world.specs.inside.Trail.{sent_changes}
 use Rattle.sim_world.proofs.Plain.{seeded}
 use Rattle.sim_world.proofs.Places.{places-back_one}
 use Rattle.sim_world.proofs.Usual.{sent_fits, sent_back}

@@ -1,6 +1,6 @@
 use Rattle.std.proofs.Common.{◌≡◌, length}
 use Rattle.sim_world.specs.Records.{Fits, back}
-use Rattle.sim_world.specs.Trail.{sent_changes}
+use Rattle.sim_world.specs.inside.Trail.{sent_changes}
 use Rattle.sim_world.proofs.parts.Parts.take_back_sent.Given as goal
 
 abbrev pub invariant-loop-left : goal.invariant-loop-left

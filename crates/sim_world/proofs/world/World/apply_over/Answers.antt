@@ -2,7 +2,7 @@ use Rattle.std.proofs.Common.{◌+◌, ◌≤◌, sym, ap, subst, ◌∙◌}
 use Rattle.sim_world.specs.Acts.{reactions_of, turns_of, turned_by}
 use Rattle.sim_world.specs.Clock.{clock_after}
 use Rattle.sim_world.specs.Events.{rules}
-use Rattle.sim_world.specs.Held.{IsHeld, in_hand}
+use Rattle.sim_world.specs.inside.Held.{IsHeld, in_hand}
 use Rattle.sim_world.specs.Records.{AnswersFor}
 use Rattle.sim_world.proofs.Applied.{can_from, young_from}
 use Rattle.sim_world.proofs.world.World.apply_over.Goals as goal

@@ -2,7 +2,7 @@ use Rattle.std.proofs.Common.{◌≡◌, ◌+◌, Some, sym, ap, subst, ◌∙�
 use Rattle.sim_world.specs.declared.Event.TheVariants as event
 use Rattle.sim_world.specs.Acts.{acts, turned_if}
 use Rattle.sim_world.specs.Events.{rules, next}
-use Rattle.sim_world.specs.Held.{IsHeld, in_hand}
+use Rattle.sim_world.specs.inside.Held.{IsHeld, in_hand}
 use Rattle.sim_world.proofs.Applied.{can_from, young_from}
 use Rattle.sim_world.proofs.world.World.step_for_good.Goals as goal
 

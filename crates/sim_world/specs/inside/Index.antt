@@ -1,0 +1,82 @@
+-- What the code keeps beside a world so that it need not look for it: counts of messages, and each host's pending timer.
+use Rattle.std.specs.Prelude.{◌≡◌, ◌≢◌, ℕ, ◌+◌, ◌-◌, ◌<◌, ◌≤◌, List, [], ◌∷◌, length, map, Option, Some, None, slice_index_or, slice_set}
+use Rattle.std.specs.List.{filter}
+use Rattle.sim_queue.specs.declared.Item.{Item}
+use Rattle.sim_queue.specs.Pending.{first}
+use Rattle.sim_world.specs.declared.Event.{Event}
+use Rattle.sim_world.specs.declared.Event.TheVariants as event
+use Rattle.sim_world.specs.declared.Fault.{Fault}
+use Rattle.sim_world.specs.declared.Fault.TheVariants as fault
+use Rattle.sim_node.specs.declared.Setup.{Setup}
+use Rattle.sim_world.specs.declared.index.Beside.{Beside}
+use Rattle.sim_world.specs.declared.index.Index.{Index}
+use Rattle.sim_world.specs.World.{Scenario, Body, Occurrence, World, is_timer_of, in_flight, held_messages}
+use Rattle.sim_world.specs.inside.Sound.{IsSound}
+
+-- a list of what an option has
+abbrev pub listed : {A : Type 0} → Option A → List A
+listed None = []
+listed (Some x) = x ∷ []
+
+-- the serials of the pending timers of a host
+abbrev pub timers_of : {Msg : Type 0} → ℕ → List (Item (Occurrence Msg)) → List ℕ
+timers_of h items = map (λ x. x.serial) (filter (is_timer_of h) items)
+
+-- the count of messages in flight, and the timers, once an occurrence of a host is no longer pending
+abbrev pub flight_without : {Msg : Type 0} → Body Msg → ℕ → ℕ
+flight_without (Body.Message sender msg) count = count - 1
+flight_without _ count = count
+
+-- a message in flight is counted
+abbrev pub IsCounted : {Msg : Type 0} → Body Msg → ℕ → Type 0
+IsCounted (Body.Message sender msg) count = 0 < count
+IsCounted _ count = Unit {0}
+
+abbrev pub timers_without : {Msg : Type 0} → ℕ → Body Msg → List (Option ℕ) → List (Option ℕ)
+timers_without h Body.Timer timers = slice_set timers h None
+timers_without h _ timers = timers
+
+-- the one host whose timer an event can change: that of a step, of a crash, of a bounce; else any, as 0
+abbrev pub first_host : {Msg : Type 0} → Option (Item (Occurrence Msg)) → ℕ
+first_host None = 0
+first_host (Some x) = x.body.host
+
+abbrev pub stopped_host : Fault → ℕ
+stopped_host (fault.Crash h) = h
+stopped_host (fault.Bounce h) = h
+stopped_host _ = 0
+
+abbrev pub changing_host : {State Msg : Type 0} → Event → World State Msg → ℕ
+changing_host event.Step w = first_host (first w.queue.items)
+changing_host (event.Advance to) w = 0
+changing_host (event.Fault f) w = stopped_host f
+
+-- what an event can change of an index: the counts, and the timer of one host
+abbrev pub beside_of : Index → ℕ → Beside
+beside_of index h = record {
+  in_flight = index.in_flight;
+  held = index.held;
+  host = h;
+  timer = slice_index_or index.timers.items h None;
+}
+
+-- the counts are those of the world, and each host has at most one pending timer, whose serial is kept
+pub record IsIndexOf {State Msg : Type 0} (flying waiting : ℕ) (serials : List (Option ℕ)) (w : World State Msg) : Type 0 where
+  pub in_flight : flying ≡ in_flight w
+  pub held : waiting ≡ held_messages w
+  pub few : flying + waiting ≤ 4096
+  pub hosts : length serials ≡ length w.hosts
+  pub timers : (h : ℕ) → h < length w.hosts → timers_of h w.queue.items ≡ listed (slice_index_or serials h None)
+
+abbrev pub IsIndex : {State Msg : Type 0} → Index → World State Msg → Type 0
+IsIndex index w = IsIndexOf index.in_flight index.held index.timers.items w
+
+-- After `age` events of a run of the scenario a world is sound, and this stood beside it; the timers of all hosts but one are those of a
+-- later world.
+pub record IsBefore {State Msg : Type 0} (told : State → Setup) (beside : Beside) (s : Scenario) (age : ℕ) (before later : World State Msg) : Type 0 where
+  pub sound : IsSound told s age before
+  pub there : beside.host < length later.hosts
+  pub in_flight : beside.in_flight ≡ in_flight before
+  pub held : beside.held ≡ held_messages before
+  pub timer : timers_of beside.host before.queue.items ≡ listed beside.timer
+  pub timers : (h : ℕ) → h ≢ beside.host → timers_of h before.queue.items ≡ timers_of h later.queue.items
