@@ -16,7 +16,8 @@ use Rattle.sim_world.specs.declared.Fault.{Fault}
 use Rattle.sim_world.specs.declared.Fault.TheVariants as fault
 use Rattle.sim_world.specs.World.{World, Body, Occurrence, input_of, host_at, drawn, with_node, with_disk, without, is_timer_of, timed, held_back, made_stable, one_way, both_ways, on_release}
 use Rattle.sim_world.specs.Events.{Rules, sent_over, effect, effects, reaction, happened_to, stepped_by, crash_of, crashed, booted, faulted, after, asked}
-use Rattle.sim_world.specs.inside.Index.{timers_of, first_host, changing_host}
+use Rattle.sim_world.specs.inside.Index.{timers_of, changing_host}
+use Rattle.sim_world.specs.Acts.{first_host}
 use Rattle.sim_world.proofs.Rises.{first-in}
 use Rattle.sim_world.proofs.FirstTakenOut.{without_other}
 use Rattle.sim_world.proofs.Sends.{sent_any, open_any, wrote_any}

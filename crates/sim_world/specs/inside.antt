@@ -8,6 +8,5 @@ pub mod Giving
 pub mod Trail
 pub mod Rest
 pub mod DiskWork
-pub mod Arrivals
 pub mod Purge
 pub mod Crashing

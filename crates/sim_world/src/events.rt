@@ -5,7 +5,7 @@ ghost use Rattle.sim_queue.specs.Pending.{first};
 ghost use Rattle.sim_world.specs.World.{at_time, host_at};
 ghost use Rattle.sim_world.specs.declared.Event.TheVariants as event;
 ghost use Rattle.sim_world.specs.Events.{rules, after, next, refusal_of, stepped};
-ghost use Rattle.sim_world.specs.Acts.{acts, reactions_of, turns_of, turned_by, turned_if};
+ghost use Rattle.sim_world.specs.Acts.{first_host, acts, reactions_of, turns_of, turned_by, turned_if};
 ghost use Rattle.sim_world.specs.Clock.{clock_after};
 ghost use Rattle.sim_world.specs.Memory.{is_for_stopped};
 ghost use Rattle.sim_world.specs.inside.Index.{IsIndex, beside_of, stopped_host, changing_host};
@@ -52,31 +52,6 @@ impl<N: Node> Parts<N> {
         trail.push(Compact::Timed(self.clock))?;
         self.clock = to;
         Ok(())
-    }
-
-    // A fault.
-    #[inline(never)]
-    fn fail(
-        &mut self,
-        alloc: Global,
-        sc: &Scenario,
-        index: &mut Index,
-        trail: &mut Trail<N>,
-        fault: Fault,
-        meter: &mut N::Meter,
-    ) -> Result<(), NoMemory>
-        requires can { refusal_of (rules N.laws N.PROBES sc.now) (Event.Fault fault) self.old.world ≡ None }
-        requires seed { self.old.seed ≡ sc.now.seed }
-        requires ready { IsReady N.told sc.now.setup self.old.world }
-        requires index { IsIndex index.old self.old.world }
-        ensures world { OnOk result (self.new ≡ record self.old { world = after (rules N.laws N.PROBES sc.now) (Event.Fault fault) self.old.world }) }
-        ensures stopped { IsTrue (is_for_stopped (Event.Fault fault) self.old.world) → IsOk result }
-        ensures trail { OnOk result (Extends N.records trail.old self.old.world trail.new self.new.world) }
-        ensures lawful { OnOk result (IsLawfulEvent N.told (rules N.laws N.PROBES sc.now) (Event.Fault fault) self.old.world) }
-        ensures index { OnOk result (IsIndex index.new self.new.world) }
-        ensures work { OnOk result (N.Meter.work meter.new ≡ turned_by (turns_of self.old.world (Event.Fault fault)) (N.Meter.work meter.old)) }
-    {
-        self.fault(alloc, sc, index, trail, fault, meter)
     }
 
     // An event. The record gets its small changes alone, and what the event can change of the index as it stood before.
@@ -130,7 +105,7 @@ impl<N: Node> Parts<N> {
             Event::Fault(fault) => {
                 undo.taken = None;
                 undo.beside = index.beside(stopped_by(fault));
-                self.fail(alloc, sc, index, &mut undo.trail, fault, meter)?;
+                self.fault(alloc, sc, index, &mut undo.trail, fault, meter)?;
                 Ok(())
             }
         }
@@ -181,7 +156,7 @@ impl<N: Node> Cluster<N> {
         Ok(())
     }
 
-    // A step that can happen, of which no record is kept. Answers the host for which it was.
+    // A step that can happen, without a record. Also returns its host.
     #[inline(always)]
     fn step_for_good(&mut self, alloc: Global, meter: &mut N::Meter) -> Result<u16, NoMemory>
         requires held { IsHeld N.told self.old }
@@ -189,10 +164,13 @@ impl<N: Node> Cluster<N> {
         requires young { self.old.age < 65536 }
         ensures held { OnOk result (IsHeld N.told self.new) }
         ensures next { OnOk result (next (rules N.laws N.PROBES self.old.scenario) self.old.parts.world event.Step ≡ Some self.new.parts.world) }
+        ensures host { IfOk result (λ h. h ≡ first_host (first self.old.parts.world.queue.items)) }
         ensures there { IfOk result (λ h. h < 32) }
         ensures others { IfOk result (λ h. (k : ℕ) → k ≢ h → host_at k self.new.parts.world ≡ host_at k self.old.parts.world) }
         ensures scenario { OnOk result (self.new.scenario ≡ self.old.scenario) }
         ensures age { OnOk result (self.new.age ≡ self.old.age + 1) }
+        ensures clock { OnOk result (self.new.parts.world.clock ≡ clock_after event.Step self.old.parts.world) }
+        ensures on { OnOk result (self.old.parts.world.clock ≤ self.new.parts.world.clock) }
         ensures stopped { IsFalse (acts self.old.parts.world event.Step) → IsOk result }
         ensures work { OnOk result (N.Meter.work meter.new ≡ turned_if (acts self.old.parts.world event.Step) (N.Meter.work meter.old)) }
     {
@@ -251,7 +229,7 @@ impl<N: Node> World<N> {
         ensures scenario { IfOk result (λ r. r.0.scenario ≡ self.scenario) }
         ensures age { IfOk result (λ r. r.0.age ≡ self.age + 1) }
         ensures leads { IfOk result (λ r. LeadsBack N.told N.records r.1 r.0) }
-        ensures acted { IfOk result (λ r. count_by is_reaction r.1.changes ≡ (if acts self.world event then 1 else 0)) }
+        ensures acted { IfOk result (λ r. count_by is_reaction r.1.changes ≡ reactions_of self.world event) }
         ensures work { OnOk result (N.Meter.work meter.new ≡ turned_by (turns_of self.world event) (N.Meter.work meter.old)) }
     {
         let World { mut cluster } = self;
@@ -279,7 +257,7 @@ impl<N: Node> World<N> {
         ensures scenario { IfOk result (λ w. w.scenario ≡ self.scenario) }
         ensures age { IfOk result (λ w. w.age ≡ self.age + 1) }
         ensures leads { IfOk result (λ w. LeadsBack N.told N.records undo.new w) }
-        ensures acted { OnOk result (count_by is_reaction undo.new.changes ≡ (if acts self.world event then 1 else 0)) }
+        ensures acted { OnOk result (count_by is_reaction undo.new.changes ≡ reactions_of self.world event) }
         ensures work { OnOk result (N.Meter.work meter.new ≡ turned_by (turns_of self.world event) (N.Meter.work meter.old)) }
     {
         let World { mut cluster } = self;
@@ -288,8 +266,8 @@ impl<N: Node> World<N> {
         Ok(World { cluster })
     }
 
-    /// As `apply` of a step, of which no record is kept: it can't be taken back. It takes less time, and no memory for a record. With
-    /// the world comes the host for which it was: all others are as they were. The only error is want of memory; nothing is left then.
+    /// As `apply` of a step, without a record: it can't be taken back. It is faster, and needs no memory for a record. Also returns
+    /// the host of the first pending occurrence; no other host changes. The only error is want of memory; nothing is left then.
     #[inline(always)]
     pub fn step_for_good(
         self,
@@ -299,6 +277,9 @@ impl<N: Node> World<N> {
         requires can { IsSome (next (rules N.laws N.PROBES self.scenario) self.world event.Step) }
         requires young { self.age < 65536 }
         ensures next { IfOk result (λ r. next (rules N.laws N.PROBES self.scenario) self.world event.Step ≡ Some r.0.world) }
+        ensures clock { IfOk result (λ r. r.0.world.clock ≡ clock_after event.Step self.world) }
+        ensures on { IfOk result (λ r. self.world.clock ≤ r.0.world.clock) }
+        ensures host { IfOk result (λ r. r.1 ≡ first_host (first self.world.queue.items)) }
         ensures there { IfOk result (λ r. r.1 < 32) }
         ensures others { IfOk result (λ r. (h : ℕ) → h ≢ r.1 → host_at h r.0.world ≡ host_at h self.world) }
         ensures stopped { IsFalse (acts self.world event.Step) → IsOk result }

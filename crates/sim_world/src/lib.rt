@@ -1,4 +1,49 @@
-//! A cluster in one world of discrete events.
+//! A cluster of hosts, run as a world of discrete events.
+//!
+//! One event at a time changes a world: a step takes the first pending occurrence, an advance moves
+//! the clock, a fault crashes a host or changes a link. The same scenario and the same events always
+//! give the same world, and the record of an event takes it back exactly.
+//!
+//! # Main types
+//!
+//! * [`World`]: what the crates above hold. It boxes a `Cluster` and keeps it sound. Contracts see
+//!   the world's value, its scenario and its age (`InHand` in `specs/Records.antt`).
+//! * `Cluster`: the `Parts`, an `Index`, the shared scenario, the age, and memory to use again.
+//! * `Parts`: the world proper. The clock, the streams of words, the queue, the links, the hosts.
+//! * `Index`: counts of messages, and the serial of each host's timer. The parts determine it; it
+//!   stands beside them so that no step searches the queue.
+//! * [`Undo`]: the record of one event. It has what a step took out of the queue (`Taken`), a
+//!   `Trail`, and the entries of the index that the event may have changed (`Beside`).
+//! * `Trail`: the small changes of one event, in order.
+//! * [`PackedWorld`]: a world kept for later in less memory, as a checkpoint is.
+//!
+//! # The life of an event
+//!
+//! 1. [`World::can`] says whether it can happen (`views.rt`).
+//! 2. [`World::apply`] clears the trail, saves the entries of the index, and calls one of three:
+//!    `step` (`step.rt`), `advance` (`events.rt`), `fault` (`faults.rt`, `crash.rt`).
+//! 3. A step pops the first occurrence. If its host runs, a sync makes writes stable, the host draws
+//!    a word, its node reacts, and the effects are carried out in order (`effects.rt`).
+//! 4. Each primitive change of the parts (`changes.rt`) updates the index and pushes one small
+//!    change onto the trail.
+//! 5. [`World::undo`] takes the changes back from the last to the first, each kind by a function of
+//!    its own (`take_back.rt`), puts back what the step took out, and restores the index.
+//!
+//! [`World::step_for_good`] is a step without a record.
+//!
+//! # Why the trail has so many places
+//!
+//! Most steps do the same few things in the same order: a sync, a word, a reaction, messages, writes
+//! with a sync, a timer. The trail keeps these in fields of its own (`trail.rt`, `trail/`), so the
+//! record of such a step needs no memory, and a run forward and back is fast. Anything else, or
+//! anything out of this order, goes into a vector. Contracts see one list of small changes.
+//!
+//! # Where to begin
+//!
+//! Read `specs/World.antt` (what a world is) and `specs/Events.antt` (what each event makes of it):
+//! these two are the simulator. `specs/Records.antt` says what a record is and when it leads back.
+//! Callers also need `Limits`, `Clock`, `Acts`, `Memory`, `Looks`, `Seeds` and `Undone`. The files in
+//! `specs/inside/` serve the private functions: bounds, the index, the parts of a trail.
 #![tactic(auto)]
 
 mod changes;
@@ -30,6 +75,18 @@ use sim_links::LinkState;
 pub use std::alloc::AllocError as NoMemory;
 pub use undo::Undo;
 pub use world::World;
+
+/// The longest tick in milliseconds; the shortest is 1.
+pub const MAX_TICK: u32 = 60_000;
+
+/// The most milliseconds by which one `Event::Advance` moves the clock.
+pub const MAX_ADVANCE: u64 = 60_000;
+
+/// The most events between two checkpoints of a tape; the fewest is 1.
+pub const MAX_INTERVAL: u32 = 1_024;
+
+/// The most events of a tape that their records can undo; the fewest is 1.
+pub const MAX_WINDOW: u32 = 4_096;
 
 /// What is done to the hosts and links from outside.
 #[derive(Clone, Copy, Debug, PartialEq, Eq)]

@@ -1,3 +1,4 @@
+//! The small changes of a world, as contracts see them.
 use crate::occurrence::Occurrence;
 use sim_disk::DiskUndo;
 use sim_links::LinkUndo;

@@ -16,7 +16,7 @@ use crate::occurrence::Occurrence;
 use crate::parts::Parts;
 use crate::scenario::Scenario;
 use crate::world::World;
-use crate::{Coming, Event, Fault, Kind, Query, Refusal, View};
+use crate::{Coming, Event, Fault, Kind, MAX_ADVANCE, Query, Refusal, View};
 use sim_node::{Input, Node};
 use sim_queue::Queue;
 
@@ -62,10 +62,10 @@ impl Scenario {
 }
 
 // Whether the clock can go on to a time (ms): it is no earlier, at most 60,000 ms later, and nothing is due before it.
-fn is_good_advance<M>(clock: u64, queue: &Queue<Occurrence<M>>, to: u64) -> bool
+fn can_go_on<M>(clock: u64, queue: &Queue<Occurrence<M>>, to: u64) -> bool
     ensures { result ≡ can_go_on clock queue.now.items to }
 {
-    if to < clock || 60_000 < to - clock {
+    if to < clock || MAX_ADVANCE < to - clock {
         return false;
     }
     match queue.first() {
@@ -115,7 +115,7 @@ fn step_refusal<M>(queue: &Queue<Occurrence<M>>) -> Option<Refusal>
 fn advance_refusal<M>(clock: u64, queue: &Queue<Occurrence<M>>, to: u64) -> Option<Refusal>
     ensures { result ≡ (if can_go_on clock queue.now.items to then None else Some Refusal.BadAdvance) }
 {
-    if is_good_advance(clock, queue, to) {
+    if can_go_on(clock, queue, to) {
         return None;
     }
     Some(Refusal::BadAdvance)

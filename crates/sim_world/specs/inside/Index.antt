@@ -10,6 +10,7 @@ use Rattle.sim_world.specs.declared.Fault.TheVariants as fault
 use Rattle.sim_node.specs.declared.Setup.{Setup}
 use Rattle.sim_world.specs.declared.index.Beside.{Beside}
 use Rattle.sim_world.specs.declared.index.Index.{Index}
+use Rattle.sim_world.specs.Acts.{first_host}
 use Rattle.sim_world.specs.World.{Scenario, Body, Occurrence, World, is_timer_of, in_flight, held_messages}
 use Rattle.sim_world.specs.inside.Sound.{IsSound}
 
@@ -22,7 +23,7 @@ listed (Some x) = x ∷ []
 abbrev pub timers_of : {Msg : Type 0} → ℕ → List (Item (Occurrence Msg)) → List ℕ
 timers_of h items = map (λ x. x.serial) (filter (is_timer_of h) items)
 
--- the count of messages in flight, and the timers, once an occurrence of a host is no longer pending
+-- the count of messages in flight, once an occurrence is no longer pending
 abbrev pub flight_without : {Msg : Type 0} → Body Msg → ℕ → ℕ
 flight_without (Body.Message sender msg) count = count - 1
 flight_without _ count = count
@@ -32,20 +33,18 @@ abbrev pub IsCounted : {Msg : Type 0} → Body Msg → ℕ → Type 0
 IsCounted (Body.Message sender msg) count = 0 < count
 IsCounted _ count = Unit {0}
 
+-- the timers, once an occurrence of a host is no longer pending
 abbrev pub timers_without : {Msg : Type 0} → ℕ → Body Msg → List (Option ℕ) → List (Option ℕ)
 timers_without h Body.Timer timers = slice_set timers h None
 timers_without h _ timers = timers
 
--- the one host whose timer an event can change: that of a step, of a crash, of a bounce; else any, as 0
-abbrev pub first_host : {Msg : Type 0} → Option (Item (Occurrence Msg)) → ℕ
-first_host None = 0
-first_host (Some x) = x.body.host
-
+-- the host that a crash or a bounce stops, else any, as 0
 abbrev pub stopped_host : Fault → ℕ
 stopped_host (fault.Crash h) = h
 stopped_host (fault.Bounce h) = h
 stopped_host _ = 0
 
+-- the one host whose timer an event can change: that of a step, of a crash, of a bounce; else any, as 0
 abbrev pub changing_host : {State Msg : Type 0} → Event → World State Msg → ℕ
 changing_host event.Step w = first_host (first w.queue.items)
 changing_host (event.Advance to) w = 0

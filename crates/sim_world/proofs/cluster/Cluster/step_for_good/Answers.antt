@@ -1,13 +1,14 @@
-use Rattle.std.proofs.Common.{◌≡◌, ◌+◌, ◌<◌, None, Some, sym, ap, subst, ◌∙◌, arith}
+use Rattle.std.proofs.Common.{◌≡◌, ◌+◌, ◌<◌, ◌≤◌, None, Some, sym, ap, subst, ◌∙◌, arith}
 use Rattle.sim_queue.specs.Pending.{first}
 use Rattle.sim_world.specs.declared.Event.TheVariants as event
-use Rattle.sim_world.specs.Acts.{acts, turned_if}
+use Rattle.sim_world.specs.Acts.{first_host, acts, turned_if}
+use Rattle.sim_world.specs.Clock.{clock_after}
 use Rattle.sim_world.specs.Events.{rules, stepped, next, refusal_of}
 use Rattle.sim_world.specs.inside.Held.{IsHeld}
 use Rattle.sim_world.specs.inside.Room.{IsReady}
 use Rattle.sim_world.specs.inside.Sound.{IsLawfulStep}
 use Rattle.sim_world.proofs.Readies.{ready_of}
-use Rattle.sim_world.proofs.Applied.{changing_there, applied_next, applied_sound}
+use Rattle.sim_world.proofs.Applied.{changing_there, applied_next, applied_sound, applied_clock, applied_on}
 use Rattle.sim_world.proofs.cluster.Cluster.step_for_good.Goals as goal
 
 pub step_for_good-requires-clause-ready : goal.step_for_good-requires-clause-ready
@@ -81,3 +82,37 @@ returns-clause-age g c =
 pub returns-clause-work : goal.returns-clause-work
 returns-clause-work g c =
     c.in_ok-host.ensures.work ∙ ap (λ k. turned_if (acts k.parts.world event.Step) (g.N.Meter.Meter.work c.args.meter.now)) c.self.view_is
+
+pub returns-clause-host : goal.returns-clause-host
+returns-clause-host g c =
+    c.in_ok-host.ensures.host ∙ ap (λ k. first_host (first k.parts.world.queue.items)) c.self.view_is
+
+pub returns-clause-clock : goal.returns-clause-clock
+returns-clause-clock g c =
+    let i = c.self.inside in
+    let laws = g.N.Node.laws in
+    let probes = g.N.Node.PROBES in
+    let told = g.N.Node.told in
+    let held = subst (λ k. IsHeld told k) (sym c.self.view_is) c.requires.held in
+    let can = subst (λ k. refusal_of (rules laws probes k.scenario) event.Step k.parts.world ≡ None) (sym c.self.view_is) c.requires.can in
+    let young = subst (λ k. k.age < 65536) (sym c.self.view_is) c.requires.young in
+    let v = c.in_ok-host.ensures in
+    let is = ap (λ z. z.world) v.world ∙ ap (λ s. stepped (rules laws probes s) i.parts.world) c.deref.ensures in
+    let law = subst (λ s. IsLawfulStep told (rules laws probes s) (first i.parts.world.queue.items) i.parts.world) c.deref.ensures v.lawful in
+    subst (λ k. c.step_for_good.new.self.world.clock ≡ clock_after event.Step k.parts.world) c.self.view_is
+    (applied_clock told laws probes i.scenario.value i.age i.parts.world held.sound c.step_for_good.new.self.world event.Step young can is law)
+
+pub returns-clause-on : goal.returns-clause-on
+returns-clause-on g c =
+    let i = c.self.inside in
+    let laws = g.N.Node.laws in
+    let probes = g.N.Node.PROBES in
+    let told = g.N.Node.told in
+    let held = subst (λ k. IsHeld told k) (sym c.self.view_is) c.requires.held in
+    let can = subst (λ k. refusal_of (rules laws probes k.scenario) event.Step k.parts.world ≡ None) (sym c.self.view_is) c.requires.can in
+    let young = subst (λ k. k.age < 65536) (sym c.self.view_is) c.requires.young in
+    let v = c.in_ok-host.ensures in
+    let is = ap (λ z. z.world) v.world ∙ ap (λ s. stepped (rules laws probes s) i.parts.world) c.deref.ensures in
+    let law = subst (λ s. IsLawfulStep told (rules laws probes s) (first i.parts.world.queue.items) i.parts.world) c.deref.ensures v.lawful in
+    subst (λ k. k.parts.world.clock ≤ c.step_for_good.new.self.world.clock) c.self.view_is
+    (applied_on told laws probes i.scenario.value i.age i.parts.world held.sound c.step_for_good.new.self.world event.Step young can is law)

@@ -1,9 +1,8 @@
 use Rattle.std.proofs.Common.{sym, ap, ◌∙◌}
 use Rattle.sim_queue.specs.Pending.{first}
 use Rattle.sim_world.specs.World.{host_at, on_world}
-use Rattle.sim_world.specs.Acts.{turned_if}
+use Rattle.sim_world.specs.Acts.{turned_if, first_host}
 use Rattle.sim_world.specs.Events.{rules, happened, begun, stepped_by}
-use Rattle.sim_world.specs.inside.Index.{first_host}
 use Rattle.sim_world.proofs.FirstGiven.{given_first, stepped_first, acts_first}
 use Rattle.sim_world.proofs.OneHost.{host_after_step}
 use Rattle.sim_world.proofs.Plain.{seeded, world}

@@ -1,6 +1,8 @@
-use Rattle.std.proofs.Common.{◌≡◌, ◌+◌, Some, sym, ap, subst, ◌∙◌}
+use Rattle.std.proofs.Common.{◌≡◌, ◌+◌, ◌≤◌, Some, sym, ap, subst, ◌∙◌}
 use Rattle.sim_world.specs.declared.Event.TheVariants as event
-use Rattle.sim_world.specs.Acts.{acts, turned_if}
+use Rattle.sim_queue.specs.Pending.{first}
+use Rattle.sim_world.specs.Acts.{first_host, acts, turned_if}
+use Rattle.sim_world.specs.Clock.{clock_after}
 use Rattle.sim_world.specs.Events.{rules, next}
 use Rattle.sim_world.specs.inside.Held.{IsHeld, in_hand}
 use Rattle.sim_world.proofs.Applied.{can_from, young_from}
@@ -40,3 +42,18 @@ pub returns-clause-work : goal.returns-clause-work
 returns-clause-work g c =
     let is = ap (λ k. in_hand k) c.deref_mut.ensures.value ∙ c.self.view_is in
     c.in_ok-host.ensures.work ∙ ap (λ k. turned_if (acts k.world event.Step) (g.N.Meter.Meter.work c.args.meter.now)) is
+
+pub returns-clause-clock : goal.returns-clause-clock
+returns-clause-clock g c =
+    let is = ap (λ k. in_hand k) c.deref_mut.ensures.value ∙ c.self.view_is in
+    c.in_ok-host.ensures.clock ∙ ap (λ k. clock_after event.Step k.world) is
+
+pub returns-clause-on : goal.returns-clause-on
+returns-clause-on g c =
+    let is = ap (λ k. in_hand k) c.deref_mut.ensures.value ∙ c.self.view_is in
+    subst (λ k. k.world.clock ≤ c.step_for_good.new.self.parts.world.clock) is c.in_ok-host.ensures.on
+
+pub returns-clause-host : goal.returns-clause-host
+returns-clause-host g c =
+    let is = ap (λ k. in_hand k) c.deref_mut.ensures.value ∙ c.self.view_is in
+    c.in_ok-host.ensures.host ∙ ap (λ k. first_host (first k.world.queue.items)) is
