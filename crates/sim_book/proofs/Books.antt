@@ -17,33 +17,17 @@ use Rattle.sim_book.specs.declared.Refusal.TheVariants as refusal
 use Rattle.sim_book.specs.declared.Reply.{Reply}
 use Rattle.sim_book.specs.declared.Reply.TheVariants as reply
 use Rattle.sim_book.specs.Book.{Branch, Book, branch_of, branch, with_branch, empty_branch}
-use Rattle.sim_book.specs.Answer.{checks, unknown_branch, first_refusal, refusal_of, branch_after, branches_made, answer_by, after_by}
+use Rattle.sim_book.specs.Answer.{first_refusal, later_checks, refusal_of, branch_after, branches_made, answer_by, after_by}
 use Rattle.sim_book.specs.History.{IsTurn, leaves_room_for_want}
 use Rattle.sim_node.specs.Work.{Work}
 use Rattle.sim_book.specs.Keeps.{Keeps}
 use Rattle.sim_book.specs.Works.{Works}
 use Rattle.sim_book.specs.Kept.{Kept, shown, all_shown, branch_with}
-use Rattle.sim_book.specs.OnBranch.{IsTurnOn, refusal_on, reply_on, after_on, later_checks}
+use Rattle.sim_book.specs.OnBranch.{IsTurnOn, refusal_on, reply_on, after_on}
 use Rattle.sim_book.specs.BookOf.{makes_branch, AllKept}
 
 module _ {State Msg : Type 0} (r : Rules State Msg) where
-  checks_are : (book : Book) (x : Branch) (c : Command) → checks r book x c ≡ unknown_branch r book (branch_of c) ∷ later_checks r book x c
-  checks_are book x (command.Step b) = refl
-  checks_are book x (command.Tick b) = refl
-  checks_are book x (command.Run b n) = refl
-  checks_are book x (command.Fault b f) = refl
-  checks_are book x (command.Back b n) = refl
-  checks_are book x (command.Forward b n) = refl
-  checks_are book x (command.Goto b p) = refl
-  checks_are book x (command.Rewind b n) = refl
-  checks_are book x (command.Cut b) = refl
-  checks_are book x (command.Branch b p) = refl
-  checks_are book x (command.Watch b c) = refl
-  checks_are book x (command.Unwatch b w) = refl
-  checks_are book x (command.Look b q) = refl
-  checks_are book x (command.Freeze b) = refl
-
-  made_none : (c : Command) (x : Branch) → makes_branch c ≡ false → branches_made r c x ≡ []
+  pub made_none : (c : Command) (x : Branch) → makes_branch c ≡ false → branches_made r c x ≡ []
   made_none (command.Step b) x e = refl
   made_none (command.Tick b) x e = refl
   made_none (command.Run b n) x e = refl
@@ -77,7 +61,7 @@ module _ {State Msg : Type 0} (r : Rules State Msg) where
       let here : nat_le (length book) (branch_of c) ≡ false = grind (arith, nat_tests) in
       let none : branches_made r c x ≡ [] = made_none c x plain in
       let known : refusal_of r c book ≡ refusal_on r book x c =
-      ap first_refusal (checks_are book x c) ∙ ap (λ t. if t then Some refusal.UnknownBranch else first_refusal (later_checks r book x c)) here in
+      ap (λ t. if t then Some refusal.UnknownBranch else first_refusal (later_checks r book x c)) here in
       elim turn [
         | inl a ↦ inl (a.0 ∙ ap (λ o. reply_on r o book x c) (sym known) ∙ answers_are (refusal_of r c book) book c, after_are (refusal_of r c book) book c y none (a.1 ∙ ap (λ o. after_on r o x c) (sym known)))
         | inr w ↦ inr (w.0, subst (λ (o : Option Refusal). IsTrue (leaves_room_for_want o)) (sym known) w.1, w.2, ap (λ z. with_branch (branch_of c) z book) w.3 ∙ set-get_or book (branch_of c) empty_branch)

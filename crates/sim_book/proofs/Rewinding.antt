@@ -133,9 +133,9 @@ module _ {State Msg : Type 0} (node : NodeLaws State Msg) (probes : ℕ) where
 
   -- the work of one place back within the reach, and of a whole rewind
   pub work_back : (t u v : Tape) (k : ℕ) (a b d : Work) → u ≡ with_world true u.reach (at (t.place - k) t) → k < t.place → u.reach ≡ t.reach - k
-      → TakesBack (rules node probes t.scenario) (t.place - k) k t a b
-      → (u.warm ≡ true → 1 ≤ u.reach → TakesBack (rules node probes u.scenario) (u.place - 1) 1 u b d)
-      → k + 1 ≤ t.reach → TakesBack (rules node probes t.scenario) (t.place - (k + 1)) (k + 1) t a d
+      → TakesBack (rules node probes t.scenario) k (t.place - k) t a b
+      → (u.warm ≡ true → 1 ≤ u.reach → TakesBack (rules node probes u.scenario) 1 (u.place - 1) u b d)
+      → k + 1 ≤ t.reach → TakesBack (rules node probes t.scenario) (k + 1) (t.place - (k + 1)) t a d
   work_back t u v k a b d is lt old before gone le =
       let r : Rules State Msg = rules node probes t.scenario in
       let q : ℕ = t.place - (k + 1) in
@@ -150,14 +150,14 @@ module _ {State Msg : Type 0} (node : NodeLaws State Msg) (probes : ℕ) where
       first ∙ ap (undone_by (acting r (t.place - k - 1) 1 t.events)) before ∙ ap (λ (n : ℕ). record a { undos = n }) (omega (arith, one, sum))
 
   pub rewound_work : (t v : Tape) (k : ℕ) (a d : Work) → v ≡ with_world true v.reach (at (t.place - k) t) → k ≤ t.place
-      → TakesBack (rules node probes t.scenario) (t.place - k) k t a d → TakesBack (rules node probes t.scenario) v.place (t.place - v.place) t a d
+      → TakesBack (rules node probes t.scenario) k (t.place - k) t a d → TakesBack (rules node probes t.scenario) (t.place - v.place) v.place t a d
   rewound_work t v k a d is within h =
       let r : Rules State Msg = rules node probes t.scenario in
       let place : v.place ≡ t.place - k = ap (λ x. x.place) is in
       let back : t.place - v.place ≡ k = omega (arith, place, within) in
-      subst (λ (p : ℕ). TakesBack r p (t.place - v.place) t a d) (sym place) (subst (λ (n : ℕ). TakesBack r (t.place - k) n t a d) (sym back) h)
+      subst (λ (p : ℕ). TakesBack r (t.place - v.place) p t a d) (sym place) (subst (λ (n : ℕ). TakesBack r n (t.place - k) t a d) (sym back) h)
 
-  pub work_none : (t : Tape) (a : Work) → TakesBack (rules node probes t.scenario) (t.place - 0) 0 t a a
+  pub work_none : (t : Tape) (a : Work) → TakesBack (rules node probes t.scenario) 0 (t.place - 0) t a a
   work_none t a = ap (λ (n : ℕ). record a { undos = n }) (sym (add-zero a.undos))
 
   -- a stretch, of one place and of one place more

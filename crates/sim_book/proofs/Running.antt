@@ -1,5 +1,5 @@
 -- A run goes on by one step, and stops.
-use Rattle.std.proofs.Common.{◌≡◌, ℕ, zero, suc, ◌+◌, ◌<◌, ◌≤◌, ◌==◌, min, Bool, true, false, not, List, [], ◌∷◌, ◌++◌, Option, Some, None, is_some, length, take, refl, sym, ap, ◌∙◌, arith, inl, inr, length-append, append_assoc, append-nil, nat_le, subst}
+use Rattle.std.proofs.Common.{◌≡◌, ℕ, zero, suc, ◌+◌, ◌-◌, ◌%◌, ◌<◌, ◌≤◌, ◌==◌, min, Bool, true, false, not, List, [], ◌∷◌, ◌++◌, Option, Some, None, is_some, length, take, refl, sym, ap, ◌∙◌, arith, inl, inr, length-append, append_assoc, append-nil, nat_le, subst, add-zero}
 use Rattle.std.specs.Prelude.{if◌then◌else◌}
 use Rattle.std.specs.Option.{unwrap_or}
 use Rattle.std.proofs.Math.Seq.{take-length}
@@ -15,7 +15,9 @@ use Rattle.sim_world.specs.World.{World}
 use Rattle.sim_world.specs.Events.{Rules, rules, run, start, refusal_of}
 use Rattle.sim_tape.specs.Tape.{Tape, with_world, with_event}
 use Rattle.sim_tape.specs.Places.{world_of}
-use Rattle.sim_tape.specs.Works.{Plays}
+use Rattle.sim_world.specs.Acts.{running}
+use Rattle.sim_tape.proofs.Growing.{world_at-extended}
+use Rattle.sim_tape.specs.Works.{Plays, nodes_kept, nodes_made, nodes_at_end}
 use Rattle.sim_book.specs.Works.{Adds}
 use Rattle.sim_book.specs.Tapes.{lengthened}
 use Rattle.sim_watch.specs.Condition.{Cond}
@@ -198,11 +200,52 @@ module _ {State Msg : Type 0} (node : NodeLaws State Msg) (probes : ℕ) where
       true_not e = cc
 
 -- the work of events that are added
-pub adds_none : (a : Work) → Adds 0 a a
-adds_none a = record { turns = omega arith; undos = refl }
+module _ {State Msg : Type 0} (r : Rules State Msg) where
+  -- checkpoints that stand are not made again
+  made_extended : (p k : ℕ) (es more : List Event) → p + k ≤ length es → nodes_made r p k (es ++ more) ≡ nodes_made r p k es
+  made_extended p zero es more within = refl
+  made_extended p (suc k) es more within =
+      let here : nodes_kept r (p + suc k) (es ++ more) ≡ nodes_kept r (p + suc k) es =
+      ap (λ w. if (p + suc k) % r.scenario.interval == 0 then running w else 0) (world_at-extended r es more (p + suc k) within) in
+      ap (λ (n : ℕ). n + nodes_kept r (p + suc k) (es ++ more)) (made_extended p k es more (omega (arith, within)))
+      ∙ ap (λ (n : ℕ). nodes_made r p k es + n) here
 
-pub adds_more : (n c : ℕ) (a b d : Work) → Adds n a b → Plays 1 c b d → Adds (n + 1) a d
-adds_more n c a b d h p = let x = h.turns in let y = p.turns in record { turns = omega (arith, x, y); undos = p.undos ∙ h.undos }
+  pub adds_none : (n : ℕ) (es : List Event) (a : Work) → n ≡ 0 → Adds r n es a a
+  adds_none n es a none = subst (λ (k : ℕ). Adds r k es a a) (sym none) (record { turns = omega arith; copies = sym (add-zero a.copies); undos = refl })
 
-pub adds_so : (n m : ℕ) (a b : Work) → n ≡ m → Adds n a b → Adds m a b
-adds_so n m a b e h = subst (λ (k : ℕ). Adds k a b) e h
+  -- one event more
+  pub adds_more : (k : ℕ) (t u v : Tape) (new : List Event) (e : Event) (a b d : Work) → u ≡ with_world true u.reach (lengthened new t) → length new ≡ k
+      → v ≡ with_world true v.reach (with_event e u) → Adds r k u.events a b → Plays 1 (nodes_at_end r e u) b d → Adds r (k + 1) v.events a d
+  adds_more k t u v new e a b d is count more h q =
+      let p : ℕ = length t.events in
+      let es' : List Event = u.events ++ e ∷ [] in
+      let len : length u.events ≡ p + length new = ap (λ (x : Tape). length x.events) is ∙ length-append t.events new in
+      let place : u.place ≡ p + length new = ap (λ (x : Tape). x.place) is in
+      let grown : v.events ≡ es' = ap (λ (x : Tape). x.events) more in
+      let longer : length v.events ≡ length u.events + 1 = ap length grown ∙ length-append u.events (e ∷ []) in
+      let from : length v.events - (k + 1) ≡ p = omega (arith, longer, len, count) in
+      let from' : length u.events - k ≡ p = omega (arith, len, count) in
+      let one : k + 1 ≡ suc k = omega arith in
+      let there : p + suc k ≡ u.place + 1 = omega (arith, place, count) in
+      let made : nodes_made r (length v.events - (k + 1)) (k + 1) v.events ≡ nodes_made r (length u.events - k) k u.events + nodes_at_end r e u =
+      ap (λ (n : ℕ). nodes_made r n (k + 1) v.events) from ∙ ap (λ (xs : List Event). nodes_made r p (k + 1) xs) grown ∙ ap (λ (n : ℕ). nodes_made r p n es') one
+      ∙ ap (λ (n : ℕ). n + nodes_kept r (p + suc k) es') (made_extended p k u.events (e ∷ []) (omega (arith, len, count)) ∙ ap (λ (n : ℕ). nodes_made r n k u.events) (sym from'))
+      ∙ ap (λ (n : ℕ). nodes_made r (length u.events - k) k u.events + nodes_kept r n es') there in
+      let x = h.turns in
+      let y = q.turns in
+      let w = h.copies in
+      let z = q.copies in
+      record { turns = omega (arith, x, y); copies = omega (arith, w, z, made); undos = q.undos ∙ h.undos }
+
+  pub adds_so : (n m : ℕ) (es : List Event) (a b : Work) → n ≡ m → Adds r n es a b → Adds r m es a b
+  adds_so n m es a b e h = subst (λ (k : ℕ). Adds r k es a b) e h
+
+module _ {State Msg : Type 0} (node : NodeLaws State Msg) (probes : ℕ) where
+  -- the same by the rules of the tape that the event is added to
+  pub adds_on : (k : ℕ) (t u v : Tape) (new : List Event) (e : Event) (a b d : Work) → u ≡ with_world true u.reach (lengthened new t) → length new ≡ k
+      → v ≡ with_world true v.reach (with_event e u) → Adds (rules node probes t.scenario) k u.events a b → Plays 1 (nodes_at_end (rules node probes u.scenario) e u) b d
+      → Adds (rules node probes t.scenario) (k + 1) v.events a d
+  adds_on k t u v new e a b d is count more h q =
+      let same = ap (λ (x : Tape). x.scenario) is in
+      adds_more (rules node probes t.scenario) k t u v new e a b d is count more h
+      (subst (λ s. Plays 1 (nodes_at_end (rules node probes s) e u) b d) same q)

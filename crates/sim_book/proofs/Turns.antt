@@ -18,9 +18,10 @@ use Rattle.sim_world.specs.declared.Refusal.TheVariants as why
 use Rattle.sim_world.specs.Events.{Rules, rules, hosts_of, are_same}
 use Rattle.sim_world.specs.Events as events
 use Rattle.sim_world.specs.Looks.{looked}
-use Rattle.sim_tape.specs.Tape.{Tape, at, with_world, first_events, with_event}
+use Rattle.sim_tape.specs.Tape.{Tape, at, with_world, first_events, with_event, reach_here}
 use Rattle.sim_tape.specs.Places.{world_of, acting}
-use Rattle.sim_tape.specs.Works.{undone_by, Plays, nodes_at_end}
+use Rattle.sim_tape.specs.Works.{undone_by}
+use Rattle.sim_book.proofs.Running.{adds_none}
 use Rattle.sim_node.specs.Work.{Work}
 use Rattle.sim_book.specs.Works.{Adds, TakesBack}
 use Rattle.sim_book.specs.Tapes.{lengthened}
@@ -406,38 +407,34 @@ module _ {State Msg : Type 0} (node : NodeLaws State Msg) (probes : ℕ) where
   busy_on t w is free =
       can_so (is_some (first (world_of (rules node probes t.scenario) t).queue.items)) (sym (ap (λ v. events.refusal_of (rules node probes v.scenario) event.Step (world_of (rules node probes v.scenario) v)) is) ∙ free)
 
-  -- the work of an event that is added to a tape which was warm
-  pub add_works : (t w : Tape) (e : Event) (a b d : Work) → w ≡ t → b ≡ a → Plays 1 (nodes_at_end (rules node probes w.scenario) e w) b d
-      → Plays 1 (nodes_at_end (rules node probes t.scenario) e t) a d
-  add_works t w e a b d same none h =
-      subst (λ (x : Work). Plays 1 (nodes_at_end (rules node probes t.scenario) e t) x d) none
-      (subst (λ (x : Tape). Plays 1 (nodes_at_end (rules node probes x.scenario) e x) b d) same h)
-
--- the work of events that are added to a tape which was warm
-pub run_works : (t w u : Tape) (new : List Event) (a b d : Work) → w ≡ t → b ≡ a → u ≡ with_world true u.reach (lengthened new w) → Adds (length new) b d
-    → Adds (length u.events - length t.events) a d
-run_works t w u new a b d same none more h =
+-- the work of events that are added to a tape whose world is there
+pub run_works : {State Msg : Type 0} (node : NodeLaws State Msg) (probes : ℕ) (t w u : Tape) (new : List Event) (b d : Work) → w ≡ with_world true w.reach t → u ≡ with_world true u.reach (lengthened new w)
+    → Adds (rules node probes w.scenario) (length new) u.events b d → Adds (rules node probes t.scenario) (length u.events - length t.events) u.events b d
+run_works node probes t w u new b d same more h =
     let old : length w.events ≡ length t.events = ap (λ x. length x.events) same in
     let grown : length u.events ≡ length w.events + length new = ap (λ x. length x.events) more ∙ length-append w.events new in
     let count : length new ≡ length u.events - length t.events = omega (arith, old, grown) in
-    subst (λ (n : ℕ). Adds n a d) count (subst (λ (x : Work). Adds (length new) x d) none h)
+    subst (λ (x : Tape). Adds (rules node probes x.scenario) (length u.events - length t.events) u.events b d) same
+    (subst (λ (n : ℕ). Adds (rules node probes w.scenario) n u.events b d) count h)
 
-pub run_none_works : (t w : Tape) (a b : Work) → w ≡ t → b ≡ a → Adds (length w.events - length t.events) a b
-run_none_works t w a b same none =
-    let turns = ap (λ x. x.turns) none in
-    record { turns = omega (arith, turns); undos = ap (λ x. x.undos) none }
+pub run_none_works : {State Msg : Type 0} (node : NodeLaws State Msg) (probes : ℕ) (t w : Tape) (a : Work) → w ≡ with_world true w.reach t
+    → Adds (rules node probes t.scenario) (length w.events - length t.events) w.events a a
+run_none_works node probes t w a same =
+    let count : length w.events - length t.events ≡ 0 = (let old = ap (λ x. length x.events) same in omega (arith, old)) in
+    adds_none (rules node probes t.scenario) (length w.events - length t.events) w.events a count
 
--- the work of a rewind of a tape which was warm
-pub rewind_works : {State Msg : Type 0} (node : NodeLaws State Msg) (probes : ℕ) (t w u : Tape) (a b d : Work) → w ≡ t → b ≡ a
-    → (w.place - u.place ≤ w.reach → TakesBack (rules node probes w.scenario) u.place (w.place - u.place) w b d)
-    → t.place - u.place ≤ t.reach → TakesBack (rules node probes t.scenario) u.place (t.place - u.place) t a d
-rewind_works node probes t w u a b d same none h =
-    subst (λ (x : Work). t.place - u.place ≤ t.reach → TakesBack (rules node probes t.scenario) u.place (t.place - u.place) t x d) none
-    (subst (λ (x : Tape). x.place - u.place ≤ x.reach → TakesBack (rules node probes x.scenario) u.place (x.place - u.place) x b d) same h)
+-- the work of a rewind of a tape whose world is there
+pub rewind_works : {State Msg : Type 0} (node : NodeLaws State Msg) (probes : ℕ) (t w u : Tape) (b d : Work) → w ≡ with_world true w.reach t → w.reach ≡ reach_here t
+    → (w.place - u.place ≤ w.reach → TakesBack (rules node probes w.scenario) (w.place - u.place) u.place w b d)
+    → t.place - u.place ≤ reach_here t → TakesBack (rules node probes t.scenario) (t.place - u.place) u.place t b d
+rewind_works node probes t w u b d same reach h near =
+    let place = ap (λ (x : Tape). x.place) same in
+    subst (λ (x : Tape). TakesBack (rules node probes x.scenario) (x.place - u.place) u.place x b d) same
+    (h (omega (arith, place, reach, near)))
 
-pub rewind_none_works : {State Msg : Type 0} (node : NodeLaws State Msg) (probes : ℕ) (t w : Tape) (a b : Work) → w ≡ t → b ≡ a
-    → TakesBack (rules node probes t.scenario) w.place (t.place - w.place) t a b
-rewind_none_works node probes t w a b same none =
+pub rewind_none_works : {State Msg : Type 0} (node : NodeLaws State Msg) (probes : ℕ) (t w : Tape) (a : Work) → w ≡ with_world true w.reach t
+    → TakesBack (rules node probes t.scenario) (t.place - w.place) w.place t a a
+rewind_none_works node probes t w a same =
     let r = rules node probes t.scenario in
     let back : t.place - w.place ≡ 0 = (let place = ap (λ x. x.place) same in omega (arith, place)) in
-    none ∙ ap (λ (n : ℕ). record a { undos = n }) (sym (add-zero a.undos)) ∙ ap (λ (n : ℕ). undone_by (acting r w.place n t.events) a) (sym back)
+    ap (λ (n : ℕ). record a { undos = n }) (sym (add-zero a.undos)) ∙ ap (λ (n : ℕ). undone_by (acting r w.place n t.events) a) (sym back)

@@ -3,7 +3,7 @@ use Rattle.std.specs.Prelude.{◌≡◌, ℕ, ◌+◌, ◌-◌, ◌<◌, ◌≤�
 use Rattle.sim_node.specs.Node.{NodeLaws}
 use Rattle.sim_world.specs.World.{Scenario}
 use Rattle.sim_world.specs.Events.{rules}
-use Rattle.sim_tape.specs.Tape.{Tape}
+use Rattle.sim_tape.specs.Tape.{Tape, reach_at}
 use Rattle.sim_tape.specs.Places.{world_of}
 use Rattle.sim_book.specs.declared.Command.{Command}
 use Rattle.sim_book.specs.declared.Command.TheVariants as command
@@ -15,13 +15,13 @@ use Rattle.sim_book.specs.Book.{branch_of}
 use Rattle.sim_book.specs.Answer.{is_idle, answer}
 use Rattle.sim_book.specs.Kept.{Kept, all_shown}
 
--- a warm tape's reach rises by one for each event that is added or walked forward, up to its window, and falls by one for each that is walked back within the reach
+-- a warm tape's reach rises by one for each event that is added or walked forward, up to its window, and falls by one for each that is walked back within the reach; after a jump it is that of the way there
 abbrev pub Moves : Command → Tape → Tape → Type 0
 Moves (command.Step b) t u = IsTrue u.warm × (IsTrue t.warm → u.reach ≡ min t.scenario.window (t.reach + 1))
 Moves (command.Fault b f) t u = IsTrue u.warm × (IsTrue t.warm → u.reach ≡ min t.scenario.window (t.reach + 1))
 Moves (command.Back b n) t u = IsTrue u.warm × (IsTrue t.warm → n ≤ t.reach → u.reach ≡ t.reach - n)
 Moves (command.Forward b n) t u = IsTrue u.warm × (IsTrue t.warm → u.reach ≡ min t.scenario.window (t.reach + n))
-Moves (command.Goto b p) t u = IsTrue u.warm
+Moves (command.Goto b p) t u = IsTrue u.warm × (u.reach ≡ reach_at p t)
 Moves (command.Run b n) t u = IsTrue u.warm × (IsTrue t.warm → u.reach ≡ min t.scenario.window (t.reach + (length u.events - length t.events)))
 Moves (command.Tick b) t u = IsTrue u.warm × (IsTrue t.warm → u.reach ≡ min t.scenario.window (t.reach + (length u.events - length t.events)))
 Moves (command.Rewind b n) t u = IsTrue u.warm × (IsTrue t.warm → t.place - u.place ≤ t.reach → u.reach ≡ t.reach - (t.place - u.place))
@@ -40,10 +40,11 @@ module _ {State Msg : Type 0} (node : NodeLaws State Msg) (probes : ℕ) where
   Wants (command.Run b n) t = IsTrue t.warm → is_idle (world_of (rules node probes t.scenario) t) ≡ false
   Wants _ t = Unit {0}
 
-  -- a refusal other than for want of memory leaves a warm tape as it is
+  -- A refusal other than for want of memory leaves a tape as it is, warm or cold; that nothing is pending is found out on a warm one.
   abbrev pub Refuses : Refusal → Command → Tape → Tape → Type 0
   Refuses refusal.NoMemory c t u = Wants c t
-  Refuses _ c t u = IsTrue t.warm → u ≡ t
+  Refuses refusal.Idle c t u = IsTrue t.warm → u ≡ t
+  Refuses _ c t u = u ≡ t
 
   abbrev pub Keeps : Command → Reply → Tape → Tape → Type 0
   Keeps c (reply.Moved place clock why) t u = Moves c t u

@@ -1,6 +1,7 @@
 pub mod Book
 pub mod Answer
 pub mod History
+pub mod Headline
 pub mod Kept
 pub mod Tapes
 pub mod OnTape

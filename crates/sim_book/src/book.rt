@@ -1,11 +1,13 @@
 ghost use Rattle.std.specs.Prelude.{◌≡◌, ℕ, ◌+◌, ◌<◌, ◌≤◌, ◌↔◌, ◌∷◌, [], ◌++◌};
-ghost use Rattle.std.specs.Prelude.{List, length, slice_index_or, replicate, true, false, IfOk, OnOk, OnErr, IfErr, OnSome, IfSome, None, IsTrue};
+ghost use Rattle.std.specs.Prelude.{List, length, slice_index_or, replicate, true, false, IfOk, OnOk, OnErr, IfErr, OnSome, IfSome, IsSome, None, IsTrue};
 ghost use Rattle.sim_world.specs.Events.{rules};
 ghost use Rattle.sim_book.specs.Kept.{all_shown, first_kept, Kept as KeptValue};
 ghost use Rattle.sim_book.specs.History.{IsLegal};
-ghost use Rattle.sim_book.specs.Book.{opening};
+ghost use Rattle.sim_book.specs.Book.{branch};
+ghost use Rattle.sim_book.specs.Headline.{is_warm, AreOf, AreBranches, IsWorldOf, BackAfterEvent, ForwardAfterBack};
 ghost use Rattle.sim_book.specs.BookOf.{IsBook, IsTaken};
 ghost use Rattle.sim_book.specs.Keeps.{KeepsTapes, TellsIdle};
+ghost use Rattle.sim_tape.specs.Works.{Opens};
 ghost use Rattle.sim_book.specs.Works.{TakesWork};
 ghost use Rattle.sim_book.specs.Freezing.{GivesFrozen, GivesMade, IsWhole};
 
@@ -15,7 +17,7 @@ use crate::kept::Kept;
 use crate::{Command, Entry, MOST_ENTRIES, NotTaken, Reply};
 use sim_node::{NoMemory, Node};
 use sim_tape::{Frozen, Tape};
-use sim_world::Scenario;
+use sim_world::{Scenario, World};
 use std::alloc::Global;
 use std::marker::Model;
 
@@ -100,7 +102,8 @@ fn opening<N: Node>(
     scenario: &Scenario,
     meter: &mut N::Meter,
 ) -> Result<Vec<Kept<N>>, NoMemory>
-    ensures { IfOk result (λ branches. branches.items ≡ first_kept scenario.now ∷ []) }
+    ensures branches { IfOk result (λ branches. branches.items ≡ first_kept scenario.now ∷ []) }
+    ensures work { OnOk result (Opens N.laws N.PROBES scenario.now (N.Meter.work meter.old) (N.Meter.work meter.new)) }
 {
     let tape = Tape::new(alloc, scenario, meter)?;
     let mut branches = Vec::new(alloc);
@@ -133,7 +136,8 @@ impl<N: Node> Book<N> {
     pub fn new(alloc: Global, scenario: &Scenario, mut meter: N::Meter) -> Result<Book<N>, NoMemory>
         ensures scenario { IfOk result (λ b. b.scenario ≡ scenario.now) }
         ensures history { IfOk result (λ b. b.history ≡ []) }
-        ensures branches { IfOk result (λ b. all_shown b.kept ≡ opening) }
+        ensures branches { IfOk result (λ b. b.kept ≡ first_kept scenario.now ∷ []) }
+        ensures work { IfOk result (λ b. Opens N.laws N.PROBES scenario.now (N.Meter.work meter) b.work) }
     {
         let branches = opening(alloc, scenario, &mut meter)?;
         let history = Vec::new(alloc);
@@ -159,6 +163,8 @@ impl<N: Node> Book<N> {
         ensures room { OnOk result (length self.old.history < 65536) }
         ensures full { IfErr result (λ why. (why ≡ NotTaken.HistoryFull) ↔ (65536 ≤ length self.old.history)) }
         ensures legal { IsLegal (rules N.laws N.PROBES self.new.scenario) self.new.history (all_shown self.new.kept) }
+        ensures branches { AreBranches (rules N.laws N.PROBES self.new.scenario) (all_shown self.new.kept) }
+        ensures tapes { AreOf self.new.scenario self.new.kept }
     {
         take_turn(
             alloc,
@@ -170,6 +176,37 @@ impl<N: Node> Book<N> {
             session,
             command,
         )
+    }
+
+    /// The world of a branch at its place: it is the run of the branch's kept events from the start up to that place, however the
+    /// place was reached. `None` where there is no such branch, or its tape is not warm. No memory is taken.
+    pub fn here(&self, b: u32) -> Option<&World<N>>
+        ensures headline { IfSome result (λ w.
+            IsWorldOf (rules N.laws N.PROBES self.now.scenario) (branch b (all_shown self.now.kept)) w.now.world) }
+        ensures scenario { IfSome result (λ w. w.now.scenario ≡ self.now.scenario) }
+        ensures there { IsSome result ↔ IsTrue (is_warm b self.now.kept) }
+    {
+        if self.branches.len() <= b as usize {
+            return None;
+        }
+        let kept = &self.branches[b as usize];
+        if !kept.tape.warm() {
+            return None;
+        }
+        Some(kept.tape.here())
+    }
+
+    /// The laws of every book, as clauses: each branch has a world, that of its events up to its place; a way back by one after an
+    /// added event leads to the world before it; and a way forward by as many events as were gone back leads to the world that was
+    /// left. The call does nothing.
+    pub fn laws(&self)
+        ensures legal { IsLegal (rules N.laws N.PROBES self.now.scenario) self.now.history (all_shown self.now.kept) }
+        ensures branches { AreBranches (rules N.laws N.PROBES self.now.scenario) (all_shown self.now.kept) }
+        ensures tapes { AreOf self.now.scenario self.now.kept }
+        ensures back { BackAfterEvent (rules N.laws N.PROBES self.now.scenario) (all_shown self.now.kept) }
+        ensures forward { ForwardAfterBack (rules N.laws N.PROBES self.now.scenario) (all_shown self.now.kept) }
+    {
+        let _branches = self.branches.len();
     }
 
     /// The book's meter.

@@ -179,6 +179,10 @@ pub(crate) fn fault<N: Node>(
     if MOST_EVENTS <= tape.len() {
         return Reply::Refused(Refusal::EventsFull);
     }
+    match tape.make_warm(alloc, meter) {
+        Err(_) => return Reply::Refused(Refusal::NoMemory),
+        Ok(()) => {}
+    }
     match tape.add(alloc, Event::Fault(fault), meter) {
         Err(_) => Reply::Refused(Refusal::NoMemory),
         Ok(()) => moved(tape, Stop::Asked),

@@ -3,9 +3,10 @@ ghost use Rattle.std.specs.List.{All};
 ghost use Rattle.sim_node.specs.Work.{Work};
 ghost use Rattle.sim_world.specs.World.{Scenario as ScenarioValue};
 ghost use Rattle.sim_world.specs.Events.{rules};
-ghost use Rattle.sim_book.specs.Book.{Book, branch_of, empty_branch};
+ghost use Rattle.sim_book.specs.Book.{Book, branch_of, empty_branch, IsBranch};
 ghost use Rattle.sim_book.specs.Kept.{shown, all_shown};
 ghost use Rattle.sim_book.specs.OnBranch.{IsTurnOn};
+ghost use Rattle.sim_book.specs.Headline.{AreBranches};
 ghost use Rattle.sim_book.specs.History.{IsTurn};
 ghost use Rattle.sim_book.specs.BookOf.{makes_branch, IsKept, AllKept};
 ghost use Rattle.sim_book.specs.Keeps.{Keeps, KeepsTapes};
@@ -64,12 +65,15 @@ fn split<N: Node>(alloc: Global, kept: &Kept<N>, p: u32) -> Result<Kept<N>, NoMe
     requires { p ≤ length kept.now.tape.events }
     ensures shown { IfOk result (λ k. shown k ≡ record empty_branch { events = take p kept.now.tape.events; place = p }) }
     ensures kept { (s : ScenarioValue) → IsKept N.PROBES s kept.now → IfOk result (IsKept N.PROBES s) }
+    ensures branch { IfOk result (λ k. IsBranch (rules N.laws N.PROBES k.tape.scenario) (shown k)) }
 {
     let tape = kept.tape.split(alloc, p)?;
-    Ok(Kept {
+    let made = Kept {
         tape,
         watches: [None, None, None, None, None, None, None, None],
-    })
+    };
+    made.laws();
+    Ok(made)
 }
 
 // The turn of a command that makes a branch.
@@ -78,6 +82,9 @@ fn make_branch<N: Node>(alloc: Global, branches: &mut Vec<Kept<N>>, b: u32, p: u
     ensures turn { (s : ScenarioValue)
         → IsTurn (rules N.laws N.PROBES s) (all_shown branches.old.items) (Command.Branch b p) result (all_shown branches.new.items) }
     ensures same { (s : ScenarioValue) → AllKept N.PROBES s branches.old.items → AllKept N.PROBES s branches.new.items }
+    ensures branches { (s : ScenarioValue) → AllKept N.PROBES s branches.old.items
+        → AreBranches (rules N.laws N.PROBES s) (all_shown branches.old.items)
+        → AreBranches (rules N.laws N.PROBES s) (all_shown branches.new.items) }
     ensures keeps { KeepsTapes N.laws N.PROBES (Command.Branch b p) result branches.old.items branches.new.items }
     ensures work { (w : Work) → TakesWork N.laws N.PROBES (Command.Branch b p) result branches.old.items branches.new.items w w }
 {
@@ -113,14 +120,18 @@ fn on_one<N: Node>(
     requires there { b < length branches.old.items }
     requires named { b ≡ branch_of command.now }
     requires same { AllKept N.PROBES scenario.now branches.old.items }
+    requires branches { AreBranches (rules N.laws N.PROBES scenario.now) (all_shown branches.old.items) }
     requires plain { makes_branch command.now ≡ false }
     ensures turn { IsTurn (rules N.laws N.PROBES scenario.now) (all_shown branches.old.items) command.now result (all_shown branches.new.items) }
     ensures same { AllKept N.PROBES scenario.now branches.new.items }
+    ensures branches { AreBranches (rules N.laws N.PROBES scenario.now) (all_shown branches.new.items) }
     ensures keeps { KeepsTapes N.laws N.PROBES command.now result branches.old.items branches.new.items }
     ensures work { TakesWork N.laws N.PROBES command.now result branches.old.items branches.new.items (N.Meter.work meter.old) (N.Meter.work meter.new) }
 {
     let kept = &mut branches[b as usize];
-    on_branch(alloc, scenario, kept, meter, command)
+    let reply = on_branch(alloc, scenario, kept, meter, command);
+    kept.laws();
+    reply
 }
 
 // The turn of a command.
@@ -132,8 +143,10 @@ pub(crate) fn carry_out<N: Node>(
     command: &Command,
 ) -> Reply
     requires same { AllKept N.PROBES scenario.now branches.old.items }
+    requires branches { AreBranches (rules N.laws N.PROBES scenario.now) (all_shown branches.old.items) }
     ensures turn { IsTurn (rules N.laws N.PROBES scenario.now) (all_shown branches.old.items) command.now result (all_shown branches.new.items) }
     ensures same { AllKept N.PROBES scenario.now branches.new.items }
+    ensures branches { AreBranches (rules N.laws N.PROBES scenario.now) (all_shown branches.new.items) }
     ensures keeps { KeepsTapes N.laws N.PROBES command.now result branches.old.items branches.new.items }
     ensures work { TakesWork N.laws N.PROBES command.now result branches.old.items branches.new.items (N.Meter.work meter.old) (N.Meter.work meter.new) }
 {

@@ -57,7 +57,7 @@ fn look_near<N: Node>(
     ensures last { IfOk result (λ found. IsLast N.laws N.PROBES watches.now tape.old (tape.old.place - count) tape.old.place found) }
     ensures moved { IfOk result (λ found. IsMoved (place_found (tape.old.place - count) found) tape.old tape.new) }
     ensures reach { OnOk result (tape.new.reach ≡ tape.old.reach - (tape.old.place - tape.new.place)) }
-    ensures work { OnOk result (TakesBack (rules N.laws N.PROBES tape.old.scenario) tape.new.place (tape.old.place - tape.new.place) tape.old
+    ensures work { OnOk result (TakesBack (rules N.laws N.PROBES tape.old.scenario) (tape.old.place - tape.new.place) tape.new.place tape.old
         (N.Meter.work meter.old) (N.Meter.work meter.new)) }
     ensures err { OnErr result ((p : ℕ) × (tape.new ≡ with_world tape.new.warm tape.new.reach (at p tape.old))) }
 {
@@ -161,7 +161,7 @@ fn look_back<N: Node>(
     ensures moved { IfOk result (λ found. IsMoved (place_found (tape.old.place - count) found) tape.old tape.new) }
     ensures reach { OnOk result (tape.old.place - tape.new.place ≤ tape.old.reach → tape.new.reach ≡ tape.old.reach - (tape.old.place - tape.new.place)) }
     ensures work { OnOk result (tape.old.place - tape.new.place ≤ tape.old.reach
-        → TakesBack (rules N.laws N.PROBES tape.old.scenario) tape.new.place (tape.old.place - tape.new.place) tape.old
+        → TakesBack (rules N.laws N.PROBES tape.old.scenario) (tape.old.place - tape.new.place) tape.new.place tape.old
         (N.Meter.work meter.old) (N.Meter.work meter.new)) }
     ensures err { OnErr result ((p : ℕ) × (tape.new ≡ with_world tape.new.warm tape.new.reach (at p tape.old))) }
 {
@@ -199,7 +199,7 @@ fn go_back<N: Node>(
     ensures ok { OnOk result (IsMoved (rewind_on N.laws N.PROBES count watches.now tape.old).place tape.old tape.new) }
     ensures reach { OnOk result (tape.old.place - tape.new.place ≤ tape.old.reach → tape.new.reach ≡ tape.old.reach - (tape.old.place - tape.new.place)) }
     ensures work { OnOk result (tape.old.place - tape.new.place ≤ tape.old.reach
-        → TakesBack (rules N.laws N.PROBES tape.old.scenario) tape.new.place (tape.old.place - tape.new.place) tape.old
+        → TakesBack (rules N.laws N.PROBES tape.old.scenario) (tape.old.place - tape.new.place) tape.new.place tape.old
         (N.Meter.work meter.old) (N.Meter.work meter.new)) }
     ensures err { OnErr result ((p : ℕ) × (tape.new ≡ with_world tape.new.warm tape.new.reach (at p tape.old))) }
 {
@@ -225,7 +225,7 @@ pub(crate) fn rewind<N: Node>(
     ensures ok { OnOk result (IsMoved (rewind_on N.laws N.PROBES count watches.now tape.old).place tape.old tape.new) }
     ensures reach { OnOk result (tape.old.place - tape.new.place ≤ tape.old.reach → tape.new.reach ≡ tape.old.reach - (tape.old.place - tape.new.place)) }
     ensures work { OnOk result (tape.old.place - tape.new.place ≤ tape.old.reach
-        → TakesBack (rules N.laws N.PROBES tape.old.scenario) tape.new.place (tape.old.place - tape.new.place) tape.old
+        → TakesBack (rules N.laws N.PROBES tape.old.scenario) (tape.old.place - tape.new.place) tape.new.place tape.old
         (N.Meter.work meter.old) (N.Meter.work meter.new)) }
     ensures err { OnErr result (tape.new ≡ with_world tape.new.warm tape.new.reach tape.old) }
 {

@@ -87,7 +87,8 @@ fn add_tick<N: Node>(
     ensures stop { IfOk result (λ why. why ≡ (tick_on N.laws N.PROBES tape.old).stop) }
     ensures ok { OnOk result (IsLengthened (tick_on N.laws N.PROBES tape.old).events tape.old tape.new) }
     ensures reach { OnOk result (tape.new.reach ≡ raised (length (tick_on N.laws N.PROBES tape.old).events) tape.old) }
-    ensures work { OnOk result (Adds (length (tick_on N.laws N.PROBES tape.old).events) (N.Meter.work meter.old) (N.Meter.work meter.new)) }
+    ensures work { OnOk result (Adds (rules N.laws N.PROBES tape.old.scenario)
+        (length (tick_on N.laws N.PROBES tape.old).events) tape.new.events (N.Meter.work meter.old) (N.Meter.work meter.new)) }
     ensures err { OnErr result ((more : List Event) × (tape.new ≡ with_world tape.new.warm tape.new.reach (lengthened more tape.old))) }
 {
     for _ in 0..room {
@@ -114,7 +115,8 @@ pub(crate) fn tick<N: Node>(
     ensures stop { IfOk result (λ why. why ≡ (tick_on N.laws N.PROBES tape.old).stop) }
     ensures ok { OnOk result (IsLengthened (tick_on N.laws N.PROBES tape.old).events tape.old tape.new) }
     ensures reach { OnOk result (tape.new.reach ≡ raised (length (tick_on N.laws N.PROBES tape.old).events) tape.old) }
-    ensures work { OnOk result (Adds (length (tick_on N.laws N.PROBES tape.old).events) (N.Meter.work meter.old) (N.Meter.work meter.new)) }
+    ensures work { OnOk result (Adds (rules N.laws N.PROBES tape.old.scenario)
+        (length (tick_on N.laws N.PROBES tape.old).events) tape.new.events (N.Meter.work meter.old) (N.Meter.work meter.new)) }
     ensures err { OnErr result (tape.new ≡ with_world tape.new.warm tape.new.reach tape.old) }
 {
     let start = tape.len();

@@ -1,6 +1,7 @@
 //! Steps that are added one after the other.
 ghost use Rattle.std.specs.Prelude.{◌≡◌, ◌<◌, ◌≤◌, List, None, length, IsTrue, OnOk, OnErr, IfOk};
 ghost use Rattle.sim_world.specs.declared.Event.{Event};
+ghost use Rattle.sim_world.specs.Events.{rules};
 ghost use Rattle.sim_tape.specs.Tape.{with_world, raised};
 ghost use Rattle.sim_book.specs.Tapes.{lengthened};
 ghost use Rattle.sim_book.specs.OnTape.{IsLengthened, step_refusal, run_on};
@@ -35,7 +36,8 @@ fn add_steps<N: Node>(
     ensures stop { IfOk result (λ why. why ≡ (run_on N.laws N.PROBES count watches.now tape.old).stop) }
     ensures ok { OnOk result (IsLengthened (run_on N.laws N.PROBES count watches.now tape.old).events tape.old tape.new) }
     ensures reach { OnOk result (tape.new.reach ≡ raised (length (run_on N.laws N.PROBES count watches.now tape.old).events) tape.old) }
-    ensures work { OnOk result (Adds (length (run_on N.laws N.PROBES count watches.now tape.old).events) (N.Meter.work meter.old) (N.Meter.work meter.new)) }
+    ensures work { OnOk result (Adds (rules N.laws N.PROBES tape.old.scenario)
+        (length (run_on N.laws N.PROBES count watches.now tape.old).events) tape.new.events (N.Meter.work meter.old) (N.Meter.work meter.new)) }
     ensures err { OnErr result ((more : List Event) × (tape.new ≡ with_world tape.new.warm tape.new.reach (lengthened more tape.old))) }
 {
     for added in 0..count {
@@ -65,7 +67,8 @@ pub(crate) fn run<N: Node>(
     ensures stop { IfOk result (λ why. why ≡ (run_on N.laws N.PROBES count watches.now tape.old).stop) }
     ensures ok { OnOk result (IsLengthened (run_on N.laws N.PROBES count watches.now tape.old).events tape.old tape.new) }
     ensures reach { OnOk result (tape.new.reach ≡ raised (length (run_on N.laws N.PROBES count watches.now tape.old).events) tape.old) }
-    ensures work { OnOk result (Adds (length (run_on N.laws N.PROBES count watches.now tape.old).events) (N.Meter.work meter.old) (N.Meter.work meter.new)) }
+    ensures work { OnOk result (Adds (rules N.laws N.PROBES tape.old.scenario)
+        (length (run_on N.laws N.PROBES count watches.now tape.old).events) tape.new.events (N.Meter.work meter.old) (N.Meter.work meter.new)) }
     ensures err { OnErr result (tape.new ≡ with_world tape.new.warm tape.new.reach tape.old) }
 {
     let start = tape.len();

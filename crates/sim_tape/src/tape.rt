@@ -1,15 +1,15 @@
 //! A run as a tape.
 ghost use Rattle.std.specs.Prelude.{◌≡◌, ℕ, ◌+◌, ◌-◌, ◌*◌, ◌/◌, ◌%◌, ◌==◌, ◌<◌, ◌≤◌, ◌≢◌, [], ◌∷◌, ◌++◌, if◌then◌else◌};
-ghost use Rattle.std.specs.Prelude.{true, false, length, take, map, min, IfOk, OnOk, OnErr, IsOk, IsSome, Some, None, IsTrue, MatchOption};
+ghost use Rattle.std.specs.Prelude.{true, false, length, take, map, min, IfOk, IfErr, OnOk, OnErr, IsOk, IsSome, Some, None, IsTrue, MatchOption};
 ghost use Rattle.std.specs.Vec.{vec_len, vec_capacity};
 ghost use Rattle.std.specs.Bool.{OnTrue};
 ghost use Rattle.std.specs.Arc.{arc_value};
 ghost use Rattle.sim_world.specs.Clock.{clock_after};
-ghost use Rattle.sim_world.specs.Events.{rules, run, refusal_of};
-ghost use Rattle.sim_tape.specs.Tape.{opened, at, with_world, first_events, with_event, raised, is_within_reach};
+ghost use Rattle.sim_world.specs.Events.{rules, run, refusal_of, IsRunnable};
+ghost use Rattle.sim_tape.specs.Tape.{opened, at, with_world, first_events, with_event, raised, is_within_reach, reach_at, reach_here};
 ghost use Rattle.sim_tape.specs.Inside.{IsRun};
 ghost use Rattle.sim_tape.specs.Places.{events_of, world_of, AreCheckpoints};
-ghost use Rattle.sim_tape.specs.Works.{OnlyTurns, Plays, nodes_below, rules_of, TakesBack, MakesAnew, JumpsTo, AddsAtEnd};
+ghost use Rattle.sim_tape.specs.Works.{OnlyTurns, Plays, nodes_below, rules_of, TakesBack, MakesAnew, JumpsTo, AddsAtEnd, RenewsAndAdds, Opens};
 
 use crate::NoMemory;
 use crate::entry::Entry;
@@ -59,6 +59,25 @@ impl<N: Node> Model for Tape<N> {
         × (length t.walk.ring.items ≤ t.log.scenario.window) };
 }
 
+// Why an event was not added: the lists can't grow, and nothing has changed; or its world can't be made.
+#[derive(Clone, Copy)]
+enum AddError {
+    Growth,
+    World,
+}
+
+impl From<NoMemory> for AddError {
+    ghost use Rattle.std.specs.Prelude.{◌≡◌};
+    ghost use Rattle.sim_tape.specs.declared.tape.AddError.{AddError};
+    ghost use Rattle.sim_tape.specs.declared.tape.AddError.TheVariants as refused;
+
+    ghost from_gives = { λ _ e. e ≡ refused.World };
+
+    fn from(_error: NoMemory) -> AddError {
+        AddError::World
+    }
+}
+
 impl<N: Node> Tape<N> {
     /// A tape of no events, at the start. The only error is want of memory.
     pub fn new(
@@ -66,7 +85,8 @@ impl<N: Node> Tape<N> {
         scenario: &Scenario,
         meter: &mut N::Meter,
     ) -> Result<Tape<N>, NoMemory>
-        ensures { IfOk result (λ t. t ≡ opened scenario.now) }
+        ensures tape { IfOk result (λ t. t ≡ opened scenario.now) }
+        ensures work { OnOk result (Opens N.laws N.PROBES scenario.now (N.Meter.work meter.old) (N.Meter.work meter.new)) }
     {
         let world = World::start(alloc, scenario, meter)?;
         let first = Arc::new(alloc, world.pack(alloc, meter)?)?;
@@ -96,6 +116,7 @@ impl<N: Node> Tape<N> {
     pub fn len(&self) -> u32
         ensures value { result ≡ length self.now.events }
         ensures few { length self.now.events ≤ 65536 }
+        ensures runs { IsRunnable (rules_of N.laws N.PROBES self.now) self.now.events }
         ensures reach { self.now.reach ≤ self.now.scenario.window }
     {
         self.log.len() as u32
@@ -164,6 +185,7 @@ impl<N: Node> Tape<N> {
     pub fn goto(&mut self, alloc: Global, to: u32, meter: &mut N::Meter) -> Result<(), NoMemory>
         requires { to ≤ length self.old.events }
         ensures ok { OnOk result (self.new ≡ with_world true self.new.reach (at to self.old)) }
+        ensures reach { OnOk result (self.new.reach ≡ reach_at to self.old) }
         ensures within { OnOk result (IsTrue (is_within_reach to self.old) → self.new.reach ≡ self.old.reach - (self.old.place - to)) }
         ensures undos { OnOk result (IsTrue (is_within_reach to self.old) →
             TakesBack N.laws N.PROBES (self.old.place - to) to self.old (N.Meter.work meter.old) (N.Meter.work meter.new)) }
@@ -172,6 +194,7 @@ impl<N: Node> Tape<N> {
         ensures near { OnOk result (self.old.warm ≡ false → Plays (to % self.old.scenario.interval)
             (nodes_below (rules_of N.laws N.PROBES self.old) to self.old.events) (N.Meter.work meter.old) (N.Meter.work meter.new)) }
         ensures err { OnErr result (self.new ≡ with_world self.new.warm self.new.reach self.old) }
+        ensures still_cold { OnErr result (self.old.warm ≡ false → self.new ≡ self.old) }
     {
         let place = self.place as usize;
         let target = to as usize;
@@ -209,10 +232,12 @@ impl<N: Node> Tape<N> {
         ensures warm { IsTrue self.old.warm → IsOk result × (self.new ≡ self.old) × (N.Meter.work meter.new ≡ N.Meter.work meter.old) }
         ensures cold { OnOk result (self.old.warm ≡ false →
             MakesAnew N.laws N.PROBES self.old.place self.old (N.Meter.work meter.old) (N.Meter.work meter.new)) }
+        ensures reach { OnOk result (self.new.reach ≡ reach_here self.old) }
         ensures near { OnOk result (self.old.warm ≡ false → Plays (self.old.place % self.old.scenario.interval)
             (nodes_below (rules_of N.laws N.PROBES self.old) self.old.place self.old.events)
             (N.Meter.work meter.old) (N.Meter.work meter.new)) }
         ensures err { OnErr result (self.new ≡ with_world self.new.warm self.new.reach self.old) }
+        ensures still_cold { OnErr result (self.old.warm ≡ false → self.new ≡ self.old) }
     {
         if self.walk.world.is_some() {
             return Ok(());
@@ -230,7 +255,10 @@ impl<N: Node> Tape<N> {
         ensures undos { OnOk result (IsTrue self.old.warm → count ≤ self.old.reach →
             TakesBack N.laws N.PROBES count (self.old.place - count) self.old (N.Meter.work meter.old) (N.Meter.work meter.new)) }
         ensures work { OnOk result (JumpsTo N.laws N.PROBES (self.old.place - count) self.old (N.Meter.work meter.old) (N.Meter.work meter.new)) }
+        ensures anew { OnOk result (self.old.warm ≡ false →
+            MakesAnew N.laws N.PROBES (self.old.place - count) self.old (N.Meter.work meter.old) (N.Meter.work meter.new)) }
         ensures err { OnErr result (self.new ≡ with_world self.new.warm self.new.reach self.old) }
+        ensures still_cold { OnErr result (self.old.warm ≡ false → self.new ≡ self.old) }
     {
         let place = self.place();
         self.goto(alloc, place - count, meter)
@@ -251,6 +279,7 @@ impl<N: Node> Tape<N> {
         ensures cold { OnOk result (self.old.warm ≡ false →
             MakesAnew N.laws N.PROBES (self.old.place + count) self.old (N.Meter.work meter.old) (N.Meter.work meter.new)) }
         ensures err { OnErr result (self.new ≡ with_world self.new.warm self.new.reach self.old) }
+        ensures still_cold { OnErr result (self.old.warm ≡ false → self.new ≡ self.old) }
     {
         let to = self.place() + count;
         if !self.warm() {
@@ -293,20 +322,25 @@ impl<N: Node> Tape<N> {
             (world_of (rules_of N.laws N.PROBES self.old) self.new).clock) }
         ensures reach { OnOk result (IsTrue self.old.warm → self.new.reach ≡ raised 1 self.old) }
         ensures work { OnOk result (IsTrue self.old.warm → AddsAtEnd N.laws N.PROBES event self.old (N.Meter.work meter.old) (N.Meter.work meter.new)) }
+        ensures cold { OnOk result (self.old.warm ≡ false → RenewsAndAdds N.laws N.PROBES event self.old (N.Meter.work meter.old) (N.Meter.work meter.new)) }
         ensures err { OnErr result (self.new ≡ with_world self.new.warm self.new.reach self.old) }
     {
         self.make_warm(alloc, meter)?;
-        self.add_warm(alloc, event, meter)
+        match self.add_warm(alloc, event, meter) {
+            Ok(()) => Ok(()),
+            Err(_) => Err(NoMemory),
+        }
     }
 
-    // Adds an event that can happen, at the end of a tape that is warm.
+    // Adds an event that can happen, at the end of a tape that is warm. The lists grow before the world moves: after a growth that
+    // was refused the tape is as before.
     #[inline(always)]
     fn add_warm(
         &mut self,
         alloc: Global,
         event: Event,
         meter: &mut N::Meter,
-    ) -> Result<(), NoMemory>
+    ) -> Result<(), AddError>
         requires warm { IsTrue self.old.warm }
         requires end { self.old.place ≡ length self.old.events }
         requires room { length self.old.events < 65536 }
@@ -318,6 +352,7 @@ impl<N: Node> Tape<N> {
             (world_of (rules_of N.laws N.PROBES self.old) self.new).clock) }
         ensures work { OnOk result (AddsAtEnd N.laws N.PROBES event self.old (N.Meter.work meter.old) (N.Meter.work meter.new)) }
         ensures err { OnErr result (self.new ≡ with_world self.new.warm self.new.reach self.old) }
+        ensures growth { IfErr result (λ why. why ≡ AddError.Growth → self.new ≡ self.old) }
     {
         let is_whole = make_room(alloc, &mut self.log, &mut self.checkpoints)?;
         let (clock, copy) = self.walk.step(alloc, &self.log, event, is_whole, meter)?;
@@ -428,19 +463,26 @@ fn make_room<N: Node>(
     alloc: Global,
     log: &mut Log,
     worlds: &mut SharedList<PackedWorld<N>>,
-) -> Result<bool, NoMemory>
+) -> Result<bool, AddError>
     ensures same { log.new ≡ record log.old { room = log.new.room } }
     ensures room { OnOk result (IsTrue log.new.room) }
     ensures whole { IfOk result (λ whole. whole ≡ ((length log.old.entries + 1) % log.old.scenario.interval == 0)) }
     ensures items { worlds.new.items ≡ worlds.old.items }
     ensures has_room { IfOk result (λ whole. IsTrue whole → IsTrue worlds.new.has_room) }
+    ensures err { IfErr result (λ why. why ≡ AddError.Growth) }
 {
     if !log.has_room() {
-        log.reserve(alloc)?;
+        match log.reserve(alloc) {
+            Ok(()) => {}
+            Err(_) => return Err(AddError::Growth),
+        }
     }
     let is_whole = log.ends_interval();
     if is_whole {
-        worlds.reserve(alloc)?;
+        match worlds.reserve(alloc) {
+            Ok(()) => {}
+            Err(_) => return Err(AddError::Growth),
+        }
     }
     Ok(is_whole)
 }

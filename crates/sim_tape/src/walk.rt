@@ -421,11 +421,13 @@ impl<N: Node> Walk<N> {
         requires within { to ≤ length log.now.entries }
         ensures ok { OnOk result (IsWalkIn N.told N.records N.laws N.PROBES log.now to self.new.world self.new.ring.items) }
         ensures warm { OnOk result (IsSome self.new.world) }
+        ensures reach { OnOk result (length self.new.ring.items ≡ min self.old.ring.capacity (to - from)) }
         ensures work { OnOk result (Plays (to - from) (running checkpoint.now.world) (N.Meter.work meter.old) (N.Meter.work meter.new)) }
         ensures capacity { self.new.ring.capacity ≡ self.old.ring.capacity }
         ensures ring { length self.new.ring.items ≤ self.new.ring.capacity }
         ensures err { OnErr result ((place : ℕ) → IsWalkIn N.told N.records N.laws N.PROBES log.now place self.old.world self.old.ring.items →
             IsWalkIn N.told N.records N.laws N.PROBES log.now place self.new.world self.new.ring.items) }
+        ensures cold { OnErr result (self.old.world ≡ None → self.new.world ≡ None) }
     {
         let mut world = checkpoint.open(alloc, meter)?;
         self.give_way(&mut world);

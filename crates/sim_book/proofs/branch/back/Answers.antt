@@ -11,4 +11,4 @@ returns-in-Ok-clause-turn g c = λ ws book. back_on g.N.Node.laws g.N.Node.PROBE
 pub returns-in-Ok-clause-work : goal.returns-in-Ok-clause-work
 returns-in-Ok-clause-work g c =
     let W = g.N.Meter.Meter.work in
-    subst (λ (x : Reply). Works g.N.Node.laws g.N.Node.PROBES (command.Back c.args.b c.args.count) x c.args.tape.now c.back.new.self (W c.args.meter.now) (W c.back.new.meter)) (sym c.moved.ensures) (c.in-Ok.ensures.undos, c.in-Ok.ensures.work)
+    subst (λ (x : Reply). Works g.N.Node.laws g.N.Node.PROBES (command.Back c.args.b c.args.count) x c.args.tape.now c.back.new.self (W c.args.meter.now) (W c.back.new.meter)) (sym c.moved.ensures) (c.in-Ok.ensures.undos, c.in-Ok.ensures.work, c.in-Ok.ensures.anew)

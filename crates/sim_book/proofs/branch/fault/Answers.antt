@@ -1,14 +1,27 @@
+use Rattle.std.proofs.Common.{◌≡◌, true, arith, sym, ap, ◌∙◌, subst}
+use Rattle.sim_world.specs.declared.Event.TheVariants as event
+use Rattle.sim_world.specs.Events.{rules}
+use Rattle.sim_tape.specs.Tape.{Tape, with_world, with_event}
+use Rattle.sim_tape.specs.Works.{Plays, nodes_at_end}
 use Rattle.sim_book.specs.Works.{Works}
 use Rattle.sim_book.specs.declared.Command.TheVariants as command
 use Rattle.sim_book.specs.declared.Reply.{Reply}
-use Rattle.std.proofs.Common.{arith, sym, subst}
 use Rattle.sim_book.proofs.Turns.{fault_on}
 use Rattle.sim_book.proofs.branch.fault.Goals as goal
 
-pub returns-in-Ok-clause-turn : goal.returns-in-Ok-clause-turn
-returns-in-Ok-clause-turn g c = λ ws book. fault_on g.N.Node.laws g.N.Node.PROBES c.args.tape.now c.add.new.self book ws c.args.b c.args.fault c.moved.result (cc) (cc) (omega arith) (omega arith) c.in-Ok.ensures.ok c.moved.ensures
+pub returns-in-Ok-add-clause-turn : goal.returns-in-Ok-add-clause-turn
+returns-in-Ok-add-clause-turn g c = λ ws book.
+    let grown = c.in-Ok-add.ensures.ok ∙ ap (λ (v : Tape). with_world true c.add.new.self.reach (with_event (event.Fault c.args.fault) v)) c.in-Ok.ensures.ok in
+    fault_on g.N.Node.laws g.N.Node.PROBES c.args.tape.now c.add.new.self book ws c.args.b c.args.fault c.moved.result (cc) (cc) (omega arith) (omega arith) grown c.moved.ensures
 
-pub returns-in-Ok-clause-work : goal.returns-in-Ok-clause-work
-returns-in-Ok-clause-work g c =
+pub returns-in-Ok-add-clause-work : goal.returns-in-Ok-add-clause-work
+returns-in-Ok-add-clause-work g c =
     let W = g.N.Meter.Meter.work in
-    subst (λ (x : Reply). Works g.N.Node.laws g.N.Node.PROBES (command.Fault c.args.b c.args.fault) x c.args.tape.now c.add.new.self (W c.args.meter.now) (W c.add.new.meter)) (sym c.moved.ensures) c.in-Ok.ensures.work
+    let warm = λ (is : c.args.tape.now.warm ≡ true). (c.make_warm.ensures.warm is).2 in
+    subst (λ (x : Reply). Works g.N.Node.laws g.N.Node.PROBES (command.Fault c.args.b c.args.fault) x c.args.tape.now c.add.new.self (W c.args.meter.now) (W c.add.new.meter)) (sym c.moved.ensures)
+    (record {
+      made = W c.make_warm.new.meter;
+      first = (warm, c.in-Ok.ensures.cold);
+      last = subst (λ (t : Tape). Plays 1 (nodes_at_end (rules g.N.Node.laws g.N.Node.PROBES t.scenario) (event.Fault c.args.fault) t) (W c.make_warm.new.meter) (W c.add.new.meter)) c.in-Ok.ensures.ok
+          (c.in-Ok-add.ensures.work (ap (λ (t : Tape). t.warm) c.in-Ok.ensures.ok));
+    })

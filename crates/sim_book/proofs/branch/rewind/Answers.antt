@@ -1,5 +1,5 @@
 use Rattle.sim_book.specs.Works.{Works}
-use Rattle.std.proofs.Common.{arith, sym, subst}
+use Rattle.std.proofs.Common.{◌≡◌, true, arith, sym, subst}
 use Rattle.sim_book.proofs.Turns.{warm_reach, rewind_on, rewind_none, rewind_keeps, rewind_none_keeps, rewind_works, rewind_none_works}
 use Rattle.sim_book.specs.Keeps.{Keeps}
 use Rattle.sim_book.specs.declared.Command.TheVariants as command
@@ -28,15 +28,21 @@ returns-in-Ok-rewind-clause-keeps g c =
 pub returns-then-count-eq0-clause-work : goal.returns-then-count-eq0-clause-work
 returns-then-count-eq0-clause-work g c =
     let W = g.N.Meter.Meter.work in
+    let warm = λ (is : c.args.tape.now.warm ≡ true). (c.make_warm.ensures.warm is).2 in
     subst (λ (x : Reply). Works g.N.Node.laws g.N.Node.PROBES (command.Rewind c.args.b c.args.count) x c.args.tape.now c.make_warm.new.self (W c.args.meter.now) (W c.make_warm.new.meter)) (sym c.moved.ensures)
-    (λ warm _.
-    let kept = c.make_warm.ensures.warm warm in
-    rewind_none_works g.N.Node.laws g.N.Node.PROBES c.args.tape.now c.make_warm.new.self (W c.args.meter.now) (W c.make_warm.new.meter) kept.1 kept.2)
+    (record {
+      made = W c.make_warm.new.meter;
+      first = (warm, c.in-Ok.ensures.cold);
+      last = λ _. rewind_none_works g.N.Node.laws g.N.Node.PROBES c.args.tape.now c.make_warm.new.self (W c.make_warm.new.meter) c.in-Ok.ensures.ok;
+    })
 
 pub returns-in-Ok-rewind-clause-work : goal.returns-in-Ok-rewind-clause-work
 returns-in-Ok-rewind-clause-work g c =
     let W = g.N.Meter.Meter.work in
+    let warm = λ (is : c.args.tape.now.warm ≡ true). (c.make_warm.ensures.warm is).2 in
     subst (λ (x : Reply). Works g.N.Node.laws g.N.Node.PROBES (command.Rewind c.args.b c.args.count) x c.args.tape.now c.rewind.new.tape (W c.args.meter.now) (W c.rewind.new.meter)) (sym c.moved-in-Ok-rewind.ensures)
-    (λ warm.
-    let kept = c.make_warm.ensures.warm warm in
-    rewind_works g.N.Node.laws g.N.Node.PROBES c.args.tape.now c.make_warm.new.self c.rewind.new.tape (W c.args.meter.now) (W c.make_warm.new.meter) (W c.rewind.new.meter) kept.1 kept.2 c.in-Ok-rewind.ensures.work)
+    (record {
+      made = W c.make_warm.new.meter;
+      first = (warm, c.in-Ok.ensures.cold);
+      last = rewind_works g.N.Node.laws g.N.Node.PROBES c.args.tape.now c.make_warm.new.self c.rewind.new.tape (W c.make_warm.new.meter) (W c.rewind.new.meter) c.in-Ok.ensures.ok c.in-Ok.ensures.reach c.in-Ok-rewind.ensures.work;
+    })

@@ -1,5 +1,5 @@
 use Rattle.sim_book.specs.Works.{Works}
-use Rattle.std.proofs.Common.{arith, sym, subst}
+use Rattle.std.proofs.Common.{◌≡◌, true, arith, sym, subst}
 use Rattle.sim_book.proofs.Turns.{warm_reach, run_on, run_none, run_refused, run_keeps, run_none_keeps, busy_on, run_works, run_none_works}
 use Rattle.sim_book.specs.Keeps.{Keeps}
 use Rattle.sim_book.specs.declared.Command.TheVariants as command
@@ -35,15 +35,21 @@ returns-in-Err-run-clause-keeps g c = λ _. busy_on g.N.Node.laws g.N.Node.PROBE
 pub returns-then-count-eq0-clause-work : goal.returns-then-count-eq0-clause-work
 returns-then-count-eq0-clause-work g c =
     let W = g.N.Meter.Meter.work in
+    let warm = λ (is : c.args.tape.now.warm ≡ true). (c.make_warm.ensures.warm is).2 in
     subst (λ (x : Reply). Works g.N.Node.laws g.N.Node.PROBES (command.Run c.args.b c.args.count) x c.args.tape.now c.make_warm.new.self (W c.args.meter.now) (W c.make_warm.new.meter)) (sym c.moved.ensures)
-    (λ warm.
-    let kept = c.make_warm.ensures.warm warm in
-    run_none_works c.args.tape.now c.make_warm.new.self (W c.args.meter.now) (W c.make_warm.new.meter) kept.1 kept.2)
+    (record {
+      made = W c.make_warm.new.meter;
+      first = (warm, c.in-Ok.ensures.cold);
+      last = run_none_works g.N.Node.laws g.N.Node.PROBES c.args.tape.now c.make_warm.new.self (W c.make_warm.new.meter) c.in-Ok.ensures.ok;
+    })
 
 pub returns-in-Ok-run-clause-work : goal.returns-in-Ok-run-clause-work
 returns-in-Ok-run-clause-work g c =
     let W = g.N.Meter.Meter.work in
+    let warm = λ (is : c.args.tape.now.warm ≡ true). (c.make_warm.ensures.warm is).2 in
     subst (λ (x : Reply). Works g.N.Node.laws g.N.Node.PROBES (command.Run c.args.b c.args.count) x c.args.tape.now c.run.new.tape (W c.args.meter.now) (W c.run.new.meter)) (sym c.moved-in-Ok-run.ensures)
-    (λ warm.
-    let kept = c.make_warm.ensures.warm warm in
-    run_works c.args.tape.now c.make_warm.new.self c.run.new.tape _ (W c.args.meter.now) (W c.make_warm.new.meter) (W c.run.new.meter) kept.1 kept.2 c.in-Ok-run.ensures.ok c.in-Ok-run.ensures.work)
+    (record {
+      made = W c.make_warm.new.meter;
+      first = (warm, c.in-Ok.ensures.cold);
+      last = run_works g.N.Node.laws g.N.Node.PROBES c.args.tape.now c.make_warm.new.self c.run.new.tape _ (W c.make_warm.new.meter) (W c.run.new.meter) c.in-Ok.ensures.ok c.in-Ok-run.ensures.ok c.in-Ok-run.ensures.work;
+    })

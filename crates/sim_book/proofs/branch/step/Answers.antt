@@ -3,8 +3,10 @@ use Rattle.sim_tape.specs.Tape.{Tape}
 use Rattle.sim_book.specs.Works.{Works}
 use Rattle.sim_book.specs.declared.Command.TheVariants as command
 use Rattle.sim_book.specs.declared.Reply.{Reply}
-use Rattle.std.proofs.Common.{arith, sym, ap, subst}
-use Rattle.sim_book.proofs.Turns.{step_on, step_refused, busy_on, add_works}
+use Rattle.std.proofs.Common.{◌≡◌, true, arith, sym, ap, subst}
+use Rattle.sim_world.specs.Events.{rules}
+use Rattle.sim_tape.specs.Works.{Plays, nodes_at_end}
+use Rattle.sim_book.proofs.Turns.{step_on, step_refused, busy_on}
 use Rattle.sim_book.proofs.branch.step.Goals as goal
 
 pub returns-in-Err-can_step-clause-turn : goal.returns-in-Err-can_step-clause-turn
@@ -19,8 +21,11 @@ returns-in-Err-add-clause-keeps g c = λ _. busy_on g.N.Node.laws g.N.Node.PROBE
 pub returns-in-Ok-add-clause-work : goal.returns-in-Ok-add-clause-work
 returns-in-Ok-add-clause-work g c =
     let W = g.N.Meter.Meter.work in
+    let warm = λ (is : c.args.tape.now.warm ≡ true). (c.make_warm.ensures.warm is).2 in
     subst (λ (x : Reply). Works g.N.Node.laws g.N.Node.PROBES (command.Step c.args.b) x c.args.tape.now c.add.new.self (W c.args.meter.now) (W c.add.new.meter)) (sym c.moved.ensures)
-    (λ warm.
-    let kept = c.make_warm.ensures.warm warm in
-    add_works g.N.Node.laws g.N.Node.PROBES c.args.tape.now c.make_warm.new.self event.Step (W c.args.meter.now) (W c.make_warm.new.meter) (W c.add.new.meter) kept.1 kept.2
-    (c.in-Ok-add.ensures.work (ap (λ (t : Tape). t.warm) c.in-Ok.ensures.ok)))
+    (record {
+      made = W c.make_warm.new.meter;
+      first = (warm, c.in-Ok.ensures.cold);
+      last = subst (λ (t : Tape). Plays 1 (nodes_at_end (rules g.N.Node.laws g.N.Node.PROBES t.scenario) event.Step t) (W c.make_warm.new.meter) (W c.add.new.meter)) c.in-Ok.ensures.ok
+          (c.in-Ok-add.ensures.work (ap (λ (t : Tape). t.warm) c.in-Ok.ensures.ok));
+    })

@@ -1,5 +1,5 @@
 use Rattle.sim_book.specs.Works.{Works}
-use Rattle.std.proofs.Common.{arith, sym, subst}
+use Rattle.std.proofs.Common.{◌≡◌, true, arith, sym, subst}
 use Rattle.sim_book.proofs.Turns.{warm_reach, tick_on, run_keeps, run_works}
 use Rattle.sim_book.specs.Keeps.{Keeps}
 use Rattle.sim_book.specs.declared.Command.TheVariants as command
@@ -19,7 +19,10 @@ returns-in-Ok-tick-clause-keeps g c =
 pub returns-in-Ok-tick-clause-work : goal.returns-in-Ok-tick-clause-work
 returns-in-Ok-tick-clause-work g c =
     let W = g.N.Meter.Meter.work in
+    let warm = λ (is : c.args.tape.now.warm ≡ true). (c.make_warm.ensures.warm is).2 in
     subst (λ (x : Reply). Works g.N.Node.laws g.N.Node.PROBES (command.Tick c.args.b) x c.args.tape.now c.tick.new.tape (W c.args.meter.now) (W c.tick.new.meter)) (sym c.moved.ensures)
-    (λ warm.
-    let kept = c.make_warm.ensures.warm warm in
-    run_works c.args.tape.now c.make_warm.new.self c.tick.new.tape _ (W c.args.meter.now) (W c.make_warm.new.meter) (W c.tick.new.meter) kept.1 kept.2 c.in-Ok-tick.ensures.ok c.in-Ok-tick.ensures.work)
+    (record {
+      made = W c.make_warm.new.meter;
+      first = (warm, c.in-Ok.ensures.cold);
+      last = run_works g.N.Node.laws g.N.Node.PROBES c.args.tape.now c.make_warm.new.self c.tick.new.tape _ (W c.make_warm.new.meter) (W c.tick.new.meter) c.in-Ok.ensures.ok c.in-Ok-tick.ensures.ok c.in-Ok-tick.ensures.work;
+    })

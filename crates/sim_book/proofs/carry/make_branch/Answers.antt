@@ -8,6 +8,8 @@ use Rattle.sim_book.specs.declared.Reply.TheVariants as reply
 use Rattle.std.proofs.lemmas.List.Elements.{All-push}
 use Rattle.sim_book.specs.BookOf.{IsKept, AllKept}
 use Rattle.sim_book.specs.declared.Refusal.TheVariants as refusal
+use Rattle.sim_book.specs.Headline.{AreBranches}
+use Rattle.sim_book.proofs.Headlines.{branches_push}
 use Rattle.sim_book.proofs.Books.{branch_made, branch_wants}
 use Rattle.sim_book.proofs.carry.make_branch.Goals as goal
 
@@ -44,3 +46,15 @@ returns-in-Err-push-clause-turn g c = λ s.
 
 pub returns-in-Err-push-clause-same : goal.returns-in-Err-push-clause-same
 returns-in-Err-push-clause-same g c = λ s all. subst (λ (xs : List Kept). AllKept g.N.Node.PROBES s xs) (sym c.in-Err-push.ensures.items) all
+
+pub returns-in-Ok-push-clause-branches : goal.returns-in-Ok-push-clause-branches
+returns-in-Ok-push-clause-branches g c = λ s all branches.
+    let ks = c.args.branches.now.items in
+    let k = c.index-kept.result.now in
+    let one : IsKept g.N.Node.PROBES s k = subst (λ (x : Kept). IsKept g.N.Node.PROBES s x) (sym c.index-kept.ensures) (all c.args.b k c.requires) in
+    subst (λ (xs : List Kept). AreBranches (rules g.N.Node.laws g.N.Node.PROBES s) (all_shown xs)) (sym c.in-Ok-push.ensures.items)
+    (branches_push g.N.Node.laws g.N.Node.PROBES s ks c.in-Ok.made (c.in-Ok.ensures.kept s one).scenario c.in-Ok.ensures.branch branches)
+
+pub returns-in-Err-push-clause-branches : goal.returns-in-Err-push-clause-branches
+returns-in-Err-push-clause-branches g c = λ s all branches.
+    subst (λ (xs : List Kept). AreBranches (rules g.N.Node.laws g.N.Node.PROBES s) (all_shown xs)) (sym c.in-Err-push.ensures.items) branches

@@ -9,4 +9,4 @@ invariant-loop g l =
     let t = l.initial.tape in
     let W = g.N.Meter.Meter.work in
     IsRewinding g.N.Node.laws g.N.Node.PROBES l.watches t l.counter l.tape
-    × TakesBack (rules g.N.Node.laws g.N.Node.PROBES t.scenario) (t.place - l.counter) l.counter t (W l.initial.meter) (W l.meter)
+    × TakesBack (rules g.N.Node.laws g.N.Node.PROBES t.scenario) l.counter (t.place - l.counter) t (W l.initial.meter) (W l.meter)

@@ -1,11 +1,11 @@
-use Rattle.std.proofs.Common.{◌≡◌, ◌+◌, length, min, true, sym, ap, ◌∙◌, arith}
+use Rattle.std.proofs.Common.{◌≡◌, ◌+◌, length, min, true, refl, sym, ap, ◌∙◌, arith}
 use Rattle.sim_world.specs.declared.Event.TheVariants as event
 use Rattle.sim_world.specs.Events.{rules}
 use Rattle.sim_tape.specs.Tape.{Tape, with_world}
 use Rattle.sim_tape.specs.Places.{world_of}
 use Rattle.sim_book.specs.Tapes.{lengthened}
-use Rattle.sim_book.specs.Answer.{Addition}
-use Rattle.sim_book.proofs.Running.{lengthened_by, steps_length, adds_none, adds_more, adds_so}
+use Rattle.sim_book.specs.Answer.{Addition, steps}
+use Rattle.sim_book.proofs.Running.{lengthened_by, steps_length, adds_none, adds_on, adds_so}
 use Rattle.sim_book.proofs.Ticking.{step_can, ends_can, ticking_more, reach_next, ticked_is, ticked_all, ticked_length, ticking_none}
 use Rattle.sim_book.proofs.ticks.add_tick.Goals as goal
 
@@ -23,7 +23,7 @@ add-requires-in-loop-clause-can g c =
 pub loop-init : goal.loop-init
 loop-init g c =
     let is_end : c.args.end ≡ (world_of (rules g.N.Node.laws g.N.Node.PROBES c.args.tape.now.scenario) c.args.tape.now).clock + c.args.tape.now.scenario.tick = c.requires.end in
-    (ticking_none g.N.Node.laws g.N.Node.PROBES c.args.end c.args.tape.now c.requires.warm c.requires.place c.requires.reach (omega (arith, is_end)), adds_none (g.N.Meter.Meter.work c.args.meter.now))
+    (ticking_none g.N.Node.laws g.N.Node.PROBES c.args.end c.args.tape.now c.requires.warm c.requires.place c.requires.reach (omega (arith, is_end)), adds_none (rules g.N.Node.laws g.N.Node.PROBES c.args.tape.now.scenario) 0 c.args.tape.now.events (g.N.Meter.Meter.work c.args.meter.now) refl)
 
 pub loop-preserved : goal.loop-preserved
 loop-preserved g c =
@@ -32,7 +32,8 @@ loop-preserved g c =
     let W = g.N.Meter.Meter.work in (
       ticking_more g.N.Node.laws g.N.Node.PROBES c.args.end c.args.tape.now c.loop.tape c.add-in-loop.new.self c.loop.counter c.loop.invariant.0 v.ok (v.reach warm)
           (sym c.is_due_by.ensures ∙ c.if-not-is_due_by.false) v.clock v.on,
-      adds_more c.loop.counter _ (W c.args.meter.now) (W c.loop.meter) (W c.add-in-loop.new.meter) c.loop.invariant.1 (v.work warm),
+      adds_on g.N.Node.laws g.N.Node.PROBES c.loop.counter c.args.tape.now c.loop.tape c.add-in-loop.new.self (steps c.loop.counter) event.Step (W c.args.meter.now) (W c.loop.meter) (W c.add-in-loop.new.meter)
+          c.loop.invariant.0.new (steps_length c.loop.counter) v.ok c.loop.invariant.1 (v.work warm),
     )
 
 pub returns-then-not-is_due_by-clause-stop : goal.returns-then-not-is_due_by-clause-stop
@@ -82,12 +83,13 @@ returns-then-not-is_due_by-clause-work g c =
     let ticked = ticked_is g.N.Node.laws g.N.Node.PROBES c.args.end c.args.room c.args.tape.now c.loop.tape c.add.new.self c.loop.counter c.stop_at_end.result c.requires.end c.requires.room
     c.loop-test.true c.loop.invariant.0 (sym c.is_due_by.ensures ∙ c.if-not-is_due_by.true) c.in_ok-add.ensures.ok c.stop_at_end.ensures in
     let warm : c.loop.tape.warm ≡ true = ap (λ (t : Tape). t.warm) c.loop.invariant.0.new in
-    adds_so (c.loop.counter + 1) _ (W c.args.meter.now) (W c.add.new.meter) (sym (ticked_length c.loop.counter c.args.end) ∙ ap (λ (a : Addition). length a.events) (sym ticked))
-    (adds_more c.loop.counter _ (W c.args.meter.now) (W c.loop.meter) (W c.add.new.meter) c.loop.invariant.1 (c.in_ok-add.ensures.work warm))
+    adds_so (rules g.N.Node.laws g.N.Node.PROBES c.args.tape.now.scenario) (c.loop.counter + 1) _ c.add.new.self.events (W c.args.meter.now) (W c.add.new.meter) (sym (ticked_length c.loop.counter c.args.end) ∙ ap (λ (a : Addition). length a.events) (sym ticked))
+    (adds_on g.N.Node.laws g.N.Node.PROBES c.loop.counter c.args.tape.now c.loop.tape c.add.new.self (steps c.loop.counter) (event.Advance c.args.end) (W c.args.meter.now) (W c.loop.meter) (W c.add.new.meter)
+    c.loop.invariant.0.new (steps_length c.loop.counter) c.in_ok-add.ensures.ok c.loop.invariant.1 (c.in_ok-add.ensures.work warm))
 
 pub returns-clause-work : goal.returns-clause-work
 returns-clause-work g c =
     let W = g.N.Meter.Meter.work in
     let ticked = ticked_all g.N.Node.laws g.N.Node.PROBES c.args.end c.args.room c.args.tape.now c.loop.tape c.loop.counter c.stop_short.result c.requires.end c.requires.room (omega arith)
     c.loop.invariant.0 c.stop_short.ensures in
-    adds_so c.loop.counter _ (W c.args.meter.now) (W c.loop.meter) (sym (steps_length c.loop.counter) ∙ ap (λ (a : Addition). length a.events) (sym ticked)) c.loop.invariant.1
+    adds_so (rules g.N.Node.laws g.N.Node.PROBES c.args.tape.now.scenario) c.loop.counter _ c.loop.tape.events (W c.args.meter.now) (W c.loop.meter) (sym (steps_length c.loop.counter) ∙ ap (λ (a : Addition). length a.events) (sym ticked)) c.loop.invariant.1

@@ -1,0 +1,50 @@
+-- The headline. A branch keeps its events and a place among them, and no world: its world is the run of these events,
+-- from the start of the scenario up to the place. However the place was reached, forwards, back or by a jump, the world
+-- that a book lends of a branch is that one.
+use Rattle.std.specs.Prelude.{◌≡◌, ℕ, Bool, true, false, List, take, Option, Some, None, slice_get, IsTrue}
+use Rattle.std.specs.Option.{unwrap_or, option_map}
+use Rattle.std.specs.List.{All}
+use Rattle.sim_world.specs.World.{Scenario, World}
+use Rattle.sim_world.specs.Events.{Rules, run}
+use Rattle.sim_book.specs.declared.Command.{Command}
+use Rattle.sim_book.specs.declared.Command.TheVariants as command
+use Rattle.sim_book.specs.Book.{Branch, Book, IsBranch, branch, branch_of}
+use Rattle.sim_book.specs.Answer.{after, refusal_of}
+use Rattle.sim_book.specs.Kept.{Kept}
+
+-- there is such a branch, and its tape holds its world
+abbrev pub is_warm : ℕ → List Kept → Bool
+is_warm b kept = unwrap_or (option_map (λ k. k.tape.warm) (slice_get kept b)) false
+
+-- each tape is of this scenario
+abbrev pub AreOf : Scenario → List Kept → Type 0
+AreOf s kept = All (λ k. k.tape.scenario ≡ s) kept
+
+-- a command that adds one event
+abbrev pub adds_one : Command → Bool
+adds_one (command.Step b) = true
+adds_one (command.Fault b f) = true
+adds_one _ = false
+
+module _ {State Msg : Type 0} (r : Rules State Msg) where
+  -- the world of a branch: the run of its events up to its place
+  abbrev pub world_by_run : Branch → Option (World State Msg)
+  world_by_run x = run r (take x.place x.events)
+
+  abbrev pub IsWorldOf : Branch → World State Msg → Type 0
+  IsWorldOf x w = world_by_run x ≡ Some w
+
+  -- Each branch's events can happen one after the other, so that it has a world; its place is among them; it has eight watches.
+  abbrev pub AreBranches : Book → Type 0
+  AreBranches book = All (IsBranch r) book
+
+  -- An event that is added, and then a way back by one, lead to the world before the event.
+  abbrev pub BackAfterEvent : Book → Type 0
+  BackAfterEvent book = (c : Command) → IsTrue (adds_one c) → refusal_of r c book ≡ None →
+      let b = branch_of c in
+      world_by_run (branch b (after r (after r book c) (command.Back b 1))) ≡ world_by_run (branch b book)
+
+  -- A way back by n, and then one forward by n, lead to the world that was left.
+  abbrev pub ForwardAfterBack : Book → Type 0
+  ForwardAfterBack book = (b n : ℕ) → refusal_of r (command.Back b n) book ≡ None →
+      world_by_run (branch b (after r (after r book (command.Back b n)) (command.Forward b n))) ≡ world_by_run (branch b book)
