@@ -1,62 +1,51 @@
 //! What a meter of numbers counts at run time.
-ghost use Rattle.std.specs.Prelude.{◌≡◌, ◌≤◌};
-
-use super::echoes;
-use super::meter::Counts;
-use super::play::{applied, looks};
+use super::{CRASH, TWO_ECHOES};
 use sim_echo::Echo;
 use sim_node::Node;
-use sim_world::{Event, Fault, World};
+use sim_world::{Event, World};
 use std::alloc::Global;
-use std::process::Abort;
 use std::test::Fail;
+use test_support::{Counts, applied, looks, ran};
 
-type CountedWorld = World<Echo<Counts<HostRuntime>>>;
-
-#[test]
-fn turns_and_undos_are_counted(rt: HostRuntime) -> Result<(), Fail> {
-    let alloc = rt.alloc();
-    let mut meter = Counts::new(rt.clone()?);
-    let world = CountedWorld::start(alloc, &echoes(10, 0)?, &mut meter)?;
-    let (next, undo) = applied(alloc, world, Event::Step, &mut meter)?;
-    assert_eq!(rt; meter.counted(), (3, 0, 0));
-    let world = next.undo(alloc, undo, &mut meter)?;
-    assert_eq!(rt; world.age(), 0);
-    assert_eq!(rt; meter.counted(), (3, 0, 1));
-    Ok(())
-}
-
-// A copy of a world of so many hosts and probes shows the same, and so does one that was kept for later and opened.
-fn copies_alike<N: Node>(
-    rt: &impl Abort,
+// The world after a step, which is taken back.
+fn steps_and_back<N: Node>(
     alloc: Global,
-    world: &World<N>,
-    hosts: u16,
-    probes: u8,
+    world: World<N>,
     meter: &mut N::Meter,
-) -> Result<(), Fail>
-    requires hosts { world.now.scenario.setup.hosts ≡ hosts }
-    requires probes { probes ≤ N.PROBES }
-{
-    let seen = looks(alloc, world, hosts, probes)?;
-    let copy = world.copy(alloc, meter)?;
-    assert_eq!(rt; looks(alloc, &copy, hosts, probes)?, seen);
-    let opened = world.pack(alloc, meter)?.open(alloc, meter)?;
-    assert_eq!(rt; looks(alloc, &opened, hosts, probes)?, seen);
-    Ok(())
+) -> Result<World<N>, Fail> {
+    let (next, undo) = applied(alloc, world, Event::Step, meter)?;
+    Ok(next.undo(alloc, undo, meter)?)
 }
 
-// A stopped host is not copied.
+// Whether a copy of a world shows the same, and so does one that was kept for later and opened.
+fn is_copied<N: Node>(alloc: Global, world: &World<N>, meter: &mut N::Meter) -> Result<bool, Fail> {
+    let seen = looks(alloc, world)?;
+    let copied = looks(alloc, &world.copy(alloc, meter)?)?;
+    let opened = looks(alloc, &world.pack(alloc, meter)?.open(alloc, meter)?)?;
+    Ok(copied == seen && opened == seen)
+}
+
+// What is counted at the start, after a step and back, after two copies, and after two copies more
+// of a world in which one of two hosts was stopped.
+fn counted(alloc: Global) -> Result<[(u64, u64, u64); 4], Fail> {
+    let mut meter = Counts::new();
+    let world = World::<Echo<Counts>>::start(alloc, &TWO_ECHOES.scenario()?, &mut meter)?;
+    let start = meter.counted();
+    let world = steps_and_back(alloc, world, &mut meter)?;
+    let back = meter.counted();
+    let mut are_alike = is_copied(alloc, &world, &mut meter)?;
+    let copied = meter.counted();
+    let stopped = ran(alloc, world, &[CRASH], &mut meter)?;
+    are_alike &= is_copied(alloc, &stopped, &mut meter)?;
+    if !are_alike {
+        return Err(Fail::from("a copy shows something else"));
+    }
+    Ok([start, back, copied, meter.counted()])
+}
+
 #[test]
-fn the_hosts_that_run_are_copied(rt: HostRuntime) -> Result<(), Fail> {
-    let alloc = rt.alloc();
-    let mut meter = Counts::new(rt.clone()?);
-    let world = CountedWorld::start(alloc, &echoes(10, 0)?, &mut meter)?;
-    copies_alike(&rt, alloc, &world, 2, 2, &mut meter)?;
-    assert_eq!(rt; meter.counted(), (2, 6, 0));
-    let crash = Event::Fault(Fault::Crash(0));
-    let (stopped, _undo) = applied(alloc, world, crash, &mut meter)?;
-    copies_alike(&rt, alloc, &stopped, 2, 2, &mut meter)?;
-    assert_eq!(rt; meter.counted(), (2, 9, 0));
+fn calls_of_nodes_are_counted(rt: HostRuntime) -> Result<(), Fail> {
+    let wanted = [(2, 0, 0), (3, 0, 1), (3, 6, 1), (3, 9, 1)];
+    assert_eq!(rt; counted(rt.alloc())?, wanted);
     Ok(())
 }

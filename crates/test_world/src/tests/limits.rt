@@ -1,22 +1,13 @@
-//! What happens at the limits: 4,096 messages in flight and held, and the 4,096 bytes of a disk.
-use super::play::{Act, applied, summary};
-use super::{STEP, Scribe, Tally, echoes, scribe_plays, scribes};
+//! What happens at the limit of 4,096 messages in flight and held, to memory of records, and of the
+//! number of a scenario.
+use super::{BOUNCE, HOLD, Scribe, TWO_ECHOES, scribes};
 use sim_echo::Echo;
 use sim_node::Node;
-use sim_world::{Event, Fault, Query, World};
+use sim_tally::Tally;
+use sim_world::{Event, Query, Scenario, View, World};
 use std::alloc::Global;
 use std::test::Fail;
-
-// The world after an event.
-fn after<N: Node>(
-    alloc: Global,
-    world: World<N>,
-    event: Event,
-    meter: &mut N::Meter,
-) -> Result<World<N>, Fail> {
-    let (next, _undo) = applied(alloc, world, event, meter)?;
-    Ok(next)
-}
+use test_support::{Setting, applied, ran};
 
 // The world after its client started anew so many times, each time at once.
 fn started_anew<N: Node>(
@@ -26,57 +17,93 @@ fn started_anew<N: Node>(
     meter: &mut N::Meter,
 ) -> Result<World<N>, Fail> {
     let mut now = world;
-    for _round in 0..times {
-        let bounced = after(alloc, now, Event::Fault(Fault::Bounce(1)), meter)?;
-        now = after(alloc, bounced, Event::Step, meter)?;
+    for _ in 0..times {
+        now = ran(alloc, now, &[BOUNCE, Event::Step], meter)?;
     }
     Ok(now)
 }
 
-// Each start of the client sends a message, of which the first is in flight and the others are held.
+fn summary(clock: u64, serial: u64, net: u64, torn: u64, pending: u32, held: u32) -> View {
+    View::Summary {
+        clock,
+        serial,
+        net,
+        torn,
+        pending,
+        held,
+    }
+}
+
+// What is seen of a run whose client starts anew so many times, while all that it sends is held but
+// the first message.
+fn holds(alloc: Global, times: u32) -> Result<View, Fail> {
+    let mut meter = Tally::new();
+    let world = World::<Echo<Tally>>::start(alloc, &TWO_ECHOES.scenario()?, &mut meter)?;
+    let world = ran(alloc, world, &[Event::Step, Event::Step, HOLD], &mut meter)?;
+    let world = started_anew(alloc, world, times, &mut meter)?;
+    Ok(world.look(Query::Summary))
+}
+
 #[test]
 fn a_message_beyond_4096_is_dropped(rt: HostRuntime) -> Result<(), Fail> {
-    let alloc = rt.alloc();
+    let seen = (holds(rt.alloc(), 4_095)?, holds(rt.alloc(), 4_096)?);
+    let wanted = (
+        summary(0, 4_098, 2, 0, 1, 4_095),
+        summary(0, 4_099, 2, 0, 1, 4_095),
+    );
+    assert_eq!(rt; seen, wanted);
+    Ok(())
+}
+
+// What is seen after a step whose record, of a sync and two timers, is no longer wanted; then after
+// another step.
+fn seen_after_reuse(alloc: Global) -> Result<(View, View), Fail> {
     let mut meter = Tally::new();
-    let world = World::<Echo<Tally>>::start(alloc, &echoes(10, 0)?, &mut meter)?;
-    let world = after(alloc, world, Event::Step, &mut meter)?;
-    let world = after(alloc, world, Event::Step, &mut meter)?;
-    let hold = Event::Fault(Fault::Hold(0, 1));
-    let world = after(alloc, world, hold, &mut meter)?;
-    let world = started_anew(alloc, world, 4_095, &mut meter)?;
-    assert_eq!(rt;
-        world.look(Query::Summary),
-        summary(0, 4_098, 2, 0, 1, 4_095)
-    );
-    let world = started_anew(alloc, world, 1, &mut meter)?;
-    assert_eq!(rt;
-        world.look(Query::Summary),
-        summary(0, 4_099, 2, 0, 1, 4_095)
-    );
-    Ok(())
+    let scenario = scribes(2, 0, 0).scenario()?;
+    let world = World::<Scribe<Tally>>::start(alloc, &scenario, &mut meter)?;
+    let (mut world, undo) = applied(alloc, world, Event::Step, &mut meter)?;
+    world.reuse(undo);
+    let seen = world.look(Query::Summary);
+    let world = ran(alloc, world, &[Event::Step], &mut meter)?;
+    Ok((seen, world.look(Query::Summary)))
 }
 
-// Its four bytes end at byte 4,096 of the disk, and at 4,097.
-#[test]
-fn a_write_past_the_end_is_skipped(rt: HostRuntime) -> Result<(), Fail> {
-    for (offset, unsynced) in [(4_092, 1), (4_093, 0)] {
-        let acts = [STEP, Act::host(0, true, 1, 0, unsynced)];
-        scribe_plays(&rt, rt.alloc(), 0, offset, 0, &acts)?;
-    }
-    Ok(())
-}
-
-// A record of a step with a sync and two timers is no longer wanted.
 #[test]
 fn a_record_gives_its_memory(rt: HostRuntime) -> Result<(), Fail> {
-    let alloc = rt.alloc();
+    let wanted = (summary(0, 5, 0, 0, 3, 0), summary(0, 8, 0, 0, 4, 0));
+    assert_eq!(rt; seen_after_reuse(rt.alloc())?, wanted);
+    Ok(())
+}
+
+// What comes next after both hosts of echo have started.
+fn after_both_starts(alloc: Global, scenario: &Scenario) -> Result<View, Fail> {
     let mut meter = Tally::new();
-    let world = World::<Scribe<Tally>>::start(alloc, &scribes(2, 0, 0)?, &mut meter)?;
-    let (mut world, undo) = applied(alloc, world, Event::Step, &mut meter)?;
-    let seen = world.look(Query::Summary);
-    world.reuse(undo);
-    assert_eq!(rt; world.look(Query::Summary), seen);
-    let world = after(alloc, world, Event::Step, &mut meter)?;
-    assert_eq!(rt; world.look(Query::Summary), summary(0, 8, 0, 0, 4, 0));
+    let world = World::<Echo<Tally>>::start(alloc, scenario, &mut meter)?;
+    let world = ran(alloc, world, &[Event::Step, Event::Step], &mut meter)?;
+    Ok(world.look(Query::Next))
+}
+
+// The first message of a scenario with this seed, and of that which has this number.
+fn first_messages(alloc: Global, seed: [u8; 32], number: u64) -> Result<(View, View), Fail> {
+    let mut setting = TWO_ECHOES;
+    setting.seed = seed;
+    setting.way.latency_max = 60_000;
+    let scenario = setting.scenario()?;
+    let numbered = after_both_starts(alloc, &scenario.numbered(number))?;
+    Ok((after_both_starts(alloc, &scenario)?, numbered))
+}
+
+// The number stands in the last eight bytes of the seed, low byte first.
+#[test]
+fn a_scenario_is_numbered(rt: HostRuntime) -> Result<(), Fail> {
+    let mut written = [9; 32];
+    written[24..].copy_from_slice(&[8, 7, 6, 5, 4, 3, 2, 1]);
+    let number = 0x0102_0304_0506_0708;
+    let (first, numbered) = first_messages(rt.alloc(), [9; 32], number)?;
+    assert_ne!(rt; numbered, first);
+    assert_eq!(rt;
+        (numbered, numbered),
+        first_messages(rt.alloc(), written, number)?
+    );
     Ok(())
 }
