@@ -6,7 +6,7 @@ use sim_node::Setup;
 use sim_world::{Event, Fault, Kind, Refusal};
 use std::alloc::Global;
 use std::test::Fail;
-use test_support::{Act, Setting, TWO_ECHOES, plays, ran};
+use test_support::{Act, Setting, TWO_ECHOES, plays};
 
 const IDLE: Act = Act::Refused(Event::Step, Refusal::Idle);
 
@@ -260,7 +260,13 @@ const LARGE: Setting = Setting {
 // What another implementation of the rules computes.
 #[test]
 fn a_large_cluster_plays(rt: HostRuntime) -> Result<(), Fail> {
-    let acts = [Act::Steps(400)];
+    let acts = [
+        Act::Steps(400),
+        Act::Summary(361_077, 431, 798, 0, 31, 0),
+        Act::Next(361_194, 366, 0, Kind::Message),
+        Act::Probe(22, 0, Some(9)),
+        Act::Probe(31, 0, Some(6)),
+    ];
     plays::<Echo<Tally>>(rt.alloc(), &LARGE.scenario()?, &acts, &mut Tally::new())
 }
 

@@ -1,5 +1,0 @@
-use Rattle.std.proofs.Common.{length}
-use Rattle.test_protocols.proofs.tests.play.+there_and_back.Given as goal
-
-abbrev pub decreases-there_and_back : goal.decreases-there_and_back
-decreases-there_and_back g l = length l.acts.now
