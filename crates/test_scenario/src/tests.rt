@@ -1,74 +1,93 @@
-//! Texts, each with its fault's number and key, or with what it says. What is expected was worked out from the format's description.
+//! Texts of scenarios. What is expected was worked out from the format's description. What each test
+//! would catch, where proofs say nothing or definitions may be wrong:
+//!
+//! * `tables_hold`: a text that is answered with another fault, number or key than the format says,
+//!   or refused though it is a scenario; the order of faults.
+//! * `short_and_long_texts`: no text, a comment, the limit of 65,536 bytes, line ends of two bytes.
+//! * `texts_say_what_they_say`: a value, a name or a way that is read from elsewhere.
+//! * `faults_and_names`: what a fault prints, the number of want of memory, and which names are names.
 
 mod links;
 mod rows;
 mod said;
 mod texts;
 
+use links::{LINES_2, both_formats, ways_of_links};
 use said::{names_are, same, scenario, ways_are};
 use sim_links::Way;
 use sim_scenario::{Protocol, ScenarioFault, ScenarioText, is_name};
+use std::alloc::{AllocError, Global};
 use std::test::Fail;
 use texts::{LINES, is_answered, padded, rows_hold, text_with, with_crlf};
 
-#[test]
-fn faults_of_types(rt: HostRuntime) -> Result<(), Fail> {
-    rows_hold(rt.alloc(), &LINES, rows::NOT_TOML)?;
-    rows_hold(rt.alloc(), &LINES, rows::UNKNOWN_KEYS)?;
-    rows_hold(rt.alloc(), &LINES, rows::MISSING_KEYS)?;
-    rows_hold(rt.alloc(), &LINES, rows::WRONG_TYPES)
-}
+/// Each table, and the lines that its rows change.
+const TABLES: [(&[(&str, &str)], &str); 17] = [
+    (&LINES, rows::NOT_TOML),
+    (&LINES, rows::UNKNOWN_KEYS),
+    (&LINES, rows::MISSING_KEYS),
+    (&LINES, rows::WRONG_TYPES),
+    (&LINES, rows::SEEDS),
+    (&LINES, rows::PROTOCOLS),
+    (&LINES, rows::FORMATS),
+    (&LINES, rows::NUMBERS),
+    (&LINES, rows::NAMES),
+    (&LINES, rows::EQUAL_NAMES),
+    (&LINES, rows::HOST_COUNTS),
+    (&LINES, rows::CLIENTS),
+    (&LINES, rows::PAIRS),
+    (&LINES, rows::OTHER_WAYS),
+    (&LINES_2, links::SECOND_LINKS),
+    (&LINES_2, links::FORMAT_KEYS),
+    (&LINES_2, links::NO_LINK),
+];
 
 #[test]
-fn faults_of_values(rt: HostRuntime) -> Result<(), Fail> {
-    rows_hold(rt.alloc(), &LINES, rows::SEEDS)?;
-    rows_hold(rt.alloc(), &LINES, rows::PROTOCOLS)?;
-    rows_hold(rt.alloc(), &LINES, rows::FORMATS)?;
-    rows_hold(rt.alloc(), &LINES, rows::NUMBERS)
-}
-
-#[test]
-fn faults_of_hosts(rt: HostRuntime) -> Result<(), Fail> {
-    rows_hold(rt.alloc(), &LINES, rows::NAMES)?;
-    rows_hold(rt.alloc(), &LINES, rows::EQUAL_NAMES)?;
-    rows_hold(rt.alloc(), &LINES, rows::HOST_COUNTS)?;
-    rows_hold(rt.alloc(), &LINES, rows::CLIENTS)
-}
-
-#[test]
-fn first_of_two_faults(rt: HostRuntime) -> Result<(), Fail> {
-    rows_hold(rt.alloc(), &LINES, rows::PAIRS)
-}
-
-#[test]
-fn the_same_in_other_ways(rt: HostRuntime) -> Result<(), Fail> {
-    rows_hold(rt.alloc(), &LINES, rows::OTHER_WAYS)?;
-    let text = text_with(rt.alloc(), &LINES, "")?;
-    let text = with_crlf(rt.alloc(), text.as_str())?;
-    assert!(rt; is_answered(rt.alloc(), text.as_str(), "0"));
+fn tables_hold(rt: HostRuntime) -> Result<(), Fail> {
+    for (lines, table) in &TABLES {
+        rows_hold(rt.alloc(), *lines, *table)?;
+    }
     Ok(())
 }
 
-#[test]
-fn short_texts(rt: HostRuntime) {
-    let alloc = rt.alloc();
-    assert!(rt; is_answered(alloc, "", "4 format"), "no text");
-    assert!(rt; is_answered(alloc, "# nothing\n", "4 format"), "a comment");
-    assert!(rt; is_answered(alloc, "]", "2 text"), "no document");
+/// A text of a length, with an end that is no document.
+const LENGTHS: [(usize, &str, &str); 3] = [
+    (65_536, "", "0"),
+    (65_537, "", "1 text"),
+    (65_537, "\n]", "1 text"),
+];
+
+/// Whether a text of this length is answered so.
+fn is_long_answered(
+    alloc: Global,
+    len: usize,
+    end: &str,
+    wanted: &str,
+) -> Result<bool, AllocError> {
+    let text = padded(alloc, len, end)?;
+    Ok(is_answered(alloc, text.as_str(), wanted))
 }
 
-/// A text of 65,536 bytes, one of a byte more, and one that is not TOML either.
+/// Whether a text whose lines end in two bytes is a scenario.
+fn is_crlf_answered(alloc: Global) -> Result<bool, AllocError> {
+    let text = text_with(alloc, &LINES, "")?;
+    let text = with_crlf(alloc, text.as_str())?;
+    Ok(is_answered(alloc, text.as_str(), "0"))
+}
+
 #[test]
-fn long_texts(rt: HostRuntime) -> Result<(), Fail> {
-    let rows = [
-        (65_536, "", "0"),
-        (65_537, "", "1 text"),
-        (65_537, "\n]", "1 text"),
-    ];
-    for (len, end, wanted) in rows {
-        let text = padded(rt.alloc(), len, end)?;
-        assert!(rt; is_answered(rt.alloc(), text.as_str(), wanted), "{len}");
+fn short_and_long_texts(rt: HostRuntime) -> Result<(), Fail> {
+    let alloc = rt.alloc();
+    for (text, wanted) in [
+        ("", "4 format"),
+        ("# nothing\n", "4 format"),
+        ("]", "2 text"),
+    ] {
+        assert!(rt; is_answered(alloc, text, wanted), "{text}");
     }
+    for (len, end, wanted) in LENGTHS {
+        assert!(rt; is_long_answered(alloc, len, end, wanted)?, "{len}");
+    }
+    assert!(rt; is_crlf_answered(alloc)?);
     Ok(())
 }
 
@@ -119,31 +138,39 @@ fn says_the_lists(said: &ScenarioText) -> Result<(), Fail> {
     ways_are(&said.ways, way, &[])
 }
 
-#[test]
-fn what_a_text_says(rt: HostRuntime) -> Result<(), Fail> {
-    let said = scenario(rt.alloc(), OTHER)?;
+fn other_text(alloc: Global) -> Result<(), Fail> {
+    let said = scenario(alloc, OTHER)?;
     names_are(&said.names, &["north", "east2", "w", "x", "a"], "b")?;
     says_the_numbers(&said)?;
     says_the_lists(&said)
 }
 
 #[test]
-fn names(rt: HostRuntime) {
-    assert!(rt; is_name("a") && is_name("w2") && is_name("abcdefghijklmno7"));
-    assert!(rt; !is_name("") && !is_name("2w") && !is_name("W") && !is_name("abcdefghijklmno78"));
+fn texts_say_what_they_say(rt: HostRuntime) -> Result<(), Fail> {
+    other_text(rt.alloc())?;
+    both_formats(rt.alloc())?;
+    ways_of_links(rt.alloc())
 }
 
-#[test]
-fn a_fault_is_printed(rt: HostRuntime) -> Result<(), Fail> {
-    let fault = ScenarioFault::UnknownKey(String::from_str(rt.alloc(), "tock")?);
+/// What a fault prints.
+fn a_fault_is_printed(alloc: Global) -> Result<(), Fail> {
+    let fault = ScenarioFault::UnknownKey(String::from_str(alloc, "tock")?);
     same(&fault.number(), &3, "number")?;
     same(&fault.key(), &"tock", "key")?;
-    let shown = format!(in rt.alloc(); "{fault}")?;
+    let shown = format!(in alloc; "{fault}")?;
     same(&shown.as_str(), &"there is an unknown key, `tock`", "shown")
 }
 
 #[test]
-fn want_of_memory_has_no_number(rt: HostRuntime) {
+fn faults_and_names(rt: HostRuntime) -> Result<(), Fail> {
+    a_fault_is_printed(rt.alloc())?;
     assert_eq!(rt; ScenarioFault::NoMemory.number(), 0);
     assert_eq!(rt; ScenarioFault::NoMemory.key(), "memory");
+    for name in ["a", "w2", "abcdefghijklmno7"] {
+        assert!(rt; is_name(name), "{name}");
+    }
+    for name in ["", "2w", "W", "abcdefghijklmno78"] {
+        assert!(rt; !is_name(name), "{name}");
+    }
+    Ok(())
 }

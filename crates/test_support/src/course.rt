@@ -1,7 +1,6 @@
 //! Runs that go there and back: by their records, to the very world that they began with.
 ghost use Rattle.std.specs.Prelude.{◌≡◌, ◌-◌, IfOk};
-ghost use Rattle.sim_world.specs.Records.{LeadsBack};
-ghost use Rattle.sim_world.specs.Records.{back};
+ghost use Rattle.sim_world.specs.Records.{LeadsBack, back};
 
 use sim_node::Node;
 use sim_world::{Event, Undo, World};

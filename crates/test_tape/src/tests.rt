@@ -1,16 +1,22 @@
-//! Tapes of echo: runs whose answers are known, the work of jumps, and walks at random beside plain runs.
+//! Tapes of echo. What each test would catch, where proofs say nothing or definitions may be wrong:
+//!
+//! * `tapes_go_by_their_rows`: a tape that never has memory; places, clocks and views that are other
+//!   than what one works out by hand; more turns, copies or undos than a call may take.
+//! * `branches_and_frozen_runs`: a branch, or a frozen run, that changes with its origin.
+//! * `walks_are_as_plain_runs`, `walks_by_long_intervals_are_as_plain_runs`: any call that leaves another
+//!   world, other events or a shorter reach than steps from the start do, or that works more.
 mod calls;
-mod meter;
 mod plain;
 mod scene;
 mod walks;
 
 use scene::{Act, Scene};
-use sim_links::{Way, Ways};
+use sim_links::Way;
 use sim_node::Setup;
-use sim_world::{Event, Fault, Scenario, View};
+use sim_world::{Event, Fault, Scenario};
 use std::alloc::Global;
 use std::test::Fail;
+use test_support::Setting;
 use walks::Walk;
 
 // The first run, which ends after six steps.
@@ -23,137 +29,143 @@ const RUN: [Act; 6] = [
     Act::Step(40),
 ];
 
-// Two servers and two clients of echo, over ways that lose a message in ten.
+// Two servers and two clients, over ways that lose a message in ten.
 fn large_scenario(interval: u32, window: u32) -> Result<Scenario, Fail> {
-    let setup = Setup {
-        servers: 2,
-        hosts: 4,
-        ops: [20; 32],
+    let setting = Setting {
+        seed: [0; 32],
+        way: Way {
+            latency_min: 10,
+            latency_max: 19,
+            loss: 100,
+        },
+        disk_latency: 0,
+        setup: Setup {
+            servers: 2,
+            hosts: 4,
+            ops: [20; 32],
+        },
+        interval,
+        window,
     };
-    let ways = Ways::all(Way {
-        latency_min: 10,
-        latency_max: 19,
-        loss: 100,
-    });
-    Ok(Scenario::new([0; 32], 100, ways, 0, setup, interval, window)?)
+    Ok(setting.scenario()?)
 }
 
-// The view of a whole world of which no word of a torn write was drawn.
-fn summary(clock: u64, serial: u64, net: u64, pending: u32, held: u32) -> View {
-    View::Summary {
-        clock,
-        serial,
-        net,
-        torn: 0,
-        pending,
-        held,
-    }
-}
+// How many events lie between two checkpoints, how many have records, what happens first, and the
+// acts.
+type Row = (u32, u32, &'static [Act], &'static [Act]);
 
-// A tape that keeps a checkpoint after each four events and two records, through these acts.
-fn plays(alloc: Global, acts: &[Act]) -> Result<(), Fail> {
-    Scene::new(alloc, 4, 2)?.acts(acts)
-}
+const ROWS: [Row; 7] = [
+    // A run is walked back.
+    (
+        4,
+        2,
+        &RUN,
+        &[
+            Act::Idle,
+            Act::Back(6),
+            Act::Summary(0, 0, 2, 0, 2, 0),
+            Act::Forward(6),
+            Act::Summary(6, 40, 6, 8, 0, 0),
+        ],
+    ),
+    // A release is taken back.
+    (
+        4,
+        2,
+        &[],
+        &[
+            Act::Add(Event::Fault(Fault::Hold(0, 1))),
+            Act::Step(0),
+            Act::Step(0),
+            Act::Add(Event::Fault(Fault::Release(0, 1))),
+            Act::Message,
+            Act::Back(1),
+            Act::Summary(3, 0, 2, 0, 0, 1),
+            Act::Forward(1),
+            Act::Message,
+        ],
+    ),
+    // A crash is taken back.
+    (
+        4,
+        2,
+        &[],
+        &[
+            Act::Add(Event::Fault(Fault::Crash(0))),
+            Act::Summary(1, 0, 2, 0, 1, 0),
+            Act::Add(Event::Fault(Fault::Crash(0))),
+            Act::Summary(2, 0, 2, 0, 1, 0),
+            Act::Back(1),
+            Act::Summary(1, 0, 2, 0, 1, 0),
+            Act::Forward(1),
+            Act::Add(Event::Fault(Fault::Bounce(0))),
+            Act::Summary(3, 0, 3, 0, 2, 0),
+        ],
+    ),
+    // A tail is cut.
+    (
+        4,
+        2,
+        &RUN,
+        &[
+            Act::Back(2),
+            Act::Place(4, 6, 20),
+            Act::Cut,
+            Act::Place(4, 4, 20),
+            Act::Step(30),
+            Act::Step(40),
+            Act::Place(6, 6, 40),
+        ],
+    ),
+    // Adding counts a turn and each checkpoint.
+    (
+        4,
+        2,
+        &[],
+        &[
+            Act::Counted((2, 2, 0)),
+            Act::Add(Event::Step),
+            Act::Counted((3, 2, 0)),
+            Act::Add(Event::Step),
+            Act::Counted((4, 2, 0)),
+            Act::Add(Event::Step),
+            Act::Counted((5, 2, 0)),
+            Act::Add(Event::Step),
+            Act::Counted((6, 4, 0)),
+            Act::Add(Event::Step),
+            Act::Counted((7, 4, 0)),
+            Act::Add(Event::Step),
+            Act::Counted((8, 4, 0)),
+        ],
+    ),
+    // Jumps take the nearest way.
+    (
+        4,
+        2,
+        &RUN,
+        &[
+            Act::Jump(5, (0, 0, 1), 30),
+            Act::Jump(1, (1, 2, 0), 0),
+            Act::Jump(4, (0, 2, 0), 20),
+        ],
+    ),
+    // Each event has its checkpoint.
+    (1, 1, &RUN, &[Act::Jump(2, (0, 2, 0), 0)]),
+];
 
-// The first run, and then these acts.
-fn plays_on(alloc: Global, interval: u32, window: u32, acts: &[Act]) -> Result<(), Fail> {
+fn goes_by(alloc: Global, row: &Row) -> Result<(), Fail> {
+    let (interval, window, first, acts) = *row;
     let mut scene = Scene::new(alloc, interval, window)?;
-    scene.acts(&RUN)?;
+    scene.acts(first)?;
     scene.acts(acts)
 }
 
 #[test]
-fn a_run_is_walked_back(rt: HostRuntime) -> Result<(), Fail> {
-    let acts = [
-        Act::Idle,
-        Act::Back(6),
-        Act::Summary(0, summary(0, 2, 0, 2, 0)),
-        Act::Forward(6),
-        Act::Summary(6, summary(40, 6, 8, 0, 0)),
-    ];
-    plays_on(rt.alloc(), 4, 2, &acts)
-}
-
-#[test]
-fn a_release_is_taken_back(rt: HostRuntime) -> Result<(), Fail> {
-    let acts = [
-        Act::Add(Event::Fault(Fault::Hold(0, 1))),
-        Act::Step(0),
-        Act::Step(0),
-        Act::Add(Event::Fault(Fault::Release(0, 1))),
-        Act::Message,
-        Act::Back(1),
-        Act::Summary(3, summary(0, 2, 0, 0, 1)),
-        Act::Forward(1),
-        Act::Message,
-    ];
-    plays(rt.alloc(), &acts)
-}
-
-#[test]
-fn a_crash_is_taken_back(rt: HostRuntime) -> Result<(), Fail> {
-    let stopped = summary(0, 2, 0, 1, 0);
-    let acts = [
-        Act::Add(Event::Fault(Fault::Crash(0))),
-        Act::Summary(1, stopped),
-        Act::Add(Event::Fault(Fault::Crash(0))),
-        Act::Summary(2, stopped),
-        Act::Back(1),
-        Act::Summary(1, stopped),
-        Act::Forward(1),
-        Act::Add(Event::Fault(Fault::Bounce(0))),
-        Act::Summary(3, summary(0, 3, 0, 2, 0)),
-    ];
-    plays(rt.alloc(), &acts)
-}
-
-#[test]
-fn a_tail_is_cut(rt: HostRuntime) -> Result<(), Fail> {
-    let acts = [
-        Act::Back(2),
-        Act::Place(4, 6, 20),
-        Act::Cut,
-        Act::Place(4, 4, 20),
-        Act::Step(30),
-        Act::Step(40),
-        Act::Place(6, 6, 40),
-    ];
-    plays_on(rt.alloc(), 4, 2, &acts)
-}
-
-#[test]
-fn adding_counts_a_turn_and_each_checkpoint(rt: HostRuntime) -> Result<(), Fail> {
-    let acts = [
-        Act::Counted((2, 2, 0)),
-        Act::Add(Event::Step),
-        Act::Counted((3, 2, 0)),
-        Act::Add(Event::Step),
-        Act::Counted((4, 2, 0)),
-        Act::Add(Event::Step),
-        Act::Counted((5, 2, 0)),
-        Act::Add(Event::Step),
-        Act::Counted((6, 4, 0)),
-        Act::Add(Event::Step),
-        Act::Counted((7, 4, 0)),
-        Act::Add(Event::Step),
-        Act::Counted((8, 4, 0)),
-    ];
-    plays(rt.alloc(), &acts)
-}
-
-#[test]
-fn jumps_take_the_nearest_way(rt: HostRuntime) -> Result<(), Fail> {
-    let acts = [
-        Act::Jump(5, (0, 0, 1), 30),
-        Act::Jump(1, (1, 2, 0), 0),
-        Act::Jump(4, (0, 2, 0), 20),
-    ];
-    plays_on(rt.alloc(), 4, 2, &acts)
-}
-
-#[test]
-fn each_event_has_its_checkpoint(rt: HostRuntime) -> Result<(), Fail> {
-    plays_on(rt.alloc(), 1, 1, &[Act::Jump(2, (0, 2, 0), 0)])
+fn tapes_go_by_their_rows(rt: HostRuntime) -> Result<(), Fail> {
+    for row in &ROWS {
+        goes_by(rt.alloc(), row)?;
+    }
+    Ok(())
 }
 
 // Host 0 crashes on a branch after three events.
@@ -163,13 +175,13 @@ fn crashes_on_a_branch(origin: &Scene) -> Result<(), Fail> {
         Act::Step(20),
         Act::Step(30),
         Act::Idle,
-        Act::Summary(6, summary(30, 5, 6, 0, 0)),
+        Act::Summary(6, 30, 5, 6, 0, 0),
     ])
 }
 
-#[test]
-fn a_branch_leaves_its_origin(rt: HostRuntime) -> Result<(), Fail> {
-    let mut scene = Scene::new(rt.alloc(), 4, 2)?;
+// A branch leaves its origin.
+fn branches(alloc: Global) -> Result<(), Fail> {
+    let mut scene = Scene::new(alloc, 4, 2)?;
     scene.acts(&[Act::Step(0), Act::Step(0), Act::Step(10)])?;
     crashes_on_a_branch(&scene)?;
     scene.acts(&[Act::Step(20), Act::Step(30), Act::Step(40)])?;
@@ -177,11 +189,17 @@ fn a_branch_leaves_its_origin(rt: HostRuntime) -> Result<(), Fail> {
     scene.acts(&[Act::Jump(4, (0, 0, 2), 20)])
 }
 
-#[test]
-fn a_frozen_run_gives_tapes(rt: HostRuntime) -> Result<(), Fail> {
-    let mut scene = Scene::new(rt.alloc(), 4, 2)?;
+// A frozen run gives tapes.
+fn freezes(alloc: Global) -> Result<(), Fail> {
+    let mut scene = Scene::new(alloc, 4, 2)?;
     scene.acts(&RUN)?;
     scene.gives_tapes()
+}
+
+#[test]
+fn branches_and_frozen_runs(rt: HostRuntime) -> Result<(), Fail> {
+    branches(rt.alloc())?;
+    freezes(rt.alloc())
 }
 
 // A walk at random: first so many events are added, then so many calls are made.

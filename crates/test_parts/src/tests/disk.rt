@@ -3,7 +3,6 @@ ghost use Rattle.std.specs.Prelude.{◌≡◌, ◌+◌, length, IfOk};
 
 use sim_disk::{Disk, NoMemory, PackedDisks, SpareDisks, WriteFault};
 use std::alloc::Global;
-use std::process::Abort;
 use std::test::Fail;
 
 #[derive(Clone, Copy)]
@@ -22,6 +21,8 @@ enum Act {
     // The stable bytes, and how many writes are not stable.
     Is(&'static [u8], u32),
     Read(&'static [u8]),
+    // How many bytes are read, and the bytes 4,031 and 4,032 of them.
+    ReadsLast(usize, &'static [u8; 2]),
 }
 
 fn is(disk: &Disk, stable: &[u8], unsynced: u32) -> bool {
@@ -123,28 +124,34 @@ fn goes(
         Act::CrashAndBack(words, stable) => crash_and_back(alloc, disk, spare, words, stable),
         Act::Is(stable, unsynced) => Ok(is(disk, stable, unsynced)),
         Act::Read(bytes) => Ok(disk.read(alloc)?.as_slice() == bytes),
+        Act::ReadsLast(len, [zero, one]) => {
+            let read = disk.read(alloc)?;
+            Ok(read.len() == len && read.get(4031) == Some(zero) && read.get(4032) == Some(one))
+        }
     }
 }
 
-fn walk(rt: &impl Abort, alloc: Global, disk: &mut Disk, acts: &[Act]) -> Result<(), NoMemory> {
+// Whether each act is answered as it says.
+fn all_go(alloc: Global, disk: &mut Disk, acts: &[Act]) -> Result<bool, NoMemory> {
     let mut spare = SpareDisks::new(alloc);
+    let mut well = true;
     for act in acts {
-        assert!(rt; goes(alloc, disk, &mut spare, *act)?);
+        well &= goes(alloc, disk, &mut spare, *act)?;
     }
-    Ok(())
+    Ok(well)
 }
 
 // A disk of four stable bytes, all 0.
-fn zeros(rt: &impl Abort, alloc: Global) -> Result<Disk, NoMemory> {
-    let acts = [Act::Write(0, &[0; 4]), Act::Sync(1), Act::Is(&[0; 4], 0)];
+fn zeros(alloc: Global) -> Result<Disk, NoMemory> {
     let mut disk = Disk::new(alloc);
-    walk(rt, alloc, &mut disk, &acts)?;
+    all_go(alloc, &mut disk, &[Act::Write(0, &[0; 4]), Act::Sync(1)])?;
     Ok(disk)
 }
 
-#[test]
-fn torn_write(rt: HostRuntime) -> Result<(), Fail> {
-    let acts = [
+// Plays on a disk of four stable bytes, all 0: a torn write, and a gap.
+const PLAYS: [&[Act]; 2] = [
+    &[
+        Act::Is(&[0; 4], 0),
         Act::Write(0, &[0x11, 0x22, 0x33, 0x44]),
         Act::CrashAndBack(&[0], &[0; 4]),
         Act::CrashAndBack(&[1], &[0x11, 0x22, 0x33, 0x44]),
@@ -152,14 +159,8 @@ fn torn_write(rt: HostRuntime) -> Result<(), Fail> {
         Act::CrashAndBack(&[2], &[0; 4]),
         Act::Is(&[0; 4], 1),
         Act::Read(&[0x11, 0x22, 0x33, 0x44]),
-    ];
-    let mut disk = zeros(&rt, rt.alloc())?;
-    Ok(walk(&rt, rt.alloc(), &mut disk, &acts)?)
-}
-
-#[test]
-fn gap(rt: HostRuntime) -> Result<(), Fail> {
-    let acts = [
+    ],
+    &[
         Act::Write(6, &[7, 8]),
         Act::Read(&[0, 0, 0, 0, 0, 0, 7, 8]),
         Act::CrashAndBack(&[2], &[0; 4]),
@@ -167,9 +168,29 @@ fn gap(rt: HostRuntime) -> Result<(), Fail> {
         Act::Is(&[0, 0, 0, 0, 0, 0, 7], 0),
         Act::CrashAndBack(&[], &[0, 0, 0, 0, 0, 0, 7]),
         Act::Is(&[0, 0, 0, 0, 0, 0, 7], 0),
-    ];
-    let mut disk = zeros(&rt, rt.alloc())?;
-    Ok(walk(&rt, rt.alloc(), &mut disk, &acts)?)
+    ],
+];
+
+// The end of the disk.
+const END: [Act; 7] = [
+    Act::OutOfDisk(4033, &[1; 64]),
+    Act::OutOfDisk(4096, &[1]),
+    Act::OutOfDisk(u32::MAX, &[1]),
+    Act::WriteAndBack(1, &[2], 1),
+    Act::Is(&[], 0),
+    Act::Write(4032, &[1; 64]),
+    Act::ReadsLast(4096, &[0, 1]),
+];
+
+#[test]
+fn disks_go_by_their_rows(rt: HostRuntime) -> Result<(), Fail> {
+    for acts in &PLAYS {
+        let mut disk = zeros(rt.alloc())?;
+        assert!(rt; all_go(rt.alloc(), &mut disk, *acts)?);
+    }
+    let mut disk = Disk::new(rt.alloc());
+    assert!(rt; all_go(rt.alloc(), &mut disk, &END)?);
+    Ok(())
 }
 
 // A write for which a sync asks: how many writes this covers.
@@ -181,24 +202,22 @@ fn write_and_ask(disk: &mut Disk, offset: u32, byte: u8) -> Result<u32, NoMemory
     Ok(count)
 }
 
-#[test]
-fn syncs_in_flight(rt: HostRuntime) -> Result<(), Fail> {
-    let alloc = rt.alloc();
-    let mut disk = zeros(&rt, alloc)?;
+// What the disk shows after the first of two syncs in flight; then, taken back; then of a copy that
+// was made between, after the second sync; and after one of nothing.
+fn synced(alloc: Global) -> Result<[bool; 4], NoMemory> {
+    let mut disk = zeros(alloc)?;
     let first = write_and_ask(&mut disk, 0, 1)?;
     let second = write_and_ask(&mut disk, 1, 2)?;
-    assert_eq!(rt; (first, second), (1, 1));
     let mut spare = SpareDisks::new(alloc);
-    let synced = disk.sync(alloc, first, &mut spare)?;
-    assert!(rt; is(&disk, &[1, 0, 0, 0], 1));
+    let record = disk.sync(alloc, first, &mut spare)?;
+    let one = is(&disk, &[1, 0, 0, 0], 1);
     let mut other = disk.copy(alloc)?;
-    disk.undo(synced, &mut spare);
-    assert!(rt; is(&disk, &[0; 4], 2));
+    disk.undo(record, &mut spare);
+    let none = is(&disk, &[0; 4], 2);
     other.sync(alloc, second, &mut spare)?;
-    assert!(rt; is(&other, &[1, 2, 0, 0], 0));
+    let both = is(&other, &[1, 2, 0, 0], 0);
     other.sync(alloc, 0, &mut spare)?;
-    assert!(rt; is(&other, &[1, 2, 0, 0], 0));
-    Ok(())
+    Ok([one, none, both, is(&other, &[1, 2, 0, 0], 0)])
 }
 
 // A disk with nothing on it and the other, side by side.
@@ -211,32 +230,18 @@ fn beside_an_empty_one(alloc: Global, disk: &Disk) -> Result<PackedDisks, NoMemo
     Ok(packed)
 }
 
-#[test]
-fn kept_side_by_side(rt: HostRuntime) -> Result<(), Fail> {
-    let alloc = rt.alloc();
-    let mut disk = zeros(&rt, alloc)?;
+// Whether two disks that were kept side by side are as they were.
+fn are_kept(alloc: Global) -> Result<bool, NoMemory> {
+    let mut disk = zeros(alloc)?;
     write_and_ask(&mut disk, 0, 1)?;
     write_and_ask(&mut disk, 1, 2)?;
     let packed = beside_an_empty_one(alloc, &disk)?;
-    let (empty, disk) = (packed.get(alloc, 0)?, packed.get(alloc, 1)?);
-    assert!(rt; is(&empty, &[], 0) && is(&disk, &[0; 4], 2));
-    Ok(())
+    Ok(is(&packed.get(alloc, 0)?, &[], 0) && is(&packed.get(alloc, 1)?, &[0; 4], 2))
 }
 
 #[test]
-fn out_of_disk(rt: HostRuntime) -> Result<(), Fail> {
-    let acts = [
-        Act::OutOfDisk(4033, &[1; 64]),
-        Act::OutOfDisk(4096, &[1]),
-        Act::OutOfDisk(u32::MAX, &[1]),
-        Act::WriteAndBack(1, &[2], 1),
-        Act::Is(&[], 0),
-        Act::Write(4032, &[1; 64]),
-    ];
-    let mut disk = Disk::new(rt.alloc());
-    walk(&rt, rt.alloc(), &mut disk, &acts)?;
-    let read = disk.read(rt.alloc())?;
-    assert_eq!(rt; read.len(), 4096);
-    assert_eq!(rt; (read[4031], read[4032]), (0, 1));
+fn syncs_and_copies(rt: HostRuntime) -> Result<(), Fail> {
+    assert_eq!(rt; synced(rt.alloc())?, [true; 4]);
+    assert!(rt; are_kept(rt.alloc())?);
     Ok(())
 }

@@ -3,48 +3,9 @@ ghost use Rattle.sim_node.specs.Node.{IsSetup, IsFrom};
 
 use sim_echo::{Echo, EchoMsg, EchoUndo};
 use sim_node::{Effect, Effects, Input, Meter, NoMemory, Node, Setup, there_and_back};
+use sim_tally::Tally;
 use std::alloc::Global;
-use std::process::Abort;
 use std::test::Fail;
-
-/// A meter that counts in numbers, and ends the test rather than count too far.
-#[derive(Drop)]
-struct Counts<'a, R: Abort> {
-    rt: &'a R,
-    turns: u64,
-    copies: u64,
-    undos: u64,
-}
-
-impl<'a, R: Abort> Counts<'a, R> {
-    fn new(rt: &'a R) -> Self {
-        Counts {
-            rt,
-            turns: 0,
-            copies: 0,
-            undos: 0,
-        }
-    }
-}
-
-impl<'a, R: Abort> Meter for Counts<'a, R> {
-    ghost work = { λ m. record { turns = m.turns; copies = m.copies; undos = m.undos } };
-
-    fn turn(&mut self) {
-        self.turns = self.turns.checked_add(1).expect(self.rt, "too many turns");
-    }
-
-    fn copied(&mut self) {
-        self.copies = self
-            .copies
-            .checked_add(1)
-            .expect(self.rt, "too many copies");
-    }
-
-    fn undone(&mut self) {
-        self.undos = self.undos.checked_add(1).expect(self.rt, "too many undos");
-    }
-}
 
 /// Two servers and two clients, each of the clients with two operations.
 fn four_hosts() -> Setup
@@ -106,7 +67,7 @@ fn ping(n: u64) -> Option<Effect<EchoMsg>> {
 #[test]
 fn a_client_goes_by_its_rows(rt: HostRuntime) -> Result<(), Fail> {
     let alloc = rt.alloc();
-    let mut meter = Counts::new(&rt);
+    let mut meter = Tally::new();
     let mut node = Echo::boot(alloc, &four_hosts(), 3, &[9], &mut meter)?;
     let want = (EchoUndo::Next(0), ping(1), 1, 0);
     assert!(rt; reacts(alloc, &mut node, Input::Start, &mut meter, want)?);
@@ -125,14 +86,13 @@ fn a_client_goes_by_its_rows(rt: HostRuntime) -> Result<(), Fail> {
             "pong {n}"
         );
     }
-    assert_eq!(rt; (meter.turns, meter.copies, meter.undos), (9, 0, 4));
     Ok(())
 }
 
 #[test]
 fn a_server_goes_by_its_row(rt: HostRuntime) -> Result<(), Fail> {
     let alloc = rt.alloc();
-    let mut meter = Counts::new(&rt);
+    let mut meter = Tally::new();
     let mut node = Echo::boot(alloc, &four_hosts(), 0, &[], &mut meter)?;
     let ping = Input::Message {
         sender: 3,
@@ -149,13 +109,7 @@ fn a_server_goes_by_its_row(rt: HostRuntime) -> Result<(), Fail> {
 
     let copy = node.copy(alloc, &mut meter)?;
     assert_eq!(rt; (copy.probe(0), copy.probe(1)), (0, 1));
-    assert_eq!(rt; (meter.turns, meter.copies, meter.undos), (5, 1, 2));
-    Ok(())
-}
-
-#[test]
-fn messages_are_copied(rt: HostRuntime) -> Result<(), Fail> {
-    let msg = <Echo<Counts<HostRuntime>> as Node>::copy_msg(rt.alloc(), &EchoMsg::Ping(7))?;
+    let msg = <Echo<Tally> as Node>::copy_msg(alloc, &EchoMsg::Ping(7))?;
     assert_eq!(rt; msg, EchoMsg::Ping(7));
     Ok(())
 }

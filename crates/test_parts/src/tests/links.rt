@@ -3,7 +3,6 @@ ghost use Rattle.std.specs.Prelude.{◌≡◌, IfOk};
 
 use sim_links::{Change, LinkState, Links, NoMemory, Way, Ways};
 use std::alloc::Global;
-use std::process::Abort;
 use std::test::Fail;
 
 // What is done with the direction from 3 to 5.
@@ -65,75 +64,72 @@ fn goes(links: &mut Links<u32>, act: Act) -> Result<bool, NoMemory> {
     Ok(well)
 }
 
-fn walk(rt: &impl Abort, links: &mut Links<u32>, acts: &[Act]) -> Result<(), NoMemory> {
+// Whether each act is answered as it says.
+fn all_go(links: &mut Links<u32>, acts: &[Act]) -> Result<bool, NoMemory> {
+    let mut well = true;
     for act in acts {
-        assert!(rt; goes(links, *act)?);
+        well &= goes(links, *act)?;
+    }
+    Ok(well)
+}
+
+// Links after these acts.
+fn after(alloc: Global, acts: &[Act]) -> Result<Links<u32>, NoMemory> {
+    let mut links = Links::new(alloc)?;
+    all_go(&mut links, acts)?;
+    Ok(links)
+}
+
+// The direction is held, and holds two messages.
+const HELD: [Act; 3] = [Act::Change(Change::Hold, &[]), Act::Keep(7), Act::Keep(8)];
+
+const CUT: [Act; 1] = [Act::Change(Change::Cut, &[])];
+
+// What leads to a state, and each change from it by the table.
+const TABLE: [(&[Act], &[Act]); 3] = [
+    (
+        &[],
+        &[
+            Act::ChangeAndBack(Change::Hold, &[], LinkState::Held, 0),
+            Act::ChangeAndBack(Change::Cut, &[], LinkState::Cut, 0),
+            Act::ChangeAndBack(Change::Release, &[], LinkState::Through, 0),
+            Act::ChangeAndBack(Change::Repair, &[], LinkState::Through, 0),
+            Act::Is(LinkState::Through, 0),
+        ],
+    ),
+    (
+        &HELD,
+        &[
+            Act::ChangeAndBack(Change::Hold, &[], LinkState::Held, 2),
+            Act::ChangeAndBack(Change::Cut, &[7, 8], LinkState::Cut, 0),
+            Act::ChangeAndBack(Change::Release, &[7, 8], LinkState::Through, 0),
+            Act::ChangeAndBack(Change::Repair, &[], LinkState::Held, 2),
+            Act::Is(LinkState::Held, 2),
+            Act::Unkeep(8),
+            Act::Is(LinkState::Held, 1),
+            Act::Unkeep(7),
+            Act::Is(LinkState::Held, 0),
+        ],
+    ),
+    (
+        &CUT,
+        &[
+            Act::ChangeAndBack(Change::Hold, &[], LinkState::Held, 0),
+            Act::ChangeAndBack(Change::Cut, &[], LinkState::Cut, 0),
+            Act::ChangeAndBack(Change::Release, &[], LinkState::Cut, 0),
+            Act::ChangeAndBack(Change::Repair, &[], LinkState::Through, 0),
+            Act::Is(LinkState::Cut, 0),
+        ],
+    ),
+];
+
+#[test]
+fn a_direction_goes_by_the_table(rt: HostRuntime) -> Result<(), Fail> {
+    for (before, acts) in &TABLE {
+        let mut links = after(rt.alloc(), *before)?;
+        assert!(rt; all_go(&mut links, *acts)?);
     }
     Ok(())
-}
-
-// Links of which the direction is held, and holds two messages.
-fn held(rt: &impl Abort, alloc: Global) -> Result<Links<u32>, NoMemory> {
-    let acts = [Act::Change(Change::Hold, &[]), Act::Keep(7), Act::Keep(8)];
-    let mut links = Links::new(alloc)?;
-    walk(rt, &mut links, &acts)?;
-    Ok(links)
-}
-
-// Links of which the direction is cut.
-fn cut(rt: &impl Abort, alloc: Global) -> Result<Links<u32>, NoMemory> {
-    let mut links = Links::new(alloc)?;
-    walk(rt, &mut links, &[Act::Change(Change::Cut, &[])])?;
-    Ok(links)
-}
-
-// Ends the test where the direction is not held with two messages, or another is not open; it takes the newest message.
-fn take_held(rt: &impl Abort, links: &mut Links<u32>) -> Result<(), NoMemory> {
-    assert!(rt; others_are_open(links));
-    walk(rt, links, &[Act::Is(LinkState::Held, 2), Act::Unkeep(8)])
-}
-
-#[test]
-fn an_open_direction_by_the_table(rt: HostRuntime) -> Result<(), Fail> {
-    let acts = [
-        Act::ChangeAndBack(Change::Hold, &[], LinkState::Held, 0),
-        Act::ChangeAndBack(Change::Cut, &[], LinkState::Cut, 0),
-        Act::ChangeAndBack(Change::Release, &[], LinkState::Through, 0),
-        Act::ChangeAndBack(Change::Repair, &[], LinkState::Through, 0),
-        Act::Is(LinkState::Through, 0),
-    ];
-    let mut links = Links::new(rt.alloc())?;
-    Ok(walk(&rt, &mut links, &acts)?)
-}
-
-#[test]
-fn a_held_direction_by_the_table(rt: HostRuntime) -> Result<(), Fail> {
-    let acts = [
-        Act::ChangeAndBack(Change::Hold, &[], LinkState::Held, 2),
-        Act::ChangeAndBack(Change::Cut, &[7, 8], LinkState::Cut, 0),
-        Act::ChangeAndBack(Change::Release, &[7, 8], LinkState::Through, 0),
-        Act::ChangeAndBack(Change::Repair, &[], LinkState::Held, 2),
-        Act::Is(LinkState::Held, 2),
-        Act::Unkeep(8),
-        Act::Is(LinkState::Held, 1),
-        Act::Unkeep(7),
-        Act::Is(LinkState::Held, 0),
-    ];
-    let mut links = held(&rt, rt.alloc())?;
-    Ok(walk(&rt, &mut links, &acts)?)
-}
-
-#[test]
-fn a_cut_direction_by_the_table(rt: HostRuntime) -> Result<(), Fail> {
-    let acts = [
-        Act::ChangeAndBack(Change::Hold, &[], LinkState::Held, 0),
-        Act::ChangeAndBack(Change::Cut, &[], LinkState::Cut, 0),
-        Act::ChangeAndBack(Change::Release, &[], LinkState::Cut, 0),
-        Act::ChangeAndBack(Change::Repair, &[], LinkState::Through, 0),
-        Act::Is(LinkState::Cut, 0),
-    ];
-    let mut links = cut(&rt, rt.alloc())?;
-    Ok(walk(&rt, &mut links, &acts)?)
 }
 
 // Whether each direction but that from 3 to 5 is open.
@@ -147,31 +143,24 @@ fn others_are_open(links: &Links<u32>) -> bool {
     true
 }
 
-#[test]
-fn other_directions_stay(rt: HostRuntime) -> Result<(), Fail> {
-    let mut links = held(&rt, rt.alloc())?;
-    assert!(rt; others_are_open(&links));
-    walk(&rt, &mut links, &[Act::Change(Change::Cut, &[7, 8])])?;
-    assert!(rt; others_are_open(&links));
-    Ok(())
+// Whether the direction is held with two messages, and each other is open. It takes the newest.
+fn take_held(alloc: Global, links: &mut Links<u32>) -> Result<bool, NoMemory> {
+    let acts = [Act::Is(LinkState::Held, 2), Act::Unkeep(8)];
+    Ok(others_are_open(links) && all_go(links, &acts)?)
 }
 
-#[test]
-fn a_copy_is_equal(rt: HostRuntime) -> Result<(), Fail> {
-    let mut links = held(&rt, rt.alloc())?;
-    let mut copy = links.copy(rt.alloc(), |message: &u32| Ok(*message))?;
-    take_held(&rt, &mut copy)?;
-    walk(&rt, &mut links, &[Act::Is(LinkState::Held, 2)])?;
-    Ok(())
+// Whether a copy of held links is equal, and leaves them alone.
+fn is_copied(alloc: Global) -> Result<bool, NoMemory> {
+    let mut links = after(alloc, &HELD)?;
+    let mut copy = links.copy(alloc, |message: &u32| Ok(*message))?;
+    Ok(take_held(alloc, &mut copy)? && take_held(alloc, &mut links)?)
 }
 
-#[test]
-fn kept_for_later(rt: HostRuntime) -> Result<(), Fail> {
-    let alloc = rt.alloc();
-    let links = held(&rt, alloc)?;
-    let packed = links.pack(alloc, |message: &u32| Ok(*message))?;
+// Whether held links that were kept for later are as they were.
+fn is_kept(alloc: Global) -> Result<bool, NoMemory> {
+    let packed = after(alloc, &HELD)?.pack(alloc, |message: &u32| Ok(*message))?;
     let mut opened = packed.open(alloc, |message: &u32| Ok(*message))?;
-    Ok(take_held(&rt, &mut opened)?)
+    take_held(alloc, &mut opened)
 }
 
 // Messages that a trait copies.
@@ -192,11 +181,20 @@ fn copy_of<M: Message>(alloc: Global, links: &Links<M>) -> Result<Links<M>, NoMe
     links.copy(alloc, |message| M::copy_of(alloc, message))
 }
 
+// Whether a copy that a trait makes of cut links is equal.
+fn is_copied_by_a_trait(alloc: Global) -> Result<bool, NoMemory> {
+    let copy = copy_of(alloc, &after(alloc, &CUT)?)?;
+    Ok(is_in(&copy, LinkState::Cut, 0) && others_are_open(&copy))
+}
+
 #[test]
-fn a_copy_by_a_trait_is_equal(rt: HostRuntime) -> Result<(), Fail> {
-    let mut links = cut(&rt, rt.alloc())?;
-    let copy = copy_of(rt.alloc(), &links)?;
-    assert!(rt; is_in(&copy, LinkState::Cut, 0));
+fn copies_are_equal_and_apart(rt: HostRuntime) -> Result<(), Fail> {
+    assert!(rt; is_copied(rt.alloc())?);
+    assert!(rt; is_kept(rt.alloc())?);
+    assert!(rt; is_copied_by_a_trait(rt.alloc())?);
+    let mut links = after(rt.alloc(), &HELD)?;
+    let acts = [Act::Change(Change::Cut, &[7, 8])];
+    assert!(rt; all_go(&mut links, &acts)? && others_are_open(&links));
     Ok(())
 }
 

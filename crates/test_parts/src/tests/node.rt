@@ -2,7 +2,6 @@
 ghost use Rattle.std.specs.Prelude.{◌≡◌};
 
 use sim_node::{Effect, Effects, Setup};
-use std::process::Abort;
 use std::test::Fail;
 
 // What is asked for.
@@ -82,18 +81,21 @@ fn goes(effects: &mut Effects<u32>, act: Act) -> bool
     }
 }
 
-fn walk(rt: &impl Abort, effects: &mut Effects<u32>, acts: &[Act])
+// Whether each act is answered as it says.
+fn all_go(effects: &mut Effects<u32>, acts: &[Act]) -> bool
     requires { effects.old.hosts ≡ 4 }
     ensures { effects.new.hosts ≡ 4 }
 {
+    let mut well = true;
     for act in acts {
-        assert!(rt; goes(effects, *act));
+        well &= goes(effects, *act);
     }
+    well
 }
 
-#[test]
-fn effects_come_in_order_and_are_used_again(rt: HostRuntime) -> Result<(), Fail> {
-    let acts = [
+// Effects come in order, and the room for them is used again; there is room for forty.
+const PLAYS: [&[Act]; 4] = [
+    &[
         Act::Ask(Asked::Send(3, 7)),
         Act::Ask(Asked::Timer(200)),
         Act::Ask(Asked::Write(16, &[5, 6])),
@@ -109,18 +111,19 @@ fn effects_come_in_order_and_are_used_again(rt: HostRuntime) -> Result<(), Fail>
         Act::Ask(Asked::Send(0, 8)),
         Act::Take(Asked::Send(0, 8)),
         Act::Count(0),
-    ];
-    let mut effects = Effects::new(rt.alloc(), &FOUR_HOSTS)?;
-    walk(&rt, &mut effects, &acts);
-    Ok(())
-}
+    ],
+    &[Act::Ask(Asked::Sync); 40],
+    &[Act::Count(40)],
+    &[Act::Take(Asked::Sync); 40],
+];
 
 #[test]
-fn there_is_room_for_forty(rt: HostRuntime) -> Result<(), Fail> {
+fn effects_go_by_their_rows(rt: HostRuntime) -> Result<(), Fail> {
     let mut effects = Effects::new(rt.alloc(), &FOUR_HOSTS)?;
-    walk(&rt, &mut effects, &[Act::Ask(Asked::Sync); 40]);
-    walk(&rt, &mut effects, &[Act::Count(40)]);
-    walk(&rt, &mut effects, &[Act::Take(Asked::Sync); 40]);
-    walk(&rt, &mut effects, &[Act::TakeNone]);
+    let mut well = true;
+    for acts in &PLAYS {
+        well &= all_go(&mut effects, *acts);
+    }
+    assert!(rt; well && goes(&mut effects, Act::TakeNone));
     Ok(())
 }

@@ -3,7 +3,6 @@ ghost use Rattle.std.specs.Prelude.{◌≡◌, IfOk};
 
 use sim_queue::{Item, NoMemory, Queue};
 use std::alloc::Global;
-use std::process::Abort;
 use std::test::Fail;
 
 // An item's due, serial and body.
@@ -125,93 +124,89 @@ fn goes(queue: &mut Queue<char>, act: Act) -> Result<bool, NoMemory> {
     Ok(well)
 }
 
-fn walk(rt: &impl Abort, queue: &mut Queue<char>, acts: &[Act]) -> Result<(), NoMemory> {
+// A queue of the four items.
+fn four(alloc: Global) -> Result<Queue<char>, NoMemory> {
+    let mut queue = Queue::new(alloc);
+    for act in &FOUR {
+        goes(&mut queue, *act)?;
+    }
+    Ok(queue)
+}
+
+// Whether each act is answered as it says.
+fn all_go(queue: &mut Queue<char>, acts: &[Act]) -> Result<bool, NoMemory> {
+    let mut well = true;
     for act in acts {
-        assert!(rt; goes(queue, *act)?);
+        well &= goes(queue, *act)?;
+    }
+    Ok(well)
+}
+
+// Whether each act on a queue of the four items is answered as it says, and then exactly the four
+// are there, unless the acts say that they are not.
+fn plays(alloc: Global, acts: &[Act], has_four: bool) -> Result<bool, NoMemory> {
+    let mut queue = four(alloc)?;
+    Ok(all_go(&mut queue, acts)? && (!has_four || all_go(&mut queue, &HAS_FOUR)?))
+}
+
+// The acts on a queue of the four items, and whether these are there in the end.
+const PLAYS: [(&[Act], bool); 4] = [
+    (
+        &[
+            Act::First(Some((10, 1, 'b'))),
+            Act::NextBut(0, 'x', Some(0)),
+            Act::Take(2, Some((20, 2, 'c'))),
+            Act::Take(2, None),
+            Act::NextBut(2, 'x', Some(3)),
+            Act::NextBut(4, 'x', None),
+            Act::Counts(3, 4),
+        ],
+        false,
+    ),
+    (
+        &[
+            Act::InsertAndBack(5, 'e', 4, (5, 4, 'e')),
+            Act::First(Some((10, 1, 'b'))),
+            Act::InsertAndBack(50, 'f', 4, (10, 1, 'b')),
+        ],
+        true,
+    ),
+    (
+        &[
+            Act::TakeAndBack(0),
+            Act::TakeAndBack(1),
+            Act::TakeAndBack(2),
+            Act::TakeAndBack(3),
+            Act::TakeFirstAndBack((10, 1, 'b'), (10, 3, 'd')),
+        ],
+        true,
+    ),
+    (
+        &[
+            Act::NextBut(0, 'a', Some(1)),
+            Act::NextBut(2, 'c', Some(3)),
+            Act::NextBut(3, 'd', None),
+            Act::Take(0, Some((30, 0, 'a'))),
+            Act::Insert(40, 'e', 4),
+            Act::NextBut(0, 'b', Some(2)),
+            Act::NextBut(4, 'x', Some(4)),
+        ],
+        false,
+    ),
+];
+
+#[test]
+fn four_items_go_by_their_rows(rt: HostRuntime) -> Result<(), Fail> {
+    for (acts, has_four) in &PLAYS {
+        assert!(rt; plays(rt.alloc(), *acts, *has_four)?);
     }
     Ok(())
 }
 
-// A queue of the four items.
-fn four(rt: &impl Abort, alloc: Global) -> Result<Queue<char>, NoMemory> {
-    let mut queue = Queue::new(alloc);
-    walk(rt, &mut queue, &FOUR)?;
-    Ok(queue)
-}
-
-// Ends the test where the queue is not one of exactly the four items; it takes them.
-fn take_four(rt: &impl Abort, queue: &mut Queue<char>) -> Result<(), NoMemory> {
-    walk(rt, queue, &HAS_FOUR)
-}
-
-// The acts on a queue of the four items.
-fn walk_from_four(rt: &impl Abort, alloc: Global, acts: &[Act]) -> Result<Queue<char>, NoMemory> {
-    let mut queue = four(rt, alloc)?;
-    walk(rt, &mut queue, acts)?;
-    Ok(queue)
-}
-
-const LOOKS: [Act; 7] = [
-    Act::First(Some((10, 1, 'b'))),
-    Act::NextBut(0, 'x', Some(0)),
-    Act::Take(2, Some((20, 2, 'c'))),
-    Act::Take(2, None),
-    Act::NextBut(2, 'x', Some(3)),
-    Act::NextBut(4, 'x', None),
-    Act::Counts(3, 4),
-];
-
-#[test]
-fn looks(rt: HostRuntime) -> Result<(), Fail> {
-    walk_from_four(&rt, rt.alloc(), &LOOKS)?;
-    Ok(())
-}
-
-const INSERTIONS_TAKEN_BACK: [Act; 3] = [
-    Act::InsertAndBack(5, 'e', 4, (5, 4, 'e')),
-    Act::First(Some((10, 1, 'b'))),
-    Act::InsertAndBack(50, 'f', 4, (10, 1, 'b')),
-];
-
-#[test]
-fn insertions_taken_back(rt: HostRuntime) -> Result<(), Fail> {
-    let mut queue = walk_from_four(&rt, rt.alloc(), &INSERTIONS_TAKEN_BACK)?;
-    Ok(take_four(&rt, &mut queue)?)
-}
-
-const TAKING_TAKEN_BACK: [Act; 5] = [
-    Act::TakeAndBack(0),
-    Act::TakeAndBack(1),
-    Act::TakeAndBack(2),
-    Act::TakeAndBack(3),
-    Act::TakeFirstAndBack((10, 1, 'b'), (10, 3, 'd')),
-];
-
-#[test]
-fn taking_taken_back(rt: HostRuntime) -> Result<(), Fail> {
-    let mut queue = walk_from_four(&rt, rt.alloc(), &TAKING_TAKEN_BACK)?;
-    Ok(take_four(&rt, &mut queue)?)
-}
-
-const SEARCHES: [Act; 7] = [
-    Act::NextBut(0, 'a', Some(1)),
-    Act::NextBut(2, 'c', Some(3)),
-    Act::NextBut(3, 'd', None),
-    Act::Take(0, Some((30, 0, 'a'))),
-    Act::Insert(40, 'e', 4),
-    Act::NextBut(0, 'b', Some(2)),
-    Act::NextBut(4, 'x', Some(4)),
-];
-
-#[test]
-fn searches(rt: HostRuntime) -> Result<(), Fail> {
-    walk_from_four(&rt, rt.alloc(), &SEARCHES)?;
-    Ok(())
-}
-
-#[test]
-fn put_back_before_all_others(rt: HostRuntime) -> Result<(), Fail> {
-    let acts = [
+// Acts on a queue with no items. The second is of sparse dues: 300 goes to a list in which 556
+// comes later, while 44 and another 300 go before it.
+const OTHERS: [&[Act]; 2] = [
+    &[
         Act::First(None),
         Act::TakeFirst(None),
         Act::Insert(10, 'a', 0),
@@ -221,8 +216,34 @@ fn put_back_before_all_others(rt: HostRuntime) -> Result<(), Fail> {
         Act::NextBut(1, 'x', Some(1)),
         Act::Counts(2, 2),
         Act::Insert(40, 'd', 2),
-    ];
-    Ok(walk(&rt, &mut Queue::new(rt.alloc()), &acts)?)
+    ],
+    &[
+        Act::Insert(300, 'a', 0),
+        Act::Insert(44, 'b', 1),
+        Act::Insert(300, 'c', 2),
+        Act::Insert(556, 'd', 3),
+        Act::InsertAndBack(45, 'e', 4, (44, 1, 'b')),
+        Act::TakeAndBack(0),
+        Act::TakeFirstAndBack((44, 1, 'b'), (300, 0, 'a')),
+        Act::TakeFirst(Some((44, 1, 'b'))),
+        Act::TakeFirst(Some((300, 0, 'a'))),
+        Act::Insert(812, 'e', 4),
+        Act::Insert(301, 'f', 5),
+        Act::TakeFirst(Some((300, 2, 'c'))),
+        Act::TakeFirst(Some((301, 5, 'f'))),
+        Act::TakeFirst(Some((556, 3, 'd'))),
+        Act::TakeFirst(Some((812, 4, 'e'))),
+        Act::TakeFirst(None),
+    ],
+];
+
+#[test]
+fn other_items_go_by_their_rows(rt: HostRuntime) -> Result<(), Fail> {
+    for acts in &OTHERS {
+        let mut queue = Queue::new(rt.alloc());
+        assert!(rt; all_go(&mut queue, *acts)?);
+    }
+    Ok(())
 }
 
 fn same(body: &char) -> Result<char, NoMemory>
@@ -247,56 +268,40 @@ fn wants_bodies(alloc: Global, queue: &Queue<char>) -> Result<bool, NoMemory> {
     )
 }
 
-// A copy of a queue of four items, which is dropped.
-fn copied(rt: &impl Abort, alloc: Global) -> Result<Queue<char>, NoMemory> {
-    four(rt, alloc)?.copy(alloc, same)
+// Whether a queue that was copied, and its copy that was kept and opened, have the four items.
+fn is_copied(alloc: Global) -> Result<bool, NoMemory> {
+    let mut copy = four(alloc)?.copy(alloc, same)?;
+    let mut opened = copy.pack(alloc, same)?.open(alloc, same)?;
+    Ok(all_go(&mut copy, &HAS_FOUR)? && all_go(&mut opened, &HAS_FOUR)?)
 }
 
-// A queue of four items as it was kept.
-fn opened(rt: &impl Abort, alloc: Global) -> Result<Queue<char>, NoMemory> {
-    let packed = four(rt, alloc)?.pack(alloc, same)?;
-    packed.open(alloc, same)
-}
-
-#[test]
-fn copies(rt: HostRuntime) -> Result<(), Fail> {
-    let mut queue = copied(&rt, rt.alloc())?;
-    Ok(take_four(&rt, &mut queue)?)
-}
-
-// How many items a copy of a queue has from which one is taken after that.
-fn left_in_copy(alloc: Global, queue: &mut Queue<char>) -> Result<usize, NoMemory> {
+// How many items a queue has from which one is taken, and its copy that was made before.
+fn left_in_copy(alloc: Global) -> Result<(usize, usize), NoMemory> {
+    let mut queue = four(alloc)?;
     let copy = queue.copy(alloc, same)?;
     queue.take_first();
-    Ok(copy.len())
+    Ok((queue.len(), copy.len()))
 }
 
 #[test]
-fn a_copy_is_apart(rt: HostRuntime) -> Result<(), Fail> {
-    let mut queue = four(&rt, rt.alloc())?;
-    assert!(rt; left_in_copy(rt.alloc(), &mut queue)? == 4);
-    assert!(rt; queue.len() == 3);
+fn copies_are_apart(rt: HostRuntime) -> Result<(), Fail> {
+    assert!(rt; is_copied(rt.alloc())?);
+    assert_eq!(rt; left_in_copy(rt.alloc())?, (3, 4));
+    assert!(rt; wants_bodies(rt.alloc(), &four(rt.alloc())?)?);
     Ok(())
 }
 
-#[test]
-fn no_copy_without_bodies(rt: HostRuntime) -> Result<(), Fail> {
-    let queue = four(&rt, rt.alloc())?;
-    assert!(rt; wants_bodies(rt.alloc(), &queue)?);
-    Ok(())
-}
-
-#[test]
-fn kept_for_later(rt: HostRuntime) -> Result<(), Fail> {
-    let mut queue = opened(&rt, rt.alloc())?;
-    Ok(take_four(&rt, &mut queue)?)
-}
-
-#[test]
-fn many_dead_keys(rt: HostRuntime) -> Result<(), Fail> {
-    let mut queue = four(&rt, rt.alloc())?;
+// Whether the four items are there after many insertions that were taken back.
+fn forgets(alloc: Global) -> Result<bool, NoMemory> {
+    let mut queue = four(alloc)?;
     for due in 100..400 {
         insert_and_back(&mut queue, due, 'e')?;
     }
-    Ok(take_four(&rt, &mut queue)?)
+    all_go(&mut queue, &HAS_FOUR)
+}
+
+#[test]
+fn insertions_taken_back_leave_nothing(rt: HostRuntime) -> Result<(), Fail> {
+    assert!(rt; forgets(rt.alloc())?);
+    Ok(())
 }

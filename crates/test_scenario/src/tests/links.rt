@@ -1,13 +1,16 @@
 //! Texts of format 2: their links, and the time that a sync takes.
 
-use super::said::{same, scenario, ways_are};
-use super::texts::{LINES, rows_hold, text_with};
+ghost use Rattle.sim_scenario.specs.Hosts.{IsNumbered};
+
+use super::said::{names_are, same, scenario, ways_are};
+use super::texts::{LINES, text_with};
 use sim_links::Way;
-use sim_scenario::{Protocol, ScenarioText, host_name};
+use sim_scenario::{Protocol, ScenarioText};
+use std::alloc::Global;
 use std::test::Fail;
 
 /// The lines of a text of format 2, whose syncs take no time, with a link from `w` to `a` and room for more.
-const LINES_2: [(&str, &str); 13] = [
+pub const LINES_2: [(&str, &str); 13] = [
     ("format", "format = 2\ndisk_latency = 0\n"),
     (
         "seed",
@@ -31,7 +34,7 @@ const LINES_2: [(&str, &str); 13] = [
 
 /// Links that follow another: unknown keys, missing ones, wrong types and numbers out of their ranges, in the order of the keys and
 /// a table before the next; then a source or target that is no host, or both one; then a pair twice, also where both say the same.
-const SECOND_LINKS: &str = r#"
+pub const SECOND_LINKS: &str = r#"
 > 0 @more
 [[link]]
 source = "a"
@@ -240,7 +243,7 @@ loss = 0
 "#;
 
 /// A link in each format, and the keys of format 2.
-const FORMAT_KEYS: &str = r#"
+pub const FORMAT_KEYS: &str = r#"
 > 0 @format
 format = 2
 disk_latency = 0
@@ -278,7 +281,7 @@ kink = 1
 "#;
 
 /// No links, links that are no array of tables, and equal names before a link to no host.
-const NO_LINK: &str = r#"
+pub const NO_LINK: &str = r#"
 > 0 @link
 
 @more
@@ -345,56 +348,44 @@ fn steady(latency: u32) -> Way {
     }
 }
 
-#[test]
-fn faults_of_links(rt: HostRuntime) -> Result<(), Fail> {
-    rows_hold(rt.alloc(), &LINES_2, SECOND_LINKS)
-}
-
-#[test]
-fn keys_of_format_2(rt: HostRuntime) -> Result<(), Fail> {
-    rows_hold(rt.alloc(), &LINES_2, FORMAT_KEYS)?;
-    rows_hold(rt.alloc(), &LINES_2, NO_LINK)
-}
-
 /// Both formats say the same where syncs take no time and there is no link.
-#[test]
-fn both_formats(rt: HostRuntime) -> Result<(), Fail> {
-    let text = text_with(rt.alloc(), &LINES, "")?;
-    let one = scenario(rt.alloc(), text.as_str())?;
-    let text = text_with(rt.alloc(), &LINES_2, "link\n\n@more\n")?;
-    let two = scenario(rt.alloc(), text.as_str())?;
+pub fn both_formats(alloc: Global) -> Result<(), Fail> {
+    let text = text_with(alloc, &LINES, "")?;
+    let one = scenario(alloc, text.as_str())?;
+    let text = text_with(alloc, &LINES_2, "link\n\n@more\n")?;
+    let two = scenario(alloc, text.as_str())?;
     say_the_same(&two, &one)?;
     ways_are(&one.ways, steady(10), &[])?;
     ways_are(&two.ways, steady(10), &[])
 }
 
-fn say_the_same(two: &ScenarioText, one: &ScenarioText) -> Result<(), Fail> {
-    same(&two.names.len(), &one.names.len(), "hosts")?;
-    same(
-        &host_name(&two.names, 0),
-        &host_name(&one.names, 0),
-        "host 0",
-    )?;
-    same(
-        &host_name(&two.names, 1),
-        &host_name(&one.names, 1),
-        "host 1",
-    )?;
+/// The numbers that a text says.
+fn numbers(said: &ScenarioText) -> (u32, u32, u16, u32, u32) {
+    (
+        said.tick,
+        said.disk_latency,
+        said.servers,
+        said.checkpoint,
+        said.window,
+    )
+}
+
+fn say_the_same(two: &ScenarioText, one: &ScenarioText) -> Result<(), Fail>
+    requires two { IsNumbered two.now.names }
+    requires one { IsNumbered one.now.names }
+{
+    names_are(&two.names, &["a", "w"], "b")?;
+    names_are(&one.names, &["a", "w"], "b")?;
     same(&two.protocol, &one.protocol, "protocol")?;
     same(&two.seed, &one.seed, "seed")?;
-    same(&two.tick, &one.tick, "tick")?;
-    same(&two.disk_latency, &one.disk_latency, "disk_latency")?;
-    same(&two.servers, &one.servers, "servers")?;
-    same(&two.ops, &one.ops, "ops")?;
-    same(&two.checkpoint, &one.checkpoint, "checkpoint")?;
-    same(&two.window, &one.window, "window")
+    same(&numbers(two), &numbers(one), "numbers")?;
+    same(&two.ops, &one.ops, "ops")
 }
 
 /// Links change their own directions alone.
-#[test]
-fn ways_of_links(rt: HostRuntime) -> Result<(), Fail> {
-    let text = text_with(rt.alloc(), &LINES_2, TWO_LINKS)?;
-    let said = scenario(rt.alloc(), text.as_str())?;
+pub fn ways_of_links(alloc: Global) -> Result<(), Fail> {
+    let text = text_with(alloc, &LINES_2, TWO_LINKS)?;
+    let said = scenario(alloc, text.as_str())?;
     same(&said.protocol, &Protocol::TwoPhase, "protocol")?;
     same(&said.disk_latency, &5, "disk_latency")?;
     let quick = Way {

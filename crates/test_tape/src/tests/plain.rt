@@ -1,14 +1,12 @@
 //! A plain run of events: the worlds after each, made by steps from the start alone.
-ghost use Rattle.std.specs.Prelude.{◌<◌};
-
 use super::calls::same;
-use super::meter::Counts;
 use sim_echo::Echo;
 use sim_node::Node;
 use sim_tape::EventList;
-use sim_world::{Event, Query, Scenario, View, World};
+use sim_world::{Event, Scenario, World};
 use std::alloc::Global;
 use std::test::Fail;
+use test_support::Counts;
 
 pub type EchoWorld = World<Echo<Counts>>;
 
@@ -53,31 +51,6 @@ fn after<N: Node>(
     let copy = world.copy(alloc, meter)?;
     let (next, _undo) = copy.apply(alloc, event, meter)?;
     Ok(next)
-}
-
-// What one sees of a host, of the directions from it and of its probes.
-fn looks_at<N: Node>(world: &World<N>, host: u16, views: &mut Vec<View>) -> Result<(), Fail>
-    requires { host < world.now.scenario.setup.hosts }
-{
-    views.push(world.look(Query::HostView(host)))?;
-    for other in 0..world.hosts() {
-        views.push(world.look(Query::Link(host, other)))?;
-    }
-    for probe in 0..N::PROBES {
-        views.push(world.look(Query::Probe(host, probe)))?;
-    }
-    Ok(())
-}
-
-/// All that one sees of a world.
-pub fn looks<N: Node>(alloc: Global, world: &World<N>) -> Result<Vec<View>, Fail> {
-    let mut views = Vec::new(alloc);
-    views.push(world.look(Query::Summary))?;
-    views.push(world.look(Query::Next))?;
-    for host in 0..world.hosts() {
-        looks_at(world, host, &mut views)?;
-    }
-    Ok(views)
 }
 
 impl Plain {

@@ -1,13 +1,12 @@
 //! Small runs of echo, by acts.
 use super::calls::{self, same};
-use super::meter::Counts;
 use sim_echo::Echo;
-use sim_links::{Way, Ways};
-use sim_node::{Node, Setup};
+use sim_node::Node;
 use sim_tape::{EventList, Frozen, Tape};
-use sim_world::{Coming, Event, Kind, Refusal, Scenario, View};
+use sim_world::{Coming, Event, Kind, Refusal, View};
 use std::alloc::Global;
 use std::test::Fail;
+use test_support::{Counts, TWO_ECHOES};
 
 /// An act on a tape, or what is seen of it.
 #[derive(Clone, Copy)]
@@ -24,8 +23,8 @@ pub enum Act {
     Cut,
     /// The place is a number of events, of so many, at this time of the clock.
     Place(u32, u32, u64),
-    /// The view of the whole world at a place.
-    Summary(u32, View),
+    /// The view of the whole world at a place: clock, serial, net, pending, held.
+    Summary(u32, u64, u64, u64, u32, u32),
     /// A message to host 0 comes next, due at 0.
     Message,
     /// No step can happen.
@@ -42,21 +41,6 @@ pub struct Scene {
     alloc: Global,
     tape: Tape<Echo<Counts>>,
     meter: Counts,
-}
-
-// One server and one client of echo, which has two operations; a checkpoint after each `interval` events, and `window` records.
-fn scenario(interval: u32, window: u32) -> Result<Scenario, Fail> {
-    let setup = Setup {
-        servers: 1,
-        hosts: 2,
-        ops: [2; 32],
-    };
-    let ways = Ways::all(Way {
-        latency_min: 10,
-        latency_max: 10,
-        loss: 0,
-    });
-    Ok(Scenario::new([0; 32], 100, ways, 0, setup, interval, window)?)
 }
 
 // Six events, the last of which is a step.
@@ -77,7 +61,10 @@ impl Scene {
     /// A tape of no events.
     pub fn new(alloc: Global, interval: u32, window: u32) -> Result<Scene, Fail> {
         let mut meter = Counts::new();
-        let tape = Tape::new(alloc, &scenario(interval, window)?, &mut meter)?;
+        let mut setting = TWO_ECHOES;
+        setting.interval = interval;
+        setting.window = window;
+        let tape = Tape::new(alloc, &setting.scenario()?, &mut meter)?;
         Ok(Scene { alloc, tape, meter })
     }
 
@@ -186,7 +173,18 @@ impl Scene {
                 Ok(())
             }
             Act::Place(place, len, clock) => self.is_at(place, len, clock),
-            Act::Summary(place, view) => self.shows(place, view),
+            Act::Summary(place, clock, serial, net, pending, held) => {
+                let torn = 0;
+                let view = View::Summary {
+                    clock,
+                    serial,
+                    net,
+                    torn,
+                    pending,
+                    held,
+                };
+                self.shows(place, view)
+            }
             Act::Message => self.has_message(),
             Act::Idle => self.is_idle(),
             Act::Counted(work) => same(&self.meter.counted(), &work, "counted"),

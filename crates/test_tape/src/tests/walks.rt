@@ -1,38 +1,13 @@
 //! Walks of a tape at random, beside a plain run of its events.
-ghost use Rattle.std.specs.Prelude.{◌<◌};
-
 use super::calls::{self, same};
-use super::meter::Counts;
-use super::plain::{Plain, looks};
+use super::plain::Plain;
 use sim_echo::Echo;
-use sim_node::Node;
 use sim_tape::Tape;
-use sim_world::{Event, Fault, Query, Scenario, View, World};
+use sim_world::{Event, Scenario};
 use std::alloc::Global;
 use std::mem;
 use std::test::Fail;
-
-/// Numbers that look random.
-#[derive(Drop)]
-pub struct Dice(u64);
-
-impl Dice {
-    pub fn new(seed: u64) -> Dice {
-        Dice(seed)
-    }
-
-    // The next number below one that is not 0.
-    fn below(&mut self, most: u32) -> u32
-        requires { 0 < most }
-        ensures { result < most }
-    {
-        self.0 = self
-            .0
-            .wrapping_mul(6_364_136_223_846_793_005)
-            .wrapping_add(1_442_695_040_888_963_407);
-        ((self.0 >> 33) % u64::from(most)) as u32
-    }
-}
+use test_support::{Counts, Dice, event_at_random, looks};
 
 /// A tape, and what it is to show: the plain run of its events, the place, whether it is warm, and by how many events at least it can
 /// go back by their records.
@@ -63,43 +38,6 @@ enum Means {
     TakeBack,
     WalkOn,
     MakeAnew,
-}
-
-// The fault that a number names.
-fn fault(number: u32, a: u16, b: u16) -> Fault {
-    match number {
-        0 => Fault::Crash(a),
-        1 | 2 => Fault::Bounce(a),
-        3 => Fault::Hold(a, b),
-        4 => Fault::Release(a, b),
-        5 => Fault::Cut(a, b),
-        6 => Fault::CutOneway(a, b),
-        7 => Fault::Repair(a, b),
-        _ => Fault::RepairOneway(a, b),
-    }
-}
-
-// A time to which the clock can go on: that of what comes next, or some time later.
-fn later<N: Node>(world: &World<N>) -> u64 {
-    match world.look(Query::Next) {
-        View::Next(Some(coming)) => coming.due,
-        _ => world.clock().saturating_add(7),
-    }
-}
-
-// An event at random, or where it can't happen the start of a host; mostly it is a step.
-fn chosen<N: Node>(world: &World<N>, dice: &mut Dice) -> Event {
-    let hosts = u32::from(world.hosts().max(1));
-    let (a, b) = (dice.below(hosts) as u16, dice.below(hosts) as u16);
-    let event = match dice.below(8) {
-        0 => Event::Advance(later(world)),
-        1 | 2 => Event::Fault(fault(dice.below(9), a, b)),
-        _ => Event::Step,
-    };
-    if world.can(event).is_err() {
-        return Event::Fault(Fault::Bounce(a));
-    }
-    event
 }
 
 // At most so many turns, and just so many copies and undos.
@@ -271,7 +209,7 @@ impl Walk {
         if self.place != end {
             self.go(end, Way::Goto)?;
         }
-        let event = chosen(self.plain.world(end)?, &mut self.dice);
+        let event = event_at_random(self.plain.world(end)?, &mut self.dice);
         self.add_event(event)
     }
 
