@@ -86,6 +86,7 @@ fn mixed(sum: u64, word: u64) -> u64 {
 }
 
 /// Measures, and writes a line for each measure.
+#[derive(Drop)]
 struct Bench<'a, R> {
     rt: &'a R,
     quiet: bool,
