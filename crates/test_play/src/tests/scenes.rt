@@ -92,7 +92,7 @@ fn push_ways(text: &mut String, scene: &Scene) -> Result<(), AllocError> {
         loss,
         servers,
         ..
-    } = scene;
+    } = *scene;
     write!(text, "latency_min = {least}\nlatency_max = {greatest}\n")?;
     write!(text, "loss = {loss}\nservers = [{servers}]\n")
 }
