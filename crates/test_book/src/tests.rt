@@ -12,7 +12,7 @@
 //!   leaves a branch another world than a fold of its events.
 mod folds;
 
-use folds::{Ask, Fold, on};
+use folds::Fold;
 use sim_book::{Book, Command, Refusal, Reply, Stop};
 use sim_echo::Echo;
 use sim_node::Setup;
@@ -91,41 +91,76 @@ fn is_told(
     Ok(())
 }
 
-// What is refused on the first branch, a place before its end.
-const REFUSED: [(Ask, Refusal); 9] = [
-    (Ask::Fault(Fault::Hold(0, 0)), Refusal::SameHost),
-    (Ask::Fault(Fault::Hold(9, 9)), Refusal::UnknownHost),
-    (Ask::Fault(Fault::Hold(0, 1)), Refusal::NotAtEnd),
-    (Ask::Fault(Fault::Crash(2)), Refusal::UnknownHost),
-    (Ask::Goto(9), Refusal::TooFar),
-    (Ask::Step, Refusal::NotAtEnd),
-    (Ask::Unwatch, Refusal::UnknownWatch),
-    (Ask::Look(Query::Probe(0, 9)), Refusal::BadCondition),
-    (Ask::Look(Query::Link(1, 1)), Refusal::SameHost),
-];
+// The command is refused for this reason.
+fn is_refused(
+    rt: &impl Abort,
+    alloc: Global,
+    book: &mut EchoBook,
+    command: Command,
+    why: Refusal,
+) -> Result<(), Fail> {
+    is_told(rt, alloc, book, command, Told::Refused(why))
+}
 
+// A place before the end of the first branch.
 fn refuses(rt: &impl Abort, alloc: Global, book: &mut EchoBook) -> Result<(), Fail> {
+    let unknown = Refusal::UnknownHost;
     is_told(rt, alloc, book, Command::Back(0, 1), asked(5, 30))?;
-    for (ask, why) in REFUSED {
-        is_told(rt, alloc, book, on(ask, 0), Told::Refused(why))?;
-    }
-    let unknown = Told::Refused(Refusal::UnknownBranch);
-    is_told(rt, alloc, book, Command::Step(9), unknown)?;
-    let nothing = Command::Watch(0, SharedCond::new(alloc, Cond::new())?);
-    is_told(
+    is_refused(
         rt,
         alloc,
         book,
-        nothing,
-        Told::Refused(Refusal::BadCondition),
+        Command::Fault(0, Fault::Hold(0, 0)),
+        Refusal::SameHost,
     )?;
+    is_refused(
+        rt,
+        alloc,
+        book,
+        Command::Fault(0, Fault::Hold(9, 9)),
+        unknown,
+    )?;
+    is_refused(
+        rt,
+        alloc,
+        book,
+        Command::Fault(0, Fault::Hold(0, 1)),
+        Refusal::NotAtEnd,
+    )?;
+    is_refused(rt, alloc, book, Command::Fault(0, Fault::Crash(2)), unknown)?;
+    is_refused(rt, alloc, book, Command::Goto(0, 9), Refusal::TooFar)?;
+    is_refused(rt, alloc, book, Command::Step(0), Refusal::NotAtEnd)?;
+    is_refused(rt, alloc, book, Command::Step(9), Refusal::UnknownBranch)?;
+    is_refused(
+        rt,
+        alloc,
+        book,
+        Command::Unwatch(0, 0),
+        Refusal::UnknownWatch,
+    )?;
+    is_refused(
+        rt,
+        alloc,
+        book,
+        Command::Look(0, Query::Link(1, 1)),
+        Refusal::SameHost,
+    )
+}
+
+// What is asked of a host by a probe that it does not have, or by a condition without terms.
+fn refuses_conditions(rt: &impl Abort, alloc: Global, book: &mut EchoBook) -> Result<(), Fail> {
+    let bad = Refusal::BadCondition;
+    is_refused(rt, alloc, book, Command::Look(0, Query::Probe(0, 9)), bad)?;
+    let nothing = SharedCond::new(alloc, Cond::new())?;
+    is_refused(rt, alloc, book, Command::Watch(0, nothing), bad)?;
     is_told(rt, alloc, book, Command::Freeze(0), Told::Frozen(6))
 }
 
 #[test]
 fn refusals_come_in_order(rt: HostRuntime) -> Result<(), Fail> {
     let mut book = ran(rt.alloc(), 2, 4, 2)?;
-    refuses(&rt, rt.alloc(), &mut book)
+    refuses(&rt, rt.alloc(), &mut book)?;
+    refuses_conditions(&rt, rt.alloc(), &mut book)
 }
 
 // The kept events of a run and two ticks.
@@ -229,10 +264,9 @@ fn jumps(
 #[test]
 fn jumps_take_the_nearest_way(rt: HostRuntime) -> Result<(), Fail> {
     let mut book = ran(rt.alloc(), 2, 4, 2)?;
-    for (to, clock, work) in [(5, 30, (0, 0, 1)), (1, 0, (1, 2, 0)), (4, 20, (0, 2, 0))] {
-        jumps(&rt, rt.alloc(), &mut book, to, clock, work)?;
-    }
-    Ok(())
+    jumps(&rt, rt.alloc(), &mut book, 5, 30, (0, 0, 1))?;
+    jumps(&rt, rt.alloc(), &mut book, 1, 0, (1, 2, 0))?;
+    jumps(&rt, rt.alloc(), &mut book, 4, 20, (0, 2, 0))
 }
 
 #[test]
@@ -260,9 +294,10 @@ fn is_numbered(
 #[test]
 fn sessions_are_numbered_apart(rt: HostRuntime) -> Result<(), Fail> {
     let mut book = ran(rt.alloc(), 2, 4, 2)?;
-    for (session, number, place) in [(0, 2, 5), (1, 1, 4), (0, 3, 3), (1, 2, 2)] {
-        is_numbered(&rt, rt.alloc(), &mut book, session, number, place)?;
-    }
+    is_numbered(&rt, rt.alloc(), &mut book, 0, 2, 5)?;
+    is_numbered(&rt, rt.alloc(), &mut book, 1, 1, 4)?;
+    is_numbered(&rt, rt.alloc(), &mut book, 0, 3, 3)?;
+    is_numbered(&rt, rt.alloc(), &mut book, 1, 2, 2)?;
     let (entry, frozen) = book.freeze(rt.alloc(), 1, 0)?;
     assert!(rt; entry.number == 3 && frozen.is_some());
     assert_eq!(rt; book.into_entries().len(), 6);

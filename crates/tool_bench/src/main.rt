@@ -16,6 +16,7 @@ use crate::sessions::Sessions;
 use crate::tape::TapeTurn;
 use crate::world::Cluster;
 use std::alloc::{AllocError, Global};
+use std::rt::Clock;
 use std::sync::Wait;
 use std::thread::Threads;
 use std::time::Instant;
@@ -53,159 +54,6 @@ enum Measure {
     Looks(Sessions),
 }
 
-const MEASURES: [(&'static str, u32, Measure); 34] = [
-    ("draws", 10_000_000, Measure::Draws),
-    ("draws and undraws", 5_000_000, Measure::Undraws),
-    (
-        "queue turns, 64 pending",
-        1_000_000,
-        Measure::QueueTurns(64),
-    ),
-    (
-        "queue turns, 4096 pending",
-        1_000_000,
-        Measure::QueueTurns(4096),
-    ),
-    (
-        "queue undos, 64 pending",
-        1_000_000,
-        Measure::QueueUndos(64),
-    ),
-    (
-        "queue undos, 4096 pending",
-        1_000_000,
-        Measure::QueueUndos(4096),
-    ),
-    (
-        "world steps, 2 hosts",
-        1_000_000,
-        Measure::WorldSteps(Cluster::Two),
-    ),
-    (
-        "world steps, 32 hosts",
-        1_000_000,
-        Measure::WorldSteps(Cluster::ThirtyTwo),
-    ),
-    (
-        "world steps, 32 hosts, seconds apart",
-        1_000_000,
-        Measure::WorldSteps(Cluster::Slow),
-    ),
-    (
-        "world steps and undos, 2 hosts",
-        500_000,
-        Measure::WorldUndos(Cluster::Two),
-    ),
-    (
-        "world steps and undos, 32 hosts",
-        500_000,
-        Measure::WorldUndos(Cluster::ThirtyTwo),
-    ),
-    (
-        "world copies, 2 hosts",
-        50_000,
-        Measure::WorldCopies(Cluster::Two),
-    ),
-    (
-        "world copies, 32 hosts",
-        50_000,
-        Measure::WorldCopies(Cluster::ThirtyTwo),
-    ),
-    (
-        "forward, 256 records kept",
-        1_000_000,
-        Measure::RingSteps(256),
-    ),
-    (
-        "forward, 1024 records kept",
-        1_000_000,
-        Measure::RingSteps(1_024),
-    ),
-    ("256 forward and back", 1_000_000, Measure::RingUndos(256)),
-    (
-        "1024 forward and back",
-        1_000_000,
-        Measure::RingUndos(1_024),
-    ),
-    ("tape adds", 1_000_000, Measure::TapeTurns(TapeTurn::Add)),
-    (
-        "tape events forward",
-        1_200_000,
-        Measure::TapeTurns(TapeTurn::Forward),
-    ),
-    (
-        "tape events there and back",
-        1_000_000,
-        Measure::TapeTurns(TapeTurn::ThereAndBack),
-    ),
-    (
-        "tape jumps, interval 64",
-        50_000,
-        Measure::TapeTurns(TapeTurn::Jump(64)),
-    ),
-    (
-        "tape jumps to checkpoints, interval 64",
-        50_000,
-        Measure::TapeTurns(TapeTurn::CheckpointJump(64)),
-    ),
-    (
-        "tape jumps, interval 256",
-        20_000,
-        Measure::TapeTurns(TapeTurn::Jump(256)),
-    ),
-    (
-        "tape jumps to checkpoints, interval 256",
-        20_000,
-        Measure::TapeTurns(TapeTurn::CheckpointJump(256)),
-    ),
-    (
-        "tape jumps, interval 1024",
-        5_000,
-        Measure::TapeTurns(TapeTurn::Jump(1_024)),
-    ),
-    (
-        "tape jumps to checkpoints, interval 1024",
-        5_000,
-        Measure::TapeTurns(TapeTurn::CheckpointJump(1_024)),
-    ),
-    (
-        "tape branches, 2000 events",
-        300_000,
-        Measure::TapeTurns(TapeTurn::Branch(2_000)),
-    ),
-    (
-        "tape branches, 60000 events",
-        300_000,
-        Measure::TapeTurns(TapeTurn::Branch(60_000)),
-    ),
-    ("book runs", 1_000_000, Measure::BookTurns(BookTurn::Run)),
-    (
-        "book runs with a watch",
-        1_000_000,
-        Measure::BookTurns(BookTurn::WatchedRun),
-    ),
-    (
-        "book events there and back",
-        1_000_000,
-        Measure::BookTurns(BookTurn::Back),
-    ),
-    (
-        "book rewinds with a watch, and forward",
-        1_000_000,
-        Measure::BookTurns(BookTurn::WatchedRewind),
-    ),
-    (
-        "looks by 1 session",
-        1_000_000,
-        Measure::Looks(Sessions::One),
-    ),
-    (
-        "looks by 8 sessions",
-        1_000_000,
-        Measure::Looks(Sessions::Eight),
-    ),
-];
-
 impl Measure {
     // Takes so many turns, and answers a number that depends on what each of them gave.
     fn run<R: Threads + Wait + Sync>(
@@ -237,19 +85,215 @@ fn mixed(sum: u64, word: u64) -> u64 {
         .wrapping_add(word)
 }
 
+/// Measures, and writes a line for each measure.
+#[derive(Drop)]
+struct Bench<'a, R> {
+    rt: &'a R,
+    quiet: bool,
+}
+
+impl<R: Threads + Wait + Sync + Clock + Print + AllocGlobal> Bench<'_, R> {
+    // Takes so many turns of a measure, or under `quiet` few.
+    fn row(&self, name: &str, turns: u32, measure: Measure) -> io::Result<()> {
+        let rt = self.rt;
+        if self.quiet {
+            let sum = measure.run(rt, rt.alloc(), QUIET_TURNS)?;
+            return println!(rt; "{name}: {QUIET_TURNS} turns, checksum {sum}");
+        }
+        let start = Instant::now(rt)?;
+        let sum = measure.run(rt, rt.alloc(), turns)?;
+        let seconds = start.elapsed(rt)?.as_secs_f64();
+        let rate = f64::from(turns) / seconds;
+        println!(rt; "{name}: {rate:.0} a second, {turns} turns, checksum {sum}")
+    }
+}
+
+// The streams and the queue.
+fn streams_and_queues<R: Threads + Wait + Sync + Clock + Print + AllocGlobal>(
+    bench: &Bench<'_, R>,
+) -> io::Result<()> {
+    bench.row("draws", 10_000_000, Measure::Draws)?;
+    bench.row("draws and undraws", 5_000_000, Measure::Undraws)?;
+    bench.row(
+        "queue turns, 64 pending",
+        1_000_000,
+        Measure::QueueTurns(64),
+    )?;
+    bench.row(
+        "queue turns, 4096 pending",
+        1_000_000,
+        Measure::QueueTurns(4096),
+    )?;
+    bench.row(
+        "queue undos, 64 pending",
+        1_000_000,
+        Measure::QueueUndos(64),
+    )?;
+    bench.row(
+        "queue undos, 4096 pending",
+        1_000_000,
+        Measure::QueueUndos(4096),
+    )
+}
+
+// Worlds.
+fn worlds<R: Threads + Wait + Sync + Clock + Print + AllocGlobal>(
+    bench: &Bench<'_, R>,
+) -> io::Result<()> {
+    bench.row(
+        "world steps, 2 hosts",
+        1_000_000,
+        Measure::WorldSteps(Cluster::Two),
+    )?;
+    bench.row(
+        "world steps, 32 hosts",
+        1_000_000,
+        Measure::WorldSteps(Cluster::ThirtyTwo),
+    )?;
+    bench.row(
+        "world steps, 32 hosts, seconds apart",
+        1_000_000,
+        Measure::WorldSteps(Cluster::Slow),
+    )?;
+    bench.row(
+        "world steps and undos, 2 hosts",
+        500_000,
+        Measure::WorldUndos(Cluster::Two),
+    )?;
+    bench.row(
+        "world steps and undos, 32 hosts",
+        500_000,
+        Measure::WorldUndos(Cluster::ThirtyTwo),
+    )?;
+    bench.row(
+        "world copies, 2 hosts",
+        50_000,
+        Measure::WorldCopies(Cluster::Two),
+    )?;
+    bench.row(
+        "world copies, 32 hosts",
+        50_000,
+        Measure::WorldCopies(Cluster::ThirtyTwo),
+    )
+}
+
+// Rings of records.
+fn rings<R: Threads + Wait + Sync + Clock + Print + AllocGlobal>(
+    bench: &Bench<'_, R>,
+) -> io::Result<()> {
+    bench.row(
+        "forward, 256 records kept",
+        1_000_000,
+        Measure::RingSteps(256),
+    )?;
+    bench.row(
+        "forward, 1024 records kept",
+        1_000_000,
+        Measure::RingSteps(1_024),
+    )?;
+    bench.row("256 forward and back", 1_000_000, Measure::RingUndos(256))?;
+    bench.row(
+        "1024 forward and back",
+        1_000_000,
+        Measure::RingUndos(1_024),
+    )
+}
+
+// Tapes.
+fn tapes<R: Threads + Wait + Sync + Clock + Print + AllocGlobal>(
+    bench: &Bench<'_, R>,
+) -> io::Result<()> {
+    bench.row("tape adds", 1_000_000, Measure::TapeTurns(TapeTurn::Add))?;
+    bench.row(
+        "tape events forward",
+        1_200_000,
+        Measure::TapeTurns(TapeTurn::Forward),
+    )?;
+    bench.row(
+        "tape events there and back",
+        1_000_000,
+        Measure::TapeTurns(TapeTurn::ThereAndBack),
+    )?;
+    bench.row(
+        "tape jumps, interval 64",
+        50_000,
+        Measure::TapeTurns(TapeTurn::Jump(64)),
+    )?;
+    bench.row(
+        "tape jumps to checkpoints, interval 64",
+        50_000,
+        Measure::TapeTurns(TapeTurn::CheckpointJump(64)),
+    )?;
+    bench.row(
+        "tape jumps, interval 256",
+        20_000,
+        Measure::TapeTurns(TapeTurn::Jump(256)),
+    )?;
+    bench.row(
+        "tape jumps to checkpoints, interval 256",
+        20_000,
+        Measure::TapeTurns(TapeTurn::CheckpointJump(256)),
+    )?;
+    bench.row(
+        "tape jumps, interval 1024",
+        5_000,
+        Measure::TapeTurns(TapeTurn::Jump(1_024)),
+    )?;
+    bench.row(
+        "tape jumps to checkpoints, interval 1024",
+        5_000,
+        Measure::TapeTurns(TapeTurn::CheckpointJump(1_024)),
+    )?;
+    bench.row(
+        "tape branches, 2000 events",
+        300_000,
+        Measure::TapeTurns(TapeTurn::Branch(2_000)),
+    )?;
+    bench.row(
+        "tape branches, 60000 events",
+        300_000,
+        Measure::TapeTurns(TapeTurn::Branch(60_000)),
+    )
+}
+
+// Books and sessions.
+fn books<R: Threads + Wait + Sync + Clock + Print + AllocGlobal>(
+    bench: &Bench<'_, R>,
+) -> io::Result<()> {
+    bench.row("book runs", 1_000_000, Measure::BookTurns(BookTurn::Run))?;
+    bench.row(
+        "book runs with a watch",
+        1_000_000,
+        Measure::BookTurns(BookTurn::WatchedRun),
+    )?;
+    bench.row(
+        "book events there and back",
+        1_000_000,
+        Measure::BookTurns(BookTurn::Back),
+    )?;
+    bench.row(
+        "book rewinds with a watch, and forward",
+        1_000_000,
+        Measure::BookTurns(BookTurn::WatchedRewind),
+    )?;
+    bench.row(
+        "looks by 1 session",
+        1_000_000,
+        Measure::Looks(Sessions::One),
+    )?;
+    bench.row(
+        "looks by 8 sessions",
+        1_000_000,
+        Measure::Looks(Sessions::Eight),
+    )
+}
+
 fn main(rt: HostRuntime) -> io::Result<()> {
     let quiet = env::args(&rt)?.any(|word| word.as_str() == "quiet");
-    for (name, turns, measure) in MEASURES {
-        if quiet {
-            let sum = measure.run(&rt, rt.alloc(), QUIET_TURNS)?;
-            println!(rt; "{name}: {QUIET_TURNS} turns, checksum {sum}")?;
-        } else {
-            let start = Instant::now(&rt)?;
-            let sum = measure.run(&rt, rt.alloc(), turns)?;
-            let seconds = start.elapsed(&rt)?.as_secs_f64();
-            let rate = f64::from(turns) / seconds;
-            println!(rt; "{name}: {rate:.0} a second, {turns} turns, checksum {sum}")?;
-        }
-    }
-    Ok(())
+    let bench = Bench { rt: &rt, quiet };
+    streams_and_queues(&bench)?;
+    worlds(&bench)?;
+    rings(&bench)?;
+    tapes(&bench)?;
+    books(&bench)
 }

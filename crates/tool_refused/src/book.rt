@@ -25,7 +25,7 @@ fn turn(
 // What all branches answer to looks.
 fn looks(alloc: Global, book: &mut Book<Nodes>, names: &Names) -> Result<String, Trouble> {
     let mut text = String::new(alloc);
-    for line in LOOKS {
+    for line in LOOKS.lines() {
         let turn = turn(alloc, book, names, line)?;
         tell(alloc, &mut text, names, &turn)?;
     }
@@ -57,7 +57,7 @@ pub fn lines(alloc: Global) -> Result<String, Trouble> {
     let (scenario, names) = opening(alloc)?;
     let mut book = Book::<Nodes>::new(alloc, &scenario, Tally::new())?;
     let mut text = String::new(alloc);
-    for line in SCRIPT {
+    for line in SCRIPT.lines() {
         let turn = checked_turn(alloc, &mut book, &names, line)?;
         tell(alloc, &mut text, &names, &turn)?;
     }

@@ -12,10 +12,7 @@ use std::thread::Threads;
 // The scenario with the script.
 fn input(alloc: Global) -> Result<String, Trouble> {
     let mut input = String::new(alloc);
-    write!(input, "{SCENARIO}---\n")?;
-    for line in SCRIPT {
-        write!(input, "{line}\n")?;
-    }
+    write!(input, "{SCENARIO}---\n{SCRIPT}")?;
     Ok(input)
 }
 

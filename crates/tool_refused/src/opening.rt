@@ -30,55 +30,53 @@ ops = 2
 "#;
 
 /// A script with each command, and what can be asked of the three branches that there are in the end.
-pub const SCRIPT: [&str; 34] = [
-    "step",
-    "run 4",
-    "tick",
-    "watch up p and c.next <= 1",
-    "watch up b",
-    "back 3",
-    "forward 2",
-    "goto 1",
-    "branch 4",
-    "@1 crash b",
-    "@1 hold p c",
-    "@1 run 6",
-    "@1 release p c",
-    "@1 partition p b",
-    "@1 bounce b",
-    "@1 watch agree applied unless 0",
-    "@1 run 3",
-    "@1 rewind 5",
-    "unwatch 1",
-    "goto 5",
-    "cut",
-    "run 2",
-    "@1 branch 2",
-    "@2 tick",
-    "@2 look host p",
-    "forward 1",
-    "rewind 4",
-    "forward 9",
-    "goto 7",
-    "run 20",
-    "rewind 9",
-    "trace",
-    "@1 repair p b",
-    "@1 trace",
-];
+pub const SCRIPT: &str = "step
+run 4
+tick
+watch up p and c.next <= 1
+watch up b
+back 3
+forward 2
+goto 1
+branch 4
+@1 crash b
+@1 hold p c
+@1 run 6
+@1 release p c
+@1 partition p b
+@1 bounce b
+@1 watch agree applied unless 0
+@1 run 3
+@1 rewind 5
+unwatch 1
+goto 5
+cut
+run 2
+@1 branch 2
+@2 tick
+@2 look host p
+forward 1
+rewind 4
+forward 9
+goto 7
+run 20
+rewind 9
+trace
+@1 repair p b
+@1 trace
+";
 
 /// What is asked of each branch to see whether it is as it was.
-pub const LOOKS: [&str; 9] = [
-    "look",
-    "look next",
-    "trace",
-    "@1 look",
-    "@1 look next",
-    "@1 trace",
-    "@2 look",
-    "@2 look next",
-    "@2 trace",
-];
+pub const LOOKS: &str = "look
+look next
+trace
+@1 look
+@1 look next
+@1 trace
+@2 look
+@2 look next
+@2 trace
+";
 
 /// The scenario and the names.
 pub fn opening(alloc: Global) -> Result<(Scenario, Names), Trouble> {

@@ -73,7 +73,7 @@ fn call_all<R: Wait>(
     ensures one { IsAt shared.now one.new }
 {
     let mut taken = 0usize;
-    for line in SCRIPT.iter() {
+    for line in SCRIPT.lines() {
         let calls = call(rt, alloc, shared, zero, one, names, line, text)?;
         taken = taken.checked_add(calls).ok_or(Trouble::Wrong)?;
     }

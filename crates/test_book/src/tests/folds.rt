@@ -11,7 +11,7 @@ use test_support::{Counts, Dice};
 
 /// A command on a branch.
 #[derive(Clone, Copy, Debug, PartialEq, Eq)]
-pub enum Ask {
+enum Ask {
     Step,
     Run(u32),
     Tick,
@@ -21,8 +21,7 @@ pub enum Ask {
     Goto(u32),
     Rewind(u32),
     Cut,
-    Look(Query),
-    Unwatch,
+    Look,
 }
 
 // A command at random; mostly it is a step.
@@ -40,13 +39,13 @@ fn chosen(dice: &mut Dice) -> Ask {
         8 => Ask::Goto(n),
         9 => Ask::Rewind(n),
         10 => Ask::Cut,
-        11 => Ask::Look(Query::Summary),
+        11 => Ask::Look,
         _ => Ask::Step,
     }
 }
 
-/// The command on this branch.
-pub fn on(ask: Ask, b: u32) -> Command {
+// The command on this branch.
+fn on(ask: Ask, b: u32) -> Command {
     match ask {
         Ask::Step => Command::Step(b),
         Ask::Run(n) => Command::Run(b, n),
@@ -57,8 +56,7 @@ pub fn on(ask: Ask, b: u32) -> Command {
         Ask::Goto(p) => Command::Goto(b, p),
         Ask::Rewind(n) => Command::Rewind(b, n),
         Ask::Cut => Command::Cut(b),
-        Ask::Look(query) => Command::Look(b, query),
-        Ask::Unwatch => Command::Unwatch(b, 0),
+        Ask::Look => Command::Look(b, Query::Summary),
     }
 }
 
@@ -246,7 +244,7 @@ impl Folding<'_> {
         }
         let world = self.world(alloc)?;
         Ok(match ask {
-            Ask::Look(_) => Told::Seen(self.plain.place, world.look(Query::Summary)),
+            Ask::Look => Told::Seen(self.plain.place, world.look(Query::Summary)),
             _ => asked(self.plain.place, world.clock()),
         })
     }
@@ -320,6 +318,6 @@ impl Fold {
         }
         let ask = chosen(dice);
         self.same(rt, alloc, b, ask)?;
-        self.same(rt, alloc, dice.below(count), Ask::Look(Query::Summary))
+        self.same(rt, alloc, dice.below(count), Ask::Look)
     }
 }

@@ -80,44 +80,72 @@ pub fn ends<R: Threads + Wait + Sync + Clock + Eprint>(
     ended == status && written.as_slice() == want.as_bytes()
 }
 
+// The job of so many workers over the base scenario ends so, and writes this.
+fn is_answered<R: Threads + Wait + Sync + Clock + Eprint + Abort>(
+    rt: &R,
+    alloc: Global,
+    job: Job<'_>,
+    status: Status,
+    want: &str,
+)
+    requires { HasFewWorkers job }
+{
+    assert!(rt; ends(rt, alloc, job, BASE, status, want), "{want}");
+}
+
 #[test]
 fn searches_of_the_first_run(rt: HostRuntime) {
     let alloc = rt.alloc();
     for workers in [1, 2, 16] {
         let job = search(workers, 0, 6, "w.next <= 1");
-        assert!(rt; ends(&rt, alloc, job, BASE, Status::Well, "first 4\n"));
+        is_answered(&rt, alloc, job, Status::Well, "first 4\n");
         let job = search(workers, 0, 6, "w.next <= 3");
-        assert!(rt; ends(&rt, alloc, job, BASE, Status::Well, "none\n"));
+        is_answered(&rt, alloc, job, Status::Well, "none\n");
         let job = search(workers, 0, 7, "up a");
-        assert!(rt; ends(&rt, alloc, job, BASE, Status::BadRequest, "bad range\n"));
+        is_answered(&rt, alloc, job, Status::BadRequest, "bad range\n");
     }
 }
 
 #[test]
 fn sweeps_of_the_base_scenario(rt: HostRuntime) {
     let alloc = rt.alloc();
-    let rows = [
-        (0, 3, 6, "w.next <= 1", Status::Well, "seed 0 place 4\n"),
-        (5, 3, 6, "w.next <= 3", Status::Well, "none\n"),
-        (7, 2, 3, "w.next <= 1", Status::Well, "none\n"),
-        (u64::MAX, 2, 6, "up a", Status::BadRequest, "bad range\n"),
-        (0, 0, 6, "up a", Status::BadRequest, "bad range\n"),
-        (
-            0,
-            4_294_967_297,
-            6,
-            "up a",
-            Status::BadRequest,
-            "bad range\n",
-        ),
-        (0, 1, 6, "up z", Status::BadRequest, "bad condition\n"),
-    ];
     for workers in [1, 2, 16] {
-        for (first, count, events, cond, status, want) in rows {
-            let job = sweep(workers, first, count, events, cond);
-            assert!(rt; ends(&rt, alloc, job, BASE, status, want), "{want}");
-        }
+        let job = sweep(workers, 0, 3, 6, "w.next <= 1");
+        is_answered(&rt, alloc, job, Status::Well, "seed 0 place 4\n");
+        let job = sweep(workers, 5, 3, 6, "w.next <= 3");
+        is_answered(&rt, alloc, job, Status::Well, "none\n");
+        let job = sweep(workers, 7, 2, 3, "w.next <= 1");
+        is_answered(&rt, alloc, job, Status::Well, "none\n");
+        let job = sweep(workers, u64::MAX, 2, 6, "up a");
+        is_answered(&rt, alloc, job, Status::BadRequest, "bad range\n");
+        let job = sweep(workers, 0, 0, 6, "up a");
+        is_answered(&rt, alloc, job, Status::BadRequest, "bad range\n");
+        let job = sweep(workers, 0, 4_294_967_297, 6, "up a");
+        is_answered(&rt, alloc, job, Status::BadRequest, "bad range\n");
+        let job = sweep(workers, 0, 1, 6, "up z");
+        is_answered(&rt, alloc, job, Status::BadRequest, "bad condition\n");
     }
+}
+
+// A search up to a place and a sweep over so many seeds are refused for the same fault.
+fn are_refused<R: Threads + Wait + Sync + Clock + Eprint + Abort>(
+    rt: &R,
+    alloc: Global,
+    input: &str,
+    cond: &str,
+    hi: u64,
+    want: &str,
+) {
+    let status = if input.is_empty() {
+        Status::BadScenario
+    } else {
+        Status::BadRequest
+    };
+    let found = ends(rt, alloc, search(2, 0, hi, cond), input, status, want);
+    // Places up to 7 are too many, and so are no seeds too few.
+    let seeds = if hi == 7 { 0 } else { 1 };
+    let swept = ends(rt, alloc, sweep(2, 0, seeds, 6, cond), input, status, want);
+    assert!(rt; found && swept, "{cond}: {want}");
 }
 
 // A scenario's fault is told before words that are no condition, these before a range's, and that before a host or probe that is
@@ -125,35 +153,10 @@ fn sweeps_of_the_base_scenario(rt: HostRuntime) {
 #[test]
 fn faults_come_in_order(rt: HostRuntime) {
     let alloc = rt.alloc();
-    let rows = [
-        (
-            "",
-            "up",
-            7,
-            Status::BadScenario,
-            "scenario fault 4 format\n",
-        ),
-        (BASE, "up", 7, Status::BadRequest, "bad condition\n"),
-        (BASE, "up z", 7, Status::BadRequest, "bad range\n"),
-        (BASE, "up z", 6, Status::BadRequest, "bad condition\n"),
-        (
-            BASE,
-            "w.first <= 1",
-            6,
-            Status::BadRequest,
-            "bad condition\n",
-        ),
-        (BASE, "up a and", 6, Status::BadRequest, "bad condition\n"),
-    ];
-    for (input, cond, hi, status, want) in rows {
-        assert!(rt;
-            ends(&rt, alloc, search(2, 0, hi, cond), input, status, want),
-            "{want}"
-        );
-        let seeds = if hi == 7 { 0 } else { 1 };
-        assert!(rt;
-            ends(&rt, alloc, sweep(2, 0, seeds, 6, cond), input, status, want),
-            "{want}"
-        );
-    }
+    are_refused(&rt, alloc, "", "up", 7, "scenario fault 4 format\n");
+    are_refused(&rt, alloc, BASE, "up", 7, "bad condition\n");
+    are_refused(&rt, alloc, BASE, "up z", 7, "bad range\n");
+    are_refused(&rt, alloc, BASE, "up z", 6, "bad condition\n");
+    are_refused(&rt, alloc, BASE, "w.first <= 1", 6, "bad condition\n");
+    are_refused(&rt, alloc, BASE, "up a and", 6, "bad condition\n");
 }

@@ -1,6 +1,7 @@
 //! The plays of the folder `examples`, as they stand there.
 use super::scenes::status_of;
 use sim_cli::Status;
+use std::alloc::Global;
 use std::process::Abort;
 
 const FIRST_RUN: &str =
@@ -550,19 +551,21 @@ run 1000
 const ABORTED_ANSWERS: &str = "place 11 clock 45 all done
 ";
 
+// The play of an input writes just this.
+fn plays(rt: &impl Abort, alloc: Global, input: &str, want: &str) {
+    let status = status_of(alloc, input.as_bytes(), b"", want.as_bytes());
+    assert_eq!(rt; status, Some(Status::Well), "{want}");
+}
+
 #[test]
 fn plays_the_examples(rt: HostRuntime) {
-    for (input, want) in [
-        (FIRST_RUN, FIRST_RUN_ANSWERS),
-        (PARTITION, PARTITION_ANSWERS),
-        (CRASH_AND_BOUNCE, CRASH_AND_BOUNCE_ANSWERS),
-        (SLOW_DISKS, SLOW_DISKS_ANSWERS),
-        (LOSSY_DIRECTION, LOSSY_DIRECTION_ANSWERS),
-        (TORN_COMMIT, TORN_COMMIT_ANSWERS),
-        (WALK_BACK, WALK_BACK_ANSWERS),
-        (ABORTED, ABORTED_ANSWERS),
-    ] {
-        let status = status_of(rt.alloc(), input.as_bytes(), b"", want.as_bytes());
-        assert_eq!(rt; status, Some(Status::Well), "{want}");
-    }
+    let alloc = rt.alloc();
+    plays(&rt, alloc, FIRST_RUN, FIRST_RUN_ANSWERS);
+    plays(&rt, alloc, PARTITION, PARTITION_ANSWERS);
+    plays(&rt, alloc, CRASH_AND_BOUNCE, CRASH_AND_BOUNCE_ANSWERS);
+    plays(&rt, alloc, SLOW_DISKS, SLOW_DISKS_ANSWERS);
+    plays(&rt, alloc, LOSSY_DIRECTION, LOSSY_DIRECTION_ANSWERS);
+    plays(&rt, alloc, TORN_COMMIT, TORN_COMMIT_ANSWERS);
+    plays(&rt, alloc, WALK_BACK, WALK_BACK_ANSWERS);
+    plays(&rt, alloc, ABORTED, ABORTED_ANSWERS);
 }

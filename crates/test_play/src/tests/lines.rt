@@ -2,7 +2,7 @@
 use super::scenes::{push_times, status_of};
 use super::streams::HEAD;
 use sim_cli::Status;
-use std::alloc::{AllocError, Global};
+use std::alloc::AllocError;
 use std::process::Abort;
 use std::test::Fail;
 
@@ -113,17 +113,6 @@ unwatch 0
 watch w.next < 0000000000000000001
 ";
 
-/// Lines that are long: what they begin with, what follows so many times, and what they end with.
-const LONG: [(&str, &str, u32, &str); 7] = [
-    ("@0 ", " ", 245, "look next\n"),
-    ("@0 ", " ", 244, "look next\n"),
-    ("x", "x", 256, "\n"),
-    ("#", "x", 256, "\n"),
-    ("x", "x", 300_000, "\n"),
-    ("#", "x", 300_000, "\n"),
-    ("back 1", "", 0, ""),
-];
-
 const ANSWERS: &[u8] = b"place 1 clock 0
 bad line
 bad line
@@ -143,19 +132,34 @@ bad line
 place 0 clock 0
 ";
 
-fn long_lines(alloc: Global) -> Result<String, AllocError> {
-    let mut text = String::new(alloc);
-    for (start, piece, times, end) in LONG {
-        text.push_str(start)?;
-        push_times(&mut text, piece, times)?;
-        text.push_str(end)?;
-    }
-    Ok(text)
+/// Adds what stands first, a piece so many times, and the end of the line.
+fn push_line(
+    text: &mut String,
+    first: &str,
+    piece: &str,
+    times: u32,
+    end: &str,
+) -> Result<(), AllocError> {
+    text.push_str(first)?;
+    push_times(text, piece, times)?;
+    text.push_str(end)
+}
+
+/// Adds lines of 256 bytes and of more.
+fn push_long_lines(text: &mut String) -> Result<(), AllocError> {
+    push_line(text, "@0 ", " ", 245, "look next\n")?;
+    push_line(text, "@0 ", " ", 244, "look next\n")?;
+    push_line(text, "x", "x", 256, "\n")?;
+    push_line(text, "#", "x", 256, "\n")?;
+    push_line(text, "x", "x", 300_000, "\n")?;
+    push_line(text, "#", "x", 300_000, "\n")?;
+    text.push_str("back 1")
 }
 
 #[test]
 fn takes_lines_as_they_come(rt: HostRuntime) -> Result<(), Fail> {
-    let long = long_lines(rt.alloc())?;
+    let mut long = String::new(rt.alloc());
+    push_long_lines(&mut long)?;
     let status = status_of(rt.alloc(), LINES, long.as_bytes(), ANSWERS);
     assert_eq!(rt; status, Some(Status::Well));
     Ok(())

@@ -76,6 +76,38 @@ pub const TWO_SERVERS: Scene = Scene {
     ..TWO_PINGS
 };
 
+/// Adds the lines from the seed to the tick.
+fn push_protocol(text: &mut String, protocol: &str) -> Result<(), AllocError> {
+    write!(
+        text,
+        "seed = \"{SEED}\"\nprotocol = \"{protocol}\"\ntick = 100\n"
+    )
+}
+
+/// Adds the lines of the latencies, the loss and the servers.
+fn push_ways(text: &mut String, scene: &Scene) -> Result<(), AllocError> {
+    let Scene {
+        least,
+        greatest,
+        loss,
+        servers,
+        ..
+    } = *scene;
+    write!(text, "latency_min = {least}\nlatency_max = {greatest}\n")?;
+    write!(text, "loss = {loss}\nservers = [{servers}]\n")
+}
+
+/// Adds the lines of the checkpoints, the window and the client.
+fn push_client(
+    text: &mut String,
+    checkpoint: u32,
+    window: u32,
+    ops: u32,
+) -> Result<(), AllocError> {
+    write!(text, "checkpoint = {checkpoint}\nwindow = {window}\n")?;
+    write!(text, "[[client]]\nname = \"w\"\nops = {ops}\n")
+}
+
 /// The scenario, with the lines for its format, so many events between two checkpoints, and so many that can be undone.
 pub fn scenario(
     alloc: Global,
@@ -84,19 +116,12 @@ pub fn scenario(
     checkpoint: u32,
     window: u32,
 ) -> Result<String, AllocError> {
-    let Scene {
-        protocol,
-        least,
-        greatest,
-        loss,
-        servers,
-        ops,
-        links,
-        ..
-    } = scene;
-    format!(in alloc;
-        "{format}seed = \"{SEED}\"\nprotocol = \"{protocol}\"\ntick = 100\nlatency_min = {least}\nlatency_max = {greatest}\nloss = {loss}\nservers = [{servers}]\ncheckpoint = {checkpoint}\nwindow = {window}\n[[client]]\nname = \"w\"\nops = {ops}\n{links}"
-    )
+    let mut text = String::from_str(alloc, format)?;
+    push_protocol(&mut text, scene.protocol)?;
+    push_ways(&mut text, &scene)?;
+    push_client(&mut text, checkpoint, window, scene.ops)?;
+    text.push_str(scene.links)?;
+    Ok(text)
 }
 
 /// Adds a text so many times.

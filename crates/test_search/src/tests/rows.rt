@@ -109,13 +109,11 @@ fn is_refused<R: Threads + Wait + Sync + Abort>(
 #[test]
 fn searches_that_are_refused(rt: HostRuntime) -> Result<(), Fail> {
     let run = six_steps(rt.alloc())?;
-    for (lo, hi, host, why) in [
-        (0, 7, 0, SearchFault::BadRange),
-        (4, 3, 0, SearchFault::BadRange),
-        (0, 6, 2, SearchFault::BadCondition),
-    ] {
-        assert_eq!(rt; is_refused(&rt, rt.alloc(), &run, lo, hi, host)?, why);
-    }
+    let far = is_refused(&rt, rt.alloc(), &run, 0, 7, 0)?;
+    let back = is_refused(&rt, rt.alloc(), &run, 4, 3, 0)?;
+    assert!(rt; far == SearchFault::BadRange && back == SearchFault::BadRange);
+    let unknown = is_refused(&rt, rt.alloc(), &run, 0, 6, 2)?;
+    assert_eq!(rt; unknown, SearchFault::BadCondition);
     Ok(())
 }
 
@@ -149,68 +147,57 @@ fn swept<R: Threads + Wait + Sync>(
     ))
 }
 
-// The seeds, the greatest next operation that is allowed, and what is found.
-const SWEEPS: [(Seeds, u64, Option<(u64, u32)>); 3] = [
-    (
-        Seeds {
-            first: 0,
-            count: 3,
-            events: 6,
-        },
-        1,
-        Some((0, 4)),
-    ),
-    (
-        Seeds {
-            first: 5,
-            count: 3,
-            events: 6,
-        },
-        3,
-        None,
-    ),
-    (
-        Seeds {
-            first: 7,
-            count: 2,
-            events: 3,
-        },
-        1,
-        None,
-    ),
-];
-
-#[test]
-fn seeds_of_echo(rt: HostRuntime) -> Result<(), Fail> {
-    for (seeds, most, want) in SWEEPS {
-        let cond = next_at_most(1, most)?;
-        for workers in [1, 2, 16] {
-            let found = swept(&rt, rt.alloc(), workers, seeds, &cond)?;
-            assert_eq!(rt; found, Ok(want));
-        }
+// Sweeps by 1, 2 and 16 workers find this.
+fn sweeps<R: Threads + Wait + Sync + Abort>(
+    rt: &R,
+    alloc: Global,
+    seeds: Seeds,
+    most: u64,
+    want: Option<(u64, u32)>,
+) -> Result<(), Fail> {
+    let cond = next_at_most(1, most)?;
+    for workers in [1, 2, 16] {
+        let found = swept(rt, alloc, workers, seeds, &cond)?;
+        assert!(rt; found == Ok(want), "above {most} by {workers}");
     }
     Ok(())
 }
 
-// The first seed and how many there are, a host, and why there is no sweep for a place at which it is down.
-const REFUSED: [(u64, u64, u16, SearchFault); 4] = [
-    (u64::MAX, 2, 0, SearchFault::BadRange),
-    (0, 0, 0, SearchFault::BadRange),
-    (0, 4_294_967_297, 0, SearchFault::BadRange),
-    (0, 1, 2, SearchFault::BadCondition),
-];
+fn seeds(first: u64, count: u64, events: u64) -> Seeds {
+    Seeds {
+        first,
+        count,
+        events,
+    }
+}
+
+#[test]
+fn seeds_of_echo(rt: HostRuntime) -> Result<(), Fail> {
+    sweeps(&rt, rt.alloc(), seeds(0, 3, 6), 1, Some((0, 4)))?;
+    sweeps(&rt, rt.alloc(), seeds(5, 3, 6), 3, None)?;
+    sweeps(&rt, rt.alloc(), seeds(7, 2, 3), 1, None)
+}
+
+// A sweep for a place at which the host is down has no answer, for this reason.
+fn is_no_sweep<R: Threads + Wait + Sync + Abort>(
+    rt: &R,
+    alloc: Global,
+    seeds: Seeds,
+    host: u16,
+    why: SearchFault,
+) -> Result<(), Fail> {
+    let up = Cond::new().and(Term::Up(host))?;
+    let found = swept(rt, alloc, 1, seeds, &up)?;
+    assert!(rt; found == Err(why), "of host {host}");
+    Ok(())
+}
 
 #[test]
 fn sweeps_that_are_refused(rt: HostRuntime) -> Result<(), Fail> {
-    for (first, count, host, why) in REFUSED {
-        let up = Cond::new().and(Term::Up(host))?;
-        let seeds = Seeds {
-            first,
-            count,
-            events: 6,
-        };
-        let found = swept(&rt, rt.alloc(), 1, seeds, &up)?;
-        assert_eq!(rt; found, Err(why));
-    }
-    Ok(())
+    let alloc = rt.alloc();
+    let range = SearchFault::BadRange;
+    is_no_sweep(&rt, alloc, seeds(u64::MAX, 2, 6), 0, range)?;
+    is_no_sweep(&rt, alloc, seeds(0, 0, 6), 0, range)?;
+    is_no_sweep(&rt, alloc, seeds(0, 4_294_967_297, 6), 0, range)?;
+    is_no_sweep(&rt, alloc, seeds(0, 1, 6), 2, SearchFault::BadCondition)
 }
