@@ -90,7 +90,13 @@ impl Naming {
     }
 
     /// A word, a probe, and what it is compared with.
-    fn values(&self, text: &mut String, word: &str, k: u8, to: Comparison) -> Result<(), AllocError> {
+    fn values(
+        &self,
+        text: &mut String,
+        word: &str,
+        k: u8,
+        to: Comparison,
+    ) -> Result<(), AllocError> {
         write!(text, "{word} ")?;
         self.probe(text, k)?;
         self.comparison(text, to)

@@ -85,13 +85,11 @@ fn names_no_host(hosts: u16, term: Term) -> bool {
         Term::Up(h) | Term::NotUp(h) | Term::Done(h) | Term::NotDone(h) => hosts <= h,
         Term::Agree(_, _) | Term::AgreeBy(_, _, _) | Term::Differ(_, _) => false,
         Term::Cmp(h, _, _) if hosts <= h => true,
-        Term::Cmp(_, _, to)
-        | Term::Count(_, to, _, _)
-        | Term::Any(_, to)
-        | Term::All(_, to) => match shown(to) {
-            Some((h, _)) => hosts <= h,
-            None => false,
-        },
+        Term::Cmp(_, _, to) | Term::Count(_, to, _, _) | Term::Any(_, to) | Term::All(_, to) =>
+            match shown(to) {
+                Some((h, _)) => hosts <= h,
+                None => false,
+            },
     }
 }
 
@@ -101,13 +99,11 @@ fn names_no_probe(probes: u8, term: Term) -> bool {
         Term::Up(_) | Term::NotUp(_) | Term::Done(_) | Term::NotDone(_) => false,
         Term::Agree(k, _) | Term::Differ(k, _) => probes <= k,
         Term::AgreeBy(k, by, _) => probes <= k || probes <= by,
-        Term::Cmp(_, k, to)
-        | Term::Count(k, to, _, _)
-        | Term::Any(k, to)
-        | Term::All(k, to) => match shown(to) {
-            Some((_, other)) => probes <= k || probes <= other,
-            None => probes <= k,
-        },
+        Term::Cmp(_, k, to) | Term::Count(k, to, _, _) | Term::Any(k, to) | Term::All(k, to) =>
+            match shown(to) {
+                Some((_, other)) => probes <= k || probes <= other,
+                None => probes <= k,
+            },
     }
 }
 
