@@ -38,7 +38,8 @@ and_and : (a : Cond) (t : Term) (b : Cond) → merged a (put_before false t b) �
 and_and [] t b = merged_none t b
 and_and (ts ∷ []) t [] = refl
 and_and (ts ∷ []) t (us ∷ b) = ap (λ (x : List Term). x ∷ b) (sym (append_assoc ts (t ∷ []) us))
-and_and (ts ∷ us ∷ more) t b = ap (λ (x : Cond). ts ∷ x) (and_and (us ∷ more) t b)
+and_and (ts ∷ us ∷ []) t b = ap (λ (x : Cond). ts ∷ x) (and_and (us ∷ []) t b)
+and_and (ts ∷ us ∷ vs ∷ more) t b = ap (λ (x : Cond). ts ∷ x) (and_and (us ∷ vs ∷ more) t b)
 
 and_or : (a : Cond) (t : Term) (b : Cond) → merged a ((t ∷ []) ∷ b) ≡ and_term a t ++ b
 and_or [] t b = refl

@@ -309,6 +309,16 @@ module _ (names : Names) where
             (tail, ap (λ m. y ∷ m) g.2, as_term (codes "agree" ∷ tail) t (Agree p.0 g.1) g.4 (y, g.0, refl, p.1, g.3))
       ]
 
+  -- an agreement of one probe, whose second word was read twice
+  pub agreed : (whole after given : List Text) (y word : Text) (k : ℕ) (o : Read Term) → whole ≡ y ∷ after → after ≡ word ∷ given → probe names y ≡ Some k →
+      bytes_eq word (codes "by") ≡ false → unless_number (Agree k) after ≡ o → agreement names whole ≡ o
+  agreed whole after given y word k o first second is no read =
+      ap (agreement names) (first ∙ ap (λ m. y ∷ m) second)
+      ∙ ap (λ p. option_and_then (λ (j : ℕ). cond (bytes_eq word (codes "by")) (on_probe_unless names (AgreeBy j) given) (unless_number (Agree j) (word ∷ given))) p) is
+      ∙ ap (λ b. cond b (on_probe_unless names (AgreeBy k) given) (unless_number (Agree k) (word ∷ given))) no
+      ∙ ap (unless_number (Agree k)) (sym second)
+      ∙ read
+
   any_is : (given : List Text) (t : Term) (rest : List Text) → on_values names Any given ≡ Some (t, rest) → Tail (codes "any") given t rest
   any_is given t rest e =
       let g = values_is Any given t rest e in

@@ -1,13 +1,17 @@
 -- Terms each of which begins an alternative or is joined to the last one.
-use Rattle.std.proofs.Common.{◌≡◌, ℕ, ◌+◌, ◌<◌, Bool, true, false, ◌&&◌, ◌||◌, List, [], ◌∷◌, ◌++◌, length, map, drop, get_or, cond, refl, sym, ap, ◌∙◌, arith, append-nil, append_assoc}
+use Rattle.std.proofs.Common.{◌≡◌, ℕ, zero, suc, ◌+◌, ◌-◌, ◌<◌, ◌==◌, Bool, true, false, ◌&&◌, ◌||◌, List, [], ◌∷◌, ◌++◌, Option, Some, None, All, length, map, take, drop, get_or, cond, refl, sym, ap, ◌∙◌, subst, arith, append-nil, append_assoc}
 use Rattle.std.specs.List.{list_any, list_all, fold}
-use Rattle.std.proofs.lemmas.List.{drop_more}
+use Rattle.std.proofs.lemmas.Bool.{or_parts}
+use Rattle.std.proofs.lemmas.List.{drop_more, take_rest}
+use Rattle.std.proofs.lemmas.List.Elements.{All-drop}
 use Rattle.sim_node.specs.Node.{NodeLaws}
 use Rattle.sim_world.specs.World.{World}
 use Rattle.sim_watch.specs.declared.Term.{Term}
 use Rattle.sim_watch.specs.declared.cond.JoinedTerm.{JoinedTerm}
+use Rattle.sim_watch.specs.declared.BadTerm.TheVariants.{UnknownHost, BadProbe, Empty}
 use Rattle.sim_watch.specs.Condition.{Cond, terms, and_term, or_term, join_term, alternatives, is_empty, term_holds, all_hold, holds}
-use Rattle.sim_watch.specs.Holding.{holds_on}
+use Rattle.sim_watch.specs.Condition.{names_no_host, names_no_probe, has_no_host, has_no_probe, fault_of}
+use Rattle.sim_watch.specs.Holding.{holds_on, IsThere}
 
 -- ---- which terms there are
 
@@ -59,9 +63,45 @@ has_some (ts ∷ c) h = refl
 pub some_joined : (js : List JoinedTerm) → 0 < length js → is_empty (alternatives js) ≡ false
 some_joined js h = let many = many_joined js in has_some (alternatives js) (omega (arith, many, h))
 
+pub empty_joined : (js : List JoinedTerm) → (length js == 0) ≡ is_empty (alternatives js)
+empty_joined [] = refl
+empty_joined (j ∷ js) = sym (some_joined (j ∷ js) (omega arith))
+
 pub none_joined : (js : List JoinedTerm) → is_empty (alternatives js) ≡ false → 0 < length js
 none_joined [] e = absurd cc
 none_joined (j ∷ js) e = omega arith
+
+-- ---- what a check says of each term
+
+passes_none : {X : Type 0} (p : X → Bool) (xs : List X) → list_any p xs ≡ false → (k : ℕ) (d : X) → k < length xs → p (get_or xs k d) ≡ false
+passes_none p [] e k d lt = absurd (omega (arith, lt))
+passes_none p (x ∷ xs) e zero d lt = (or_parts (p x) (list_any p xs) e).0
+passes_none p (x ∷ xs) e (suc k) d lt = passes_none p xs (or_parts (p x) (list_any p xs) e).1 k d (omega (arith, lt))
+
+no_fault : (a b d : Bool) → cond a (Some UnknownHost) (cond b (Some BadProbe) (cond d (Some Empty) None)) ≡ None → (a ≡ false) × (b ≡ false) × (d ≡ false)
+no_fault true b d e = absurd cc
+no_fault false true d e = absurd cc
+no_fault false false true e = absurd cc
+no_fault false false false e = (refl, refl, refl)
+
+module _ (hosts probes : ℕ) (js : List JoinedTerm) (c : Cond) (same : alternatives js ≡ c) (checked : fault_of hosts probes c ≡ None) where
+  right : (has_no_host hosts (alternatives js) ≡ false) × (has_no_probe probes (alternatives js) ≡ false) × (is_empty (alternatives js) ≡ false)
+  right =
+      no_fault (has_no_host hosts (alternatives js)) (has_no_probe probes (alternatives js)) (is_empty (alternatives js))
+      (ap (fault_of hosts probes) same ∙ checked)
+
+  -- a condition that was checked has a term, and names what is there
+  pub one_there : 0 < length js
+  one_there = none_joined js right.2
+
+  pub all_there : All (IsThere hosts probes) js
+  all_there k d lt = (
+    passes_none (λ (j : JoinedTerm). names_no_host hosts j.term) js (any_joined (names_no_host hosts) js ∙ right.0) k d lt,
+    passes_none (λ (j : JoinedTerm). names_no_probe probes j.term) js (any_joined (names_no_probe probes) js ∙ right.1) k d lt,
+  )
+
+  pub rest_there : All (IsThere hosts probes) (take (length js - 1) (drop 1 js))
+  rest_there = subst (All (IsThere hosts probes)) (sym (take_rest js 1)) (All-drop 1 js all_there)
 
 -- ---- whether one of the alternatives holds
 
@@ -140,13 +180,22 @@ module _ {State Msg : Type 0} (node : NodeLaws State Msg) (w : World State Msg) 
       either_on j.begins c ts j.term js (joined_holds (c ++ ts ∷ []) (j.term ∷ []) js) (joined_holds c (ts ++ j.term ∷ []) js)
 
   -- a condition holds where its first term, and then the others, say so
-  pub holds_first : (js : List JoinedTerm) (d : JoinedTerm) → 0 < length js →
+  holds_first : (js : List JoinedTerm) (d : JoinedTerm) → 0 < length js →
       holds node (alternatives js) w ≡ holds_on node (term_holds node (get_or js 0 d).term w) (drop 1 js) w
   holds_first [] d h = absurd (omega (arith, h))
   holds_first (j ∷ js) d h =
       ap (λ (x : Cond). holds node (fold join_term x js) w) (join_none j.begins j.term)
       ∙ joined_holds [] (j.term ∷ []) js
       ∙ ap (λ b. holds_on node b js w) (one_holds j.term)
+
+  pub holds_is : (js : List JoinedTerm) (d : JoinedTerm) (first all : Bool) (c : Cond) → 0 < length js → first ≡ term_holds node (get_or js 0 d).term w →
+      all ≡ holds_on node first (take (length js - 1) (drop 1 js)) w → alternatives js ≡ c → all ≡ holds node c w
+  holds_is js d first all c some is on same =
+      on
+      ∙ ap (λ b. holds_on node b (take (length js - 1) (drop 1 js)) w) is
+      ∙ ap (λ (xs : List JoinedTerm). holds_on node (term_holds node (get_or js 0 d).term w) xs w) (take_rest js 1)
+      ∙ sym (holds_first js d some)
+      ∙ ap (λ (x : Cond). holds node x w) same
 
   next_end : (b s : Bool) (y z : Bool) → (b && s) ≡ true → cond b (s || y) z ≡ true
   next_end true true y z e = refl

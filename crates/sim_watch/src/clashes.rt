@@ -78,7 +78,8 @@ impl Clash {
         requires probes { IsFalse (is_of_no_probe N.PROBES self) }
         ensures { result ≡ list_any (clash N.laws self (host_at host world.now.world)) (drop (host + 1) world.now.world.hosts) }
     {
-        for other in host + 1..world.hosts() {
+        let hosts = world.hosts();
+        for other in host + 1..hosts {
             if self.is_between(world, host, other) {
                 return true;
             }

@@ -74,6 +74,7 @@ fn sweeps_for_promises(rt: HostRuntime) -> Result<(), Fail> {
             "not up w or w.next <= 2 and any num < 3",
             "seed 0 place 28",
         ),
+        (ABD, 100, "count val >= w.val >= 3", "none"),
         (TWO_CLIENTS, 20, "differ num unless 0", "seed 0 place 19"),
         (TWO_CLIENTS, 20, "all num <= 2", "seed 1 place 81"),
         (TWO_CLIENTS, 20, "w.val <= x.val", "seed 0 place 52"),
@@ -97,6 +98,7 @@ fn sweeps_for_promises(rt: HostRuntime) -> Result<(), Fail> {
             "any applied >= w.next",
             "seed 0 place 4",
         ),
+        (PRIMARY_BACKUP, 20, "not done w or any applied >= 4", "none"),
         (
             PRIMARY_BACKUP,
             20,
