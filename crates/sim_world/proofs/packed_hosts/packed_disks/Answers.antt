@@ -12,7 +12,7 @@ loop-host-preserved g c =
     let disk : Host g.row.S.Denot → Disk = λ h. h.disk in
     let inside : i < length hosts = omega arith in
     let more : take (i + 1) hosts ≡ take i hosts ++ host ∷ [] = cc (c.host-item.is, take_more hosts i host inside) in
-    c.in_ok-push.ensures
+    c.in_ok-push.ensures.ok
     ∙ (ap (λ ds. ds ++ host.disk ∷ []) c.loop-host.invariant ∙ sym (ap (map disk) more ∙ map-append disk (take i hosts) (host ∷ [])))
 
 pub returns : goal.returns
