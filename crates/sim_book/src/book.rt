@@ -14,7 +14,7 @@ ghost use Rattle.sim_book.specs.Freezing.{GivesFrozen, GivesMade, IsWhole};
 use crate::carry::carry_out;
 use crate::copies::twin;
 use crate::kept::Kept;
-use crate::{Command, Entry, MOST_ENTRIES, NotTaken, Reply};
+use crate::{Command, Entry, MAX_ENTRIES, NotTaken, Reply};
 use sim_node::{NoMemory, Node};
 use sim_tape::{Frozen, Tape};
 use sim_world::{Scenario, World};
@@ -251,7 +251,7 @@ impl<N: Node> Book<N> {
         ensures full { IsTrue result ↔ (65536 ≤ length self.now.history) }
         ensures legal { IsLegal (rules N.laws N.PROBES self.now.scenario) self.now.history (all_shown self.now.kept) }
     {
-        MOST_ENTRIES <= self.history.len()
+        MAX_ENTRIES <= self.history.len()
     }
 
     /// A session's command to freeze a branch is carried out, as by `turn`. Beside the entry all kept events of the branch are given

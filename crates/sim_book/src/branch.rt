@@ -16,7 +16,7 @@ ghost use Rattle.sim_book.specs.Keeps.{Keeps};
 ghost use Rattle.sim_book.specs.Works.{Works};
 ghost use Rattle.sim_book.specs.Watches.{AreChecked};
 
-use crate::{MOST_EVENTS, MOST_WATCHES, Refusal, Reply, Stop, named, rewinds, stops, ticks, walks};
+use crate::{MAX_EVENTS, MAX_WATCHES, Refusal, Reply, Stop, named, rewinds, stops, ticks, walks};
 use sim_node::Node;
 use sim_tape::Tape;
 use sim_watch::{BadTerm, Cond};
@@ -66,7 +66,7 @@ pub(crate) fn step<N: Node>(
     if tape.place() < tape.len() {
         return Reply::Refused(Refusal::NotAtEnd);
     }
-    if MOST_EVENTS <= tape.len() {
+    if MAX_EVENTS <= tape.len() {
         return Reply::Refused(Refusal::EventsFull);
     }
     match tape.make_warm(alloc, meter) {
@@ -101,7 +101,7 @@ pub(crate) fn tick<N: Node>(
     if tape.place() < tape.len() {
         return Reply::Refused(Refusal::NotAtEnd);
     }
-    if MOST_EVENTS <= tape.len() {
+    if MAX_EVENTS <= tape.len() {
         return Reply::Refused(Refusal::EventsFull);
     }
     match tape.make_warm(alloc, meter) {
@@ -132,7 +132,7 @@ pub(crate) fn run<N: Node>(
     if tape.place() < tape.len() {
         return Reply::Refused(Refusal::NotAtEnd);
     }
-    if MOST_EVENTS <= tape.len() {
+    if MAX_EVENTS <= tape.len() {
         return Reply::Refused(Refusal::EventsFull);
     }
     match tape.make_warm(alloc, meter) {
@@ -176,7 +176,7 @@ pub(crate) fn fault<N: Node>(
     if tape.place() < tape.len() {
         return Reply::Refused(Refusal::NotAtEnd);
     }
-    if MOST_EVENTS <= tape.len() {
+    if MAX_EVENTS <= tape.len() {
         return Reply::Refused(Refusal::EventsFull);
     }
     match tape.make_warm(alloc, meter) {
@@ -407,7 +407,7 @@ pub(crate) fn unwatch<N: Node>(
     ensures keeps { (t : TapeValue) → Keeps N.laws N.PROBES (command.Unwatch b number) result t t }
     ensures work { (t : TapeValue) (w : Work) → Works N.laws N.PROBES (command.Unwatch b number) result t t w w }
 {
-    if MOST_WATCHES <= number as usize || watches[number as usize].is_none() {
+    if MAX_WATCHES <= number as usize || watches[number as usize].is_none() {
         return Reply::Refused(Refusal::UnknownWatch);
     }
     watches[number as usize] = None;

@@ -6,7 +6,7 @@ ghost use Rattle.sim_book.specs.Answer.{first_stop, is_idle, run_stop, free_watc
 ghost use Rattle.sim_book.specs.OnTape.{world_on};
 ghost use Rattle.sim_book.specs.Watches.{AreChecked, NoneFrom};
 
-use crate::{MOST_EVENTS, MOST_WATCHES, Stop};
+use crate::{MAX_EVENTS, MAX_WATCHES, Stop};
 use sim_node::Node;
 use sim_tape::Tape;
 use sim_watch::{Cond, holds};
@@ -18,7 +18,7 @@ pub(crate) fn end_of(watches: &[Option<Cond>; 8]) -> usize
     ensures none { NoneFrom result watches.now }
 {
     let mut end = 0;
-    for number in 0..MOST_WATCHES {
+    for number in 0..MAX_WATCHES {
         if watches[number].is_some() {
             end = number + 1;
         }
@@ -67,7 +67,7 @@ fn first_stop<N: Node>(
     if asked {
         return Some(Stop::Asked);
     }
-    if MOST_EVENTS <= kept {
+    if MAX_EVENTS <= kept {
         return Some(Stop::Full);
     }
     if world.can(Event::Step).is_err() {
@@ -122,7 +122,7 @@ pub(crate) fn free(watches: &[Option<Cond>; 8]) -> Option<u32>
     ensures value { result ≡ free_watch watches.now }
     ensures few { IfSome result (λ n. n < 8) }
 {
-    for number in 0..MOST_WATCHES {
+    for number in 0..MAX_WATCHES {
         if watches[number].is_none() {
             return Some(number as u32);
         }

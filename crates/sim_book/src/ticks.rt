@@ -10,7 +10,7 @@ ghost use Rattle.sim_book.specs.Works.{Adds};
 ghost use Rattle.sim_book.specs.Answer.{is_due_by, tick_end, tick_room};
 ghost use Rattle.sim_book.specs.OnTape.{IsLengthened, world_on, tick_on};
 
-use crate::{MOST_EVENTS, MOST_TICK_EVENTS, Stop};
+use crate::{MAX_EVENTS, MAX_TICK_EVENTS, Stop};
 use sim_node::{NoMemory, Node};
 use sim_tape::Tape;
 use sim_world::Event;
@@ -21,11 +21,11 @@ fn room_of(kept: u32) -> u32
     requires { kept ≤ 65536 }
     ensures { result ≡ min 1024 (65536 - kept) }
 {
-    let room = MOST_EVENTS - kept;
-    if room < MOST_TICK_EVENTS {
+    let room = MAX_EVENTS - kept;
+    if room < MAX_TICK_EVENTS {
         room
     } else {
-        MOST_TICK_EVENTS
+        MAX_TICK_EVENTS
     }
 }
 
@@ -62,7 +62,7 @@ fn stop_at_end<N: Node>(tape: &Tape<N>) -> Stop
 fn stop_short<N: Node>(tape: &Tape<N>) -> Stop
     ensures { result ≡ (if length tape.now.events == 65536 then Stop.Full else Stop.Long) }
 {
-    if tape.len() == MOST_EVENTS {
+    if tape.len() == MAX_EVENTS {
         Stop::Full
     } else {
         Stop::Long

@@ -8,7 +8,7 @@ ghost use Rattle.sim_book.specs.OnTape.{IsLengthened, step_refusal, run_on};
 ghost use Rattle.sim_book.specs.Watches.{AreChecked, NoneFrom};
 ghost use Rattle.sim_book.specs.Works.{Adds};
 
-use crate::{MOST_EVENTS, Stop, stops};
+use crate::{MAX_EVENTS, Stop, stops};
 use sim_node::{NoMemory, Node};
 use sim_tape::Tape;
 use sim_watch::Cond;

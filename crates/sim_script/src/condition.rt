@@ -12,10 +12,10 @@ use crate::words::{next_word, parse_number};
 use sim_watch::{Comparison, Cond, Op, Term, Value};
 
 /// The most digits of the number in a term.
-const MOST_DIGITS: usize = 19;
+const MAX_DIGITS: usize = 19;
 
 /// The most terms of a condition.
-const MOST_TERMS: usize = 8;
+const MAX_TERMS: usize = 8;
 
 /// How a number is compared.
 #[tactic(auto, unfolding(crate::specs::Conditions::op_of))]
@@ -43,7 +43,7 @@ fn parse_op(word: &[u8]) -> Option<Op>
 fn parse_bound(word: &[u8]) -> Option<u64>
     ensures { result ≡ bound word.now }
 {
-    parse_number(word, MOST_DIGITS)
+    parse_number(word, MAX_DIGITS)
 }
 
 /// Where the first dot stands.
@@ -266,7 +266,7 @@ pub fn condition_of(names: &Names, text: &[u8]) -> Option<Cond>
     let mut cond = Cond::new();
     let mut begins = true;
     let mut rest = text;
-    for turn in 0..MOST_TERMS {
+    for turn in 0..MAX_TERMS {
         let (term, after) = next_term(names, rest)?;
         cond = with_term(cond, begins, term)?;
         let Some((word, more)) = next_word(after) else {

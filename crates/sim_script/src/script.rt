@@ -12,10 +12,10 @@ use sim_book::Command;
 use sim_world::{Fault, Query};
 
 /// A longer line is bad (bytes).
-const LONGEST_LINE: usize = 256;
+const MAX_LINE: usize = 256;
 
 /// The most digits of a number that is no bound of a term.
-const MOST_DIGITS: usize = 9;
+const MAX_DIGITS: usize = 9;
 
 /// What a line of a script asks.
 #[derive(Drop)]
@@ -31,7 +31,7 @@ pub enum ScriptLine {
 fn parse_count(word: &[u8]) -> Option<u32>
     ensures { result ≡ number 9 word.now }
 {
-    match parse_number(word, MOST_DIGITS) {
+    match parse_number(word, MAX_DIGITS) {
         Some(count) => Some(count as u32),
         None => None,
     }
@@ -277,7 +277,7 @@ pub fn line_of(names: &Names, line: &[u8]) -> ScriptLine
     if line.is_empty() || line[0] == b'#' {
         return ScriptLine::Nothing;
     }
-    if line.len() > LONGEST_LINE {
+    if line.len() > MAX_LINE {
         return ScriptLine::Bad;
     }
     parse_command(names, line)

@@ -2,7 +2,7 @@
 ghost use Rattle.std.specs.Prelude.{◌≡◌, [], All, IfOk};
 ghost use Rattle.sim_shared.specs.Sharing.{IsAt};
 
-use sim_book::{Book, Command, MOST_ENTRIES, NotTaken, Reply};
+use sim_book::{Book, Command, MAX_ENTRIES, NotTaken, Reply};
 use sim_echo::Echo;
 use sim_shared::{History, Receipt, Seat, Shared};
 use sim_tally::Tally;
@@ -183,7 +183,7 @@ fn look_on<R: Wait>(
     requires { IsAt shared.now seat.old }
     ensures { IsAt shared.now seat.new }
 {
-    for _ in 0..=MOST_ENTRIES {
+    for _ in 0..=MAX_ENTRIES {
         if let Err(why) = shared.call(rt, seat, Command::Look(0, Query::Summary)) {
             let _ = kept.lock(rt).push(why);
             return;
@@ -208,6 +208,6 @@ fn a_full_history(rt: HostRuntime) -> Result<(), Fail> {
     let frozen = shared.freeze(&rt, &mut seats[1], 0);
     assert_eq!(rt; frozen.err(), Some(NotTaken::HistoryFull));
     let history = shared.close(seats);
-    assert_eq!(rt; history.entries.len(), MOST_ENTRIES);
+    assert_eq!(rt; history.entries.len(), MAX_ENTRIES);
     Ok(())
 }
