@@ -72,7 +72,7 @@ head_is given text new h =
       ]
     ]
 
-whole_cut : (given text : Text) (new : Option Text) → (h : HeadIs given new text) → head_of given ≡ (text, h.script)
+pub whole_cut : (given text : Text) (new : Option Text) → (h : HeadIs given new text) → head_of given ≡ (text, h.script)
 whole_cut given text new h = ap head_of h.front ∙ h.cut h.script [] (sym (append-nil h.script))
 
 -- the text that was read has the scenario of the text that was given

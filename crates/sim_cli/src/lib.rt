@@ -6,6 +6,7 @@
 //!   names of the probes. `play` calls it for each of the four protocols that ship.
 //! - [`answer_lines`] is the loop over the lines of a script, on a book of the caller's.
 //! - [`Status`] says how a play ended; its number is the exit status of the program.
+//! - [`write_text`] writes a text and flushes the writer, as for the line of a scenario's fault.
 //!
 //! The contract of `play` holds for every reader and writer whose bytes contracts can name. Where
 //! memory suffices and neither fails, the output is a function of the input: `out` in
@@ -34,7 +35,7 @@ mod status;
 
 pub use answering::{answer_lines, turn_of};
 pub use nodes::{play_nodes, set_up};
-pub use playing::play;
+pub use playing::{play, write_text};
 pub use scenario::{WasRead, probe_names, protocol_of, read_scenario};
 pub use sim_tally::Tally;
-pub use status::Status;
+pub use status::{Answered, Status};

@@ -22,8 +22,9 @@ use sim_tally::Tally;
 use std::alloc::Global;
 use std::io::{Read, Write};
 
-/// Writes a text, and flushes the writer.
-fn write_text<W: Write>(writer: &mut W, text: &[u8]) -> Answered
+/// Writes a text, and flushes the writer. If the writer fails, it was given a part from the text's
+/// front.
+pub fn write_text<W: Write>(writer: &mut W, text: &[u8]) -> Answered
     ensures { Writes (W.contents writer.old) (W.contents writer.new) text.now result }
 {
     match put(writer, text) {

@@ -33,10 +33,11 @@ impl Status {
     }
 }
 
-/// How the answer to a line ended.
+/// How the writing of an answer ended.
 #[derive(Clone, Copy)]
 pub enum Answered {
     Well,
     WriterFailed,
+    /// There was no memory for the answer.
     MemoryWanted,
 }

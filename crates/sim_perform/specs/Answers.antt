@@ -1,8 +1,10 @@
 -- What a search and a sweep answer, and the lines that tell it.
-use Rattle.std.specs.Prelude.{ℕ, codes, List, ◌++◌, Bool, true, false, Option, Some, None, Result, Ok, Err, ◌≡◌}
+use Rattle.std.specs.Prelude.{ℕ, codes, List, ◌++◌, Option, Some, None, Result, Ok, Err, ◌≡◌}
 use Rattle.std.specs.Fmt.{decimal}
 use Rattle.sim_search.specs.declared.SearchFault.{SearchFault}
 use Rattle.sim_search.specs.declared.SearchFault.TheVariants as fault
+use Rattle.sim_cli.specs.declared.status.Status.{Status}
+use Rattle.sim_cli.specs.declared.status.Status.TheVariants.{Well, BadRequest}
 use Rattle.sim_perform.specs.declared.answer.Answer.{Answer}
 use Rattle.sim_perform.specs.declared.answer.Answer.TheVariants.{Place, Seed, Nowhere, BadRange, BadCondition}
 
@@ -16,11 +18,11 @@ answer_words BadCondition = codes "bad condition"
 abbrev pub answer_line : Answer → List ℕ
 answer_line a = answer_words a ++ codes "\n"
 
--- whether it tells that the request was wrong
-abbrev pub is_refused : Answer → Bool
-is_refused BadRange = true
-is_refused BadCondition = true
-is_refused _ = false
+-- the status after an answer: a wrong request is told apart
+abbrev pub status_of : Answer → Status
+status_of BadRange = BadRequest
+status_of BadCondition = BadRequest
+status_of _ = Well
 
 -- the first place, or nowhere
 abbrev pub at_place : Option ℕ → Answer

@@ -1,2 +1,4 @@
 pub mod Answers
 pub mod Following
+pub mod Hunts
+pub mod Outcomes

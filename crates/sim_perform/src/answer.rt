@@ -1,7 +1,8 @@
 //! What a search or a sweep is answered.
 ghost use Rattle.std.specs.Prelude.{◌≡◌, Some, Err, IfOk, OnErr};
-ghost use Rattle.sim_perform.specs.Answers.{answer_words, is_refused, at_place, at_seed, Tells};
+ghost use Rattle.sim_perform.specs.Answers.{answer_words, at_place, at_seed, status_of, Tells};
 
+use crate::Status;
 use sim_node::NoMemory;
 use sim_search::SearchFault;
 use std::fmt;
@@ -11,13 +12,13 @@ use std::fmt;
 pub enum Answer {
     /// The condition fails at this place, and at none before it.
     Place(u32),
-    /// Of the seeds this one is the first with a failing place, and this is its first failing place.
+    /// The first seed with a failing place, and its first failing place.
     Seed(u64, u32),
     /// The condition fails nowhere.
     Nowhere,
     /// The places, the seeds or the events are not within the limits.
     BadRange,
-    /// The condition is none, or can't be asked of this run.
+    /// The words are no condition, or the scenario has no such host or probe.
     BadCondition,
 }
 
@@ -36,13 +37,13 @@ impl fmt::Display for Answer {
 }
 
 impl Answer {
-    /// Whether the request is refused.
-    pub fn is_refused(self) -> bool
-        ensures { result ≡ is_refused self }
+    /// The status with which a hunt ends after its answer was written.
+    pub fn status(self) -> Status
+        ensures { result ≡ status_of self }
     {
         match self {
-            Answer::BadRange | Answer::BadCondition => true,
-            Answer::Place(_) | Answer::Seed(_, _) | Answer::Nowhere => false,
+            Answer::BadRange | Answer::BadCondition => Status::BadRequest,
+            Answer::Place(_) | Answer::Seed(_, _) | Answer::Nowhere => Status::Well,
         }
     }
 }

@@ -1,20 +1,19 @@
 //! A condition is hunted for in the run that a script leaves, or in the runs of many seeds.
-ghost use Rattle.std.specs.Prelude.{◌≡◌, ◌≤◌, ◌<◌, ℕ, IfOk, slice_index_or, vec_len};
+ghost use Rattle.std.specs.Prelude.{◌≡◌, ◌<◌, ℕ, List, IfOk, IfErr, Some, Ok, length, slice_index_or, vec_len};
+ghost use Rattle.std.specs.Io.KnownBytes.{prepend_known};
+ghost use Rattle.sim_world.specs.Events.{rules};
+ghost use Rattle.sim_perform.specs.Following.{Stops};
+ghost use Rattle.sim_perform.specs.Hunts.{IsTeam, first_events, found_on, search_answer, sweep_answer};
 ghost use Rattle.sim_book.specs.Kept.{Kept as KeptValue};
-ghost use Rattle.sim_scenario.specs.Hosts.{IsNumbered};
-ghost use Rattle.sim_scenario.specs.Limits.{IsWithinLimits};
-ghost use Rattle.sim_scenario.specs.Seen.{seen};
 
 use crate::Status;
 use crate::answer::{Answer, of_search, of_sweep};
 use crate::following::follow;
 use crate::progress::Progress;
 use sim_book::Book;
-use sim_cli::set_up;
 use sim_lines::Ahead;
 use sim_node::{NoMemory, Node};
-use sim_scenario::ScenarioText;
-use sim_script::{Names, condition_of};
+use sim_script::Names;
 use sim_search::{OpenGate, search, sweep};
 use sim_tally::Tally;
 use sim_tape::Frozen;
@@ -26,22 +25,33 @@ use std::rt::Clock;
 use std::sync::Wait;
 use std::thread::Threads;
 
-/// What is asked for, by how many workers (1 to 16), and whether they tell how far they are.
+/// What a command line asks for: a condition in words, where to look for it, with how many workers
+/// (1 to 16), and whether they report their progress.
 #[derive(Clone, Copy)]
 pub struct Hunt<'a> {
-    pub ground: Ground,
+    pub area: Area,
     pub cond: &'a str,
     pub workers: u64,
     pub progress: bool,
 }
 
-/// Where it is looked for.
+/// Where a condition is looked for.
 #[derive(Clone, Copy)]
-pub enum Ground {
+pub enum Area {
     /// in the places from `lo` to `hi` of the first branch
     Places { lo: u64, hi: u64 },
     /// in the runs of at most `events` steps of `count` seeds, from number `first` on
     Seeds { first: u64, count: u64, events: u64 },
+}
+
+/// A hunt in a scenario that was read: the condition's words are read too, by the names of the
+/// scenario's hosts and probes.
+#[derive(Drop)]
+pub struct Quest<'a> {
+    pub scenario: Scenario,
+    pub names: Names,
+    pub cond: Cond,
+    pub hunt: &'a Hunt<'a>,
 }
 
 // A meter for each worker.
@@ -55,14 +65,20 @@ fn meters(alloc: Global, workers: u64) -> Result<Vec<Tally>, NoMemory>
     Ok(meters)
 }
 
-// All kept events of the first branch, once a script was followed.
+// All kept events of the first branch, once a script was carried out.
 fn played<N: Node<Meter = Tally>, R: Read>(
     alloc: Global,
     scenario: &Scenario,
     names: &Names,
     reader: &mut R,
     ahead: &mut Ahead,
-) -> Result<Frozen<N>, Status> {
+) -> Result<Frozen<N>, Status>
+    ensures run { (script : List ℕ) →
+        prepend_known ahead.old.bytes (R.remaining reader.old) ≡ Some script →
+        IfOk result (λ f. (f.scenario ≡ scenario.now)
+        × (f.events ≡ first_events (rules N.laws N.PROBES scenario.now) names.now script)) }
+    ensures stops { IfErr result Stops }
+{
     let Ok(mut book) = Book::<N>::new(alloc, scenario, Tally::new()) else {
         return Err(Status::MemoryWanted);
     };
@@ -70,20 +86,20 @@ fn played<N: Node<Meter = Tally>, R: Read>(
     first_run(alloc, &book)
 }
 
-// All kept events of the first branch, which is there from the beginning and never goes away.
+// All kept events of the first branch.
 fn first_run<N: Node>(alloc: Global, book: &Book<N>) -> Result<Frozen<N>, Status>
-    ensures { IfOk result (λ f. (f.scenario ≡ book.now.scenario) × ((d : KeptValue) → f.events ≡ (slice_index_or book.now.kept 0 d).tape.events)) }
+    requires { 0 < length book.now.kept }
+    ensures run { IfOk result (λ f. (f.scenario ≡ book.now.scenario)
+        × ((d : KeptValue) → f.events ≡ (slice_index_or book.now.kept 0 d).tape.events)) }
+    ensures stops { IfErr result Stops }
 {
-    match book.warm(0) {
-        None => Err(Status::MemoryWanted),
-        Some(_) => match book.frozen(alloc, 0) {
-            Ok(frozen) => Ok(frozen),
-            Err(_) => Err(Status::MemoryWanted),
-        },
+    match book.frozen(alloc, 0) {
+        Ok(frozen) => Ok(frozen),
+        Err(_) => Err(Status::MemoryWanted),
     }
 }
 
-// How many pieces the places have; none where the range is bad.
+// How many pieces the places have, or 0 if the range is bad.
 fn pieces_of<N: Node>(frozen: &Frozen<N>, lo: u64, hi: u64) -> u64 {
     if hi < lo || u64::from(frozen.events().len()) < hi {
         return 0;
@@ -91,62 +107,74 @@ fn pieces_of<N: Node>(frozen: &Frozen<N>, lo: u64, hi: u64) -> u64 {
     pieces(lo as u32, hi as u32, frozen.interval())
 }
 
-// Looks for the first place of a run at which a condition fails.
+// Looks for the first place of a run at which the condition fails.
 fn search_run<N: Node<Meter = Tally> + Send + Sync, H: Threads + Wait + Sync + Clock + Eprint>(
     rt: &H,
     alloc: Global,
     frozen: &Frozen<N>,
     lo: u64,
     hi: u64,
-    cond: &Cond,
-    hunt: &Hunt<'_>,
+    quest: &Quest<'_>,
 ) -> Result<Answer, NoMemory>
 where
     N::Msg: Send + Sync,
     N::Undo: Send + Sync,
-    requires workers { (1 ≤ hunt.now.workers) × (hunt.now.workers ≤ 16) }
+    requires { IsTeam quest.now.hunt.now.workers }
+    ensures { IfOk result (λ a. a ≡ search_answer (rules N.laws N.PROBES frozen.now.scenario)
+        quest.now.cond frozen.now.events lo hi) }
 {
-    let meters = meters(alloc, hunt.workers)?;
-    let found = if hunt.progress {
+    let meters = meters(alloc, quest.hunt.workers)?;
+    if quest.hunt.progress {
         let gate = Progress::new(rt, pieces_of(frozen, lo, hi));
-        search(rt, alloc, frozen, lo, hi, cond, meters, &gate)
+        of_search(search(rt, alloc, frozen, lo, hi, &quest.cond, meters, &gate))
     } else {
-        search(rt, alloc, frozen, lo, hi, cond, meters, &OpenGate)
-    };
-    of_search(found)
+        of_search(search(rt, alloc, frozen, lo, hi, &quest.cond, meters, &OpenGate))
+    }
 }
 
-// Looks for the first seed under which a condition fails.
+// Looks for the first seed under which the condition fails.
 fn sweep_seeds<N: Node<Meter = Tally> + Send + Sync, H: Threads + Wait + Sync + Clock + Eprint>(
     rt: &H,
     alloc: Global,
-    scenario: &Scenario,
     first: u64,
     count: u64,
     events: u64,
-    cond: &Cond,
-    hunt: &Hunt<'_>,
+    quest: &Quest<'_>,
 ) -> Result<Answer, NoMemory>
 where
     N::Msg: Send + Sync,
     N::Undo: Send + Sync,
-    requires workers { (1 ≤ hunt.now.workers) × (hunt.now.workers ≤ 16) }
+    requires { IsTeam quest.now.hunt.now.workers }
+    ensures { IfOk result (λ a. a ≡ sweep_answer (rules N.laws N.PROBES quest.now.scenario)
+        quest.now.cond first count events) }
 {
-    let meters = meters(alloc, hunt.workers)?;
-    let found = if hunt.progress {
+    let scenario = &quest.scenario;
+    let cond = &quest.cond;
+    let meters = meters(alloc, quest.hunt.workers)?;
+    if quest.hunt.progress {
         let gate = Progress::new(rt, count);
-        sweep::<N, _, _>(
+        of_sweep(sweep::<N, _, _>(
             rt, alloc, scenario, first, count, events, cond, meters, &gate,
-        )
+        ))
     } else {
-        sweep::<N, _, _>(
+        of_sweep(sweep::<N, _, _>(
             rt, alloc, scenario, first, count, events, cond, meters, &OpenGate,
-        )
-    };
-    of_sweep(found)
+        ))
+    }
 }
 
-/// Hunts over nodes of a type. What a script is answered is not written, and of a sweep no script is read.
+// The answer, or that memory was wanted.
+fn told(answer: Result<Answer, NoMemory>) -> Result<Answer, Status>
+    ensures ok { IfOk result (λ a. answer ≡ Ok a) }
+    ensures stops { IfErr result Stops }
+{
+    match answer {
+        Ok(answer) => Ok(answer),
+        Err(_) => Err(Status::MemoryWanted),
+    }
+}
+
+/// Hunts over nodes of a type. The script's answers are not written, and a sweep reads no script.
 pub fn hunt_nodes<
     N: Node<Meter = Tally> + Send + Sync,
     H: Threads + Wait + Sync + Clock + Eprint,
@@ -154,37 +182,29 @@ pub fn hunt_nodes<
 >(
     rt: &H,
     alloc: Global,
-    text: ScenarioText,
-    probes: Vec<String>,
-    hunt: &Hunt<'_>,
+    quest: &Quest<'_>,
     reader: &mut R,
     ahead: &mut Ahead,
 ) -> Result<Answer, Status>
 where
     N::Msg: Send + Sync,
     N::Undo: Send + Sync,
-    requires numbered { IsNumbered text.names }
-    requires within { IsWithinLimits (seen text) }
-    requires few { vec_len probes ≤ 16 }
-    requires workers { (1 ≤ hunt.now.workers) × (hunt.now.workers ≤ 16) }
+    requires { IsTeam quest.now.hunt.now.workers }
+    ensures answer { (script : List ℕ) →
+        prepend_known ahead.old.bytes (R.remaining reader.old) ≡ Some script →
+        IfOk result (λ a. a ≡ found_on (rules N.laws N.PROBES quest.now.scenario)
+        quest.now.names quest.now.hunt.now.area script quest.now.cond) }
+    ensures stops { IfErr result Stops }
 {
-    let (scenario, names) = set_up(text, probes);
-    let Some(cond) = condition_of(&names, hunt.cond.as_bytes()) else {
-        return Ok(Answer::BadCondition);
-    };
-    let answer = match hunt.ground {
-        Ground::Places { lo, hi } => {
-            let frozen = played::<N, R>(alloc, &scenario, &names, reader, ahead)?;
-            search_run(rt, alloc, &frozen, lo, hi, &cond, hunt)
+    match quest.hunt.area {
+        Area::Places { lo, hi } => {
+            let frozen = played::<N, R>(alloc, &quest.scenario, &quest.names, reader, ahead)?;
+            told(search_run(rt, alloc, &frozen, lo, hi, quest))
         }
-        Ground::Seeds {
+        Area::Seeds {
             first,
             count,
             events,
-        } => { sweep_seeds::<N, H>(rt, alloc, &scenario, first, count, events, &cond, hunt) }
-    };
-    match answer {
-        Ok(answer) => Ok(answer),
-        Err(_) => Err(Status::MemoryWanted),
+        } => told(sweep_seeds::<N, H>(rt, alloc, first, count, events, quest)),
     }
 }

@@ -7,10 +7,12 @@
 //! condition`. With `--progress` it reports on standard error how many pieces are done, at most
 //! twice a second; the standard output does not change.
 //!
-//! What is proved of a hunt is less than of a play. The words of each answer are proved, and no
-//! want of memory is printed as an answer. The script of a search is carried out as the definition
-//! of a play says. That the printed line is the result of the search is not part of the contract of
-//! `perform`.
+//! The contract of `perform` covers all three jobs, for every reader and writer whose bytes
+//! contracts can name (`Performed` in `specs/Outcomes.antt`). What a hunt writes is a function of
+//! its input: the line of the scenario's fault, or of the first failing place of the run that the
+//! script leaves, or of the first failing seed, or of why the request is refused. The status says
+//! which. If the writer fails, a beginning of that line was written. If the reader fails or memory
+//! is wanted, nothing was. What standard error shows is in no contract.
 //!
 //! Why it is built this way:
 //!

@@ -1,4 +1,4 @@
-//! How far a search or a sweep is, told while it works.
+//! The progress of a search or a sweep, reported while it works.
 
 use sim_search::Gate;
 use std::rt::Clock;
@@ -7,22 +7,23 @@ use std::sync::atomic::AtomicU64;
 use std::sync::atomic::Ordering::SeqCst;
 use std::time::Instant;
 
-/// The time from one line to the next, at least (ms).
+/// The least time from one line to the next (ms).
 const PAUSE: u64 = 500;
 
-/// A gate that tells on standard error how many pieces are done, and how long the work takes so far, at most twice a second.
+/// A gate that reports on standard error how many pieces are done and how long the work has taken,
+/// at most twice a second.
 #[derive(Drop)]
 pub struct Progress<'a, H: Clock + Eprint> {
     host: &'a H,
     start: Option<Instant>,
     pieces: u64,
     done: AtomicU64,
-    // when the last line was told (ms)
+    // when the last line was written (ms after the start)
     told: AtomicU64,
 }
 
 impl<'a, H: Clock + Eprint> Progress<'a, H> {
-    /// The work begins. Where the clock can't be read nothing is told.
+    /// The work begins. If the clock cannot be read, nothing is reported.
     pub fn new(host: &'a H, pieces: u64) -> Self {
         Progress {
             host,
@@ -33,15 +34,15 @@ impl<'a, H: Clock + Eprint> Progress<'a, H> {
         }
     }
 
-    // How long the work takes so far (ms), where the clock can be read.
+    // How long the work has taken (ms), or none if the clock cannot be read.
     fn so_far(&self) -> Option<u64> {
         let start = self.start?;
         let passed = start.elapsed(self.host).ok()?;
         u64::try_from(passed.as_millis()).ok()
     }
 
-    // Whether a line is due now. It is then due for one of the workers alone.
-    fn is_due(&self, now: u64) -> bool {
+    // Claims the next line if it is due. Of several workers that find it due, one claims it.
+    fn claims_line(&self, now: u64) -> bool {
         let last = self.told.load(SeqCst);
         last.saturating_add(PAUSE) <= now
             && self
@@ -50,7 +51,7 @@ impl<'a, H: Clock + Eprint> Progress<'a, H> {
                 .is_ok()
     }
 
-    // Tells how far the work is. Where the standard error takes nothing, there is nobody to tell.
+    // Writes a line. A failure of standard error is ignored: the search goes on.
     fn tell(&self, done: u64, now: u64) {
         let pieces = self.pieces;
         let (seconds, tenths) = (now / 1_000, now % 1_000 / 100);
@@ -64,7 +65,7 @@ impl<'a, H: Clock + Eprint> Gate for Progress<'a, H> {
     fn leave<R: Wait>(&self, _rt: &R, _piece: u64) {
         let done = self.done.fetch_add(1, SeqCst).saturating_add(1);
         if let Some(now) = self.so_far() {
-            if self.is_due(now) {
+            if self.claims_line(now) {
                 self.tell(done, now);
             }
         }

@@ -5,6 +5,7 @@ use Rattle.sim_perform.proofs.following.follow.Goals as goal
 pub loop-book-preserved : goal.loop-book-preserved
 loop-book-preserved g c = record {
   scenario = c.follow_line.ensures.scenario ∙ c.loop-book.invariant.scenario;
+  some = λ h. c.follow_line.ensures.some (c.loop-book.invariant.some h);
   so = λ script e.
       at_line _ _ _ script _ _ _ _ c.next_line.new.line.items (c.loop-book.invariant.so script e) c.in-Line.ensures.takes
       (rw (c.as_slice.ensures.value, c.loop-book.invariant.scenario) at c.in_ok-follow_line-in-Line.ensures.next);

@@ -1,0 +1,108 @@
+-- What was written is what a job's status says.
+use Rattle.std.proofs.Common.{◌≡◌, [], Option, sym, ap, subst, ◌∙◌, refl, inl, inr, Result, Ok}
+use Rattle.std.specs.Prelude.{⊤}
+use Rattle.sim_lines.specs.Cut.{head_of}
+use Rattle.sim_lines.proofs.Known.{Appends-none}
+use Rattle.sim_scenario.specs.Scenario.{ScenarioText, Fault}
+use Rattle.sim_script.specs.Script.{Text}
+use Rattle.sim_job.specs.declared.wanted.Job.{Job}
+use Rattle.sim_cli.specs.declared.status.Status.{Status}
+use Rattle.sim_cli.specs.declared.status.Status.TheVariants.{Well, BadScenario, BadRequest, ReaderFailed, WriterFailed, MemoryWanted}
+use Rattle.sim_cli.specs.Answers.{Faults}
+use Rattle.sim_cli.specs.Lines.{fault_line}
+use Rattle.sim_cli.specs.Play.{Nodes, Ended, names_of, read_scenario}
+use Rattle.sim_cli.proofs.Whole.{HeadIs, whole_cut}
+use Rattle.sim_perform.specs.declared.answer.Answer.{Answer}
+use Rattle.sim_perform.specs.declared.answer.Answer.TheVariants as answer
+use Rattle.sim_perform.specs.declared.hunting.Area.{Area}
+use Rattle.sim_perform.specs.Answers.{status_of}
+use Rattle.sim_perform.specs.Following.{Stops}
+use Rattle.sim_perform.specs.Hunts.{hunt_answer}
+use Rattle.sim_perform.specs.Outcomes.{Outcome, EndsBy, WritesOutcome, WritesAnswer, Performed, answered, faulty, outcome, outcome_of}
+
+-- a status after a line that was written
+HasLine : Status → Type 0
+HasLine Well = ⊤
+HasLine BadScenario = ⊤
+HasLine BadRequest = ⊤
+HasLine ReaderFailed = ⊥
+HasLine WriterFailed = ⊥
+HasLine MemoryWanted = ⊥
+
+answered_has_line : (a : Answer) → HasLine (status_of a)
+unfolding HasLine
+answered_has_line (answer.Place p) = tt
+answered_has_line (answer.Seed i p) = tt
+answered_has_line answer.Nowhere = tt
+answered_has_line answer.BadRange = tt
+answered_has_line answer.BadCondition = tt
+
+ends_line : (o : Outcome) (ended : Status) → ended ≡ o.status → HasLine ended → EndsBy o ended o.line
+unfolding HasLine
+ends_line o Well e h = (sym e, refl)
+ends_line o BadScenario e h = (sym e, refl)
+ends_line o BadRequest e h = (sym e, refl)
+ends_line o ReaderFailed e h = absurd h
+ends_line o WriterFailed e h = absurd h
+ends_line o MemoryWanted e h = absurd h
+
+ends_empty : (o : Outcome) (ended : Status) → Stops ended → EndsBy o ended []
+ends_empty o Well s = absurd s
+ends_empty o BadScenario s = absurd s
+ends_empty o BadRequest s = absurd s
+ends_empty o ReaderFailed s = refl
+ends_empty o WriterFailed s = absurd s
+ends_empty o MemoryWanted s = refl
+
+-- nothing was written
+pub nothing : (o : Outcome) (ended : Status) (held : Option Text) → Stops ended → Ended held held (EndsBy o ended)
+nothing o ended held s = record { written = []; appended = Appends-none held; is = ends_empty o ended s }
+
+-- a line was written, or a part of it
+line_told : (o : Outcome) (ended : Status) (held holds : Option Text) → HasLine o.status → WritesOutcome held holds o ended → Ended held holds (EndsBy o ended)
+line_told o ended held holds h w = elim w [
+  | inl a ↦ record { written = o.line; appended = a.1; is = ends_line o ended a.0 (subst HasLine (sym a.0) h) }
+  | inr a ↦ record {
+    written = a.1.0;
+    appended = a.1.3;
+    is = subst (λ (s : Status). EndsBy o s a.1.0) (sym a.0) (a.1.1, a.1.2);
+  }
+]
+
+-- the same text and status
+pub same_outcome : (o : Outcome) (status ended : Status) (line : Text) (held holds : Option Text) → status ≡ o.status → line ≡ o.line
+    → WritesOutcome held holds (record { status = status; line = line }) ended → WritesOutcome held holds o ended
+same_outcome o status ended line held holds a b w =
+    subst (λ (s : Status). WritesOutcome held holds (record { status = s; line = o.line }) ended) a
+    (subst (λ (l : Text). WritesOutcome held holds (record { status = status; line = l }) ended) b w)
+
+pub told_answer : (o : Outcome) (a : Answer) (ended : Status) (held holds : Option Text) → o ≡ answered a → WritesAnswer held holds a ended → Ended held holds (EndsBy o ended)
+told_answer o a ended held holds same w =
+    subst (λ (x : Outcome). Ended held holds (EndsBy x ended)) (sym same)
+    (elim w [
+      | inl x ↦ line_told (answered a) ended held holds (answered_has_line a) x
+      | inr x ↦ record { written = []; appended = x.1; is = subst (λ (s : Status). EndsBy (answered a) s []) (sym x.0) refl }
+    ])
+
+pub told_fault : (o : Outcome) (fault : Fault) (line : Text) (ended : Status) (held holds : Option Text) → o ≡ faulty fault → line ≡ fault_line fault
+    → WritesOutcome held holds (record { status = BadScenario; line = line }) ended → Ended held holds (EndsBy o ended)
+unfolding HasLine
+told_fault o fault line ended held holds same told w =
+    subst (λ (x : Outcome). Ended held holds (EndsBy x ended)) (sym same)
+    (line_told (faulty fault) ended held holds tt (same_outcome (faulty fault) BadScenario ended line held holds refl told w))
+
+module _ (nodes_of : ScenarioText → Nodes) where
+  module _ (area : Area) (cond : Text) where
+    -- the outcome of a scenario that was read, and of a bad one
+    pub outcome_read : (given text : Text) (new : Option Text) (s : ScenarioText) (h : HeadIs given new text) → read_scenario text ≡ Ok s
+        → outcome nodes_of area cond given ≡ answered (hunt_answer (nodes_of s).rules (names_of nodes_of s) area cond h.script)
+    outcome_read given text new s h e =
+        ap (λ (p : Text × Text). outcome_of nodes_of area cond (read_scenario p.0) p.1) (whole_cut given text new h)
+        ∙ ap (λ (r : Result ScenarioText Fault). outcome_of nodes_of area cond r h.script) e
+
+    pub outcome_fault : (given line : Text) (f : Faults (head_of given).0 line) → outcome nodes_of area cond given ≡ faulty f.fault
+    outcome_fault given line f = ap (λ (r : Result ScenarioText Fault). outcome_of nodes_of area cond r (head_of given).1) f.read
+
+  pub as_job : (job asked : Job) (given : Text) (left held holds : Option Text) (ended : Status) → job ≡ asked
+      → Ended held holds (Performed nodes_of asked given left ended) → Ended held holds (Performed nodes_of job given left ended)
+  as_job job asked given left held holds ended same p = subst (λ (j : Job). Ended held holds (Performed nodes_of j given left ended)) (sym same) p

@@ -1,0 +1,18 @@
+use Rattle.sim_job.specs.declared.wanted.Job.TheVariants as jobs
+use Rattle.sim_cli.specs.Protocols.{nodes_of}
+use Rattle.sim_perform.proofs.Ends.{as_job}
+use Rattle.sim_perform.proofs.performing.perform.Goals as goal
+
+pub returns-in-Play-clause-performed : goal.returns-in-Play-clause-performed
+returns-in-Play-clause-performed g c = λ given e.
+    as_job nodes_of c.args.job.now jobs.Play given _ _ _ c.play.result c.in-Play.is (c.play.ensures.played given e)
+
+pub returns-in-Search-clause-performed : goal.returns-in-Search-clause-performed
+returns-in-Search-clause-performed g c = λ given e.
+    as_job nodes_of c.args.job.now (jobs.Search c.in-Search.workers c.in-Search.progress c.in-Search.lo c.in-Search.hi c.in-Search.cond) given _ _ _ c.hunt_scenario.result
+    c.in-Search.is (c.hunt_scenario.ensures given e)
+
+pub returns-in-Sweep-clause-performed : goal.returns-in-Sweep-clause-performed
+returns-in-Sweep-clause-performed g c = λ given e.
+    as_job nodes_of c.args.job.now (jobs.Sweep c.in-Sweep.workers c.in-Sweep.progress c.in-Sweep.first c.in-Sweep.count c.in-Sweep.events c.in-Sweep.cond) given _ _ _ c.hunt_scenario-in-Sweep.result
+    c.in-Sweep.is (c.hunt_scenario-in-Sweep.ensures given e)

@@ -1,0 +1,75 @@
+-- What a job writes, and the status with which it ends.
+use Rattle.std.specs.Prelude.{◌≡◌, [], ◌++◌, Option, Result, Ok, Err, ◌⊎◌}
+use Rattle.std.specs.Io.KnownBytes.{Appends}
+use Rattle.sim_lines.specs.Cut.{head_of}
+use Rattle.sim_lines.specs.Left.{AppendsPart}
+use Rattle.sim_scenario.specs.Scenario.{ScenarioText, Fault}
+use Rattle.sim_script.specs.Script.{Text}
+use Rattle.sim_job.specs.declared.wanted.Job.{Job}
+use Rattle.sim_job.specs.declared.wanted.Job.TheVariants as jobs
+use Rattle.sim_cli.specs.declared.status.Status.{Status}
+use Rattle.sim_cli.specs.declared.status.Status.TheVariants.{Well, BadScenario, BadRequest, ReaderFailed, WriterFailed, MemoryWanted}
+use Rattle.sim_cli.specs.Lines.{fault_line}
+use Rattle.sim_cli.specs.Play.{Nodes, Played, names_of, read_scenario}
+use Rattle.sim_perform.specs.declared.answer.Answer.{Answer}
+use Rattle.sim_perform.specs.declared.hunting.Area.{Area}
+use Rattle.sim_perform.specs.declared.hunting.Area.TheVariants.{Places, Seeds}
+use Rattle.sim_perform.specs.Answers.{answer_line, status_of}
+use Rattle.sim_perform.specs.Hunts.{hunt_answer}
+
+-- the status and the line with which a hunt ends where the reader, the writer and memory serve
+pub record Outcome : Type 0 where
+  pub status : Status
+  pub line : Text
+
+abbrev pub faulty : Fault → Outcome
+faulty why = record { status = BadScenario; line = fault_line why }
+
+abbrev pub answered : Answer → Outcome
+answered a = record { status = status_of a; line = answer_line a }
+
+-- what was written of an outcome, by the status: its line, or nothing, or a beginning of the line
+abbrev pub EndsBy : Outcome → Status → Text → Type 0
+EndsBy o Well written = (o.status ≡ Well) × (written ≡ o.line)
+EndsBy o BadScenario written = (o.status ≡ BadScenario) × (written ≡ o.line)
+EndsBy o BadRequest written = (o.status ≡ BadRequest) × (written ≡ o.line)
+EndsBy o ReaderFailed written = written ≡ []
+EndsBy o WriterFailed written = (more : Text) × (o.line ≡ written ++ more)
+EndsBy o MemoryWanted written = written ≡ []
+
+-- a line was written and its status given, or the writer failed and has a part from the line's front
+abbrev pub WritesOutcome : Option Text → Option Text → Outcome → Status → Type 0
+WritesOutcome held holds o ended =
+    ((ended ≡ o.status) × Appends held holds o.line)
+    ⊎ ((ended ≡ WriterFailed) × AppendsPart held holds o.line)
+
+-- the line of an answer was written with its status, or memory was wanted and nothing was written
+abbrev pub WritesAnswer : Option Text → Option Text → Answer → Status → Type 0
+WritesAnswer held holds a ended =
+    WritesOutcome held holds (answered a) ended ⊎ ((ended ≡ MemoryWanted) × Appends held holds [])
+
+-- A scenario stands for the nodes of a run.
+module _ (nodes_of : ScenarioText → Nodes) where
+  module _ (area : Area) (cond : Text) where
+    -- the answer to a hunt, or the fault of the scenario
+    abbrev pub outcome_of : Result ScenarioText Fault → Text → Outcome
+    outcome_of (Err why) script = faulty why
+    outcome_of (Ok s) script =
+        answered (hunt_answer (nodes_of s).rules (names_of nodes_of s) area cond script)
+
+    -- The outcome of a hunt for an input. The scenario is what stands before the first line `---`,
+    -- and the script follows it. A sweep does not depend on the script.
+    abbrev pub outcome : Text → Outcome
+    outcome input = outcome_of (read_scenario (head_of input).0) (head_of input).1
+
+    -- what a hunt writes for what is given, by its status
+    abbrev pub Hunted : Text → Status → Text → Type 0
+    Hunted given ended written = EndsBy (outcome given) ended written
+
+  -- what a job writes for what is given, and what is left of it, by its status
+  abbrev pub Performed : Job → Text → Option Text → Status → Text → Type 0
+  Performed jobs.Play given left ended written = Played nodes_of given left ended written
+  Performed (jobs.Search workers progress lo hi cond) given left ended written =
+      Hunted (Places lo hi) cond.now given ended written
+  Performed (jobs.Sweep workers progress first count events cond) given left ended written =
+      Hunted (Seeds first count events) cond.now given ended written
