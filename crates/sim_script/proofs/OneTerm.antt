@@ -77,10 +77,10 @@ no_number x y =
     ∙ ap (λ b. cond {A = Option ℕ} b (Some (number_from word)) None) (and_none (is_word word))
 
 -- what was read with the rest, and the rest
-left_is : {A : Type 0} (a t : A) (more rest : List Text) → (a, more) ≡ (t, rest) → a ≡ t
+left_is : {A : Type 0} (a t : A) (more rest : List Text) → ◌≡◌ {A = A × List Text} (a, more) (t, rest) → a ≡ t
 left_is {A} a t more rest e = ap (λ (p : A × List Text). p.0) e
 
-right_is : {A : Type 0} (a t : A) (more rest : List Text) → (a, more) ≡ (t, rest) → more ≡ rest
+right_is : {A : Type 0} (a t : A) (more rest : List Text) → ◌≡◌ {A = A × List Text} (a, more) (t, rest) → more ≡ rest
 right_is {A} a t more rest e = ap (λ (p : A × List Text). p.1) e
 
 as_value : (names : Names) (word : Text) (v u : Value) → v ≡ u → WritesValue names word u → WritesValue names word v
@@ -312,10 +312,10 @@ module _ (names : Names) where
   -- an agreement of one probe, whose second word was read twice
   pub agreed : (whole after given : List Text) (y word : Text) (k : ℕ) (o : Read Term) → whole ≡ y ∷ after → after ≡ word ∷ given → probe names y ≡ Some k →
       bytes_eq word (codes "by") ≡ false → unless_number (Agree k) after ≡ o → agreement names whole ≡ o
-  agreed whole after given y word k o first second is no read =
+  agreed whole after given y word k o first second is apart read =
       ap (agreement names) (first ∙ ap (λ m. y ∷ m) second)
       ∙ ap (λ p. option_and_then (λ (j : ℕ). cond (bytes_eq word (codes "by")) (on_probe_unless names (AgreeBy j) given) (unless_number (Agree j) (word ∷ given))) p) is
-      ∙ ap (λ b. cond b (on_probe_unless names (AgreeBy k) given) (unless_number (Agree k) (word ∷ given))) no
+      ∙ ap (λ b. cond b (on_probe_unless names (AgreeBy k) given) (unless_number (Agree k) (word ∷ given))) apart
       ∙ ap (unless_number (Agree k)) (sym second)
       ∙ read
 
@@ -417,15 +417,15 @@ module _ (names : Names) where
       let d = w.3 in
       let word : Text = d.0 ++ 46 ∷ d.1 in
       let more : List Text = op_word c.op ∷ w.1 ∷ rest in
-      let no = λ (key : Text) (none : position is_dot key ≡ None). no_keyword names.hosts 65535 d.0 d.1 key h d.3 none in
+      let apart = λ (key : Text) (none : position is_dot key ≡ None). no_keyword names.hosts 65535 d.0 d.1 key h d.3 none in
       ap (λ f. term names (f ++ rest)) (w.2 ∙ ap (λ x. x ∷ op_word c.op ∷ w.1 ∷ []) d.2)
-      ∙ other (bytes_eq word (codes "up")) (on_host names Up more) (done_or word more) (no (codes "up") refl)
-      ∙ other (bytes_eq word (codes "done")) (on_host names Done more) (not_or word more) (no (codes "done") refl)
-      ∙ other (bytes_eq word (codes "not")) (negation names more) (agree_or word more) (no (codes "not") refl)
-      ∙ other (bytes_eq word (codes "agree")) (agreement names more) (differ_or word more) (no (codes "agree") refl)
-      ∙ other (bytes_eq word (codes "differ")) (on_probe_unless names Differ more) (any_or word more) (no (codes "differ") refl)
-      ∙ other (bytes_eq word (codes "any")) (on_values names Any more) (all_or word more) (no (codes "any") refl)
-      ∙ other (bytes_eq word (codes "all")) (on_values names All more) (count_or word more) (no (codes "all") refl)
-      ∙ other (bytes_eq word (codes "count")) (counting names more) (compared names word more) (no (codes "count") refl)
+      ∙ other (bytes_eq word (codes "up")) (on_host names Up more) (done_or word more) (apart (codes "up") refl)
+      ∙ other (bytes_eq word (codes "done")) (on_host names Done more) (not_or word more) (apart (codes "done") refl)
+      ∙ other (bytes_eq word (codes "not")) (negation names more) (agree_or word more) (apart (codes "not") refl)
+      ∙ other (bytes_eq word (codes "agree")) (agreement names more) (differ_or word more) (apart (codes "agree") refl)
+      ∙ other (bytes_eq word (codes "differ")) (on_probe_unless names Differ more) (any_or word more) (apart (codes "differ") refl)
+      ∙ other (bytes_eq word (codes "any")) (on_values names Any more) (all_or word more) (apart (codes "any") refl)
+      ∙ other (bytes_eq word (codes "all")) (on_values names All more) (count_or word more) (apart (codes "all") refl)
+      ∙ other (bytes_eq word (codes "count")) (counting names more) (compared names word more) (apart (codes "count") refl)
       ∙ ap (option_and_then (λ (p : ℕ × ℕ). with_comparison names (Cmp p.0 p.1) more)) (dotted_reads names d.0 d.1 h k d.3 d.4)
       ∙ with_reads (Cmp h k) c w.1 rest w.4

@@ -1,5 +1,5 @@
 -- Terms each of which begins an alternative or is joined to the last one.
-use Rattle.std.proofs.Common.{◌≡◌, ℕ, zero, suc, ◌+◌, ◌-◌, ◌<◌, ◌==◌, Bool, true, false, ◌&&◌, ◌||◌, List, [], ◌∷◌, ◌++◌, Option, Some, None, All, length, map, take, drop, get_or, cond, refl, sym, ap, ◌∙◌, subst, arith, append-nil, append_assoc}
+use Rattle.std.proofs.Common.{◌≡◌, ℕ, zero, suc, ◌+◌, ◌-◌, ◌<◌, ◌==◌, Bool, true, false, ◌&&◌, ◌||◌, List, [], ◌∷◌, ◌++◌, Option, Some, None, All, length, map, take, drop, get_or, cond, refl, sym, ap, ◌∙◌, subst, arith, append-nil, append_assoc, eqb-true}
 use Rattle.std.specs.List.{list_any, list_all, fold}
 use Rattle.std.proofs.lemmas.Bool.{or_parts}
 use Rattle.std.proofs.lemmas.List.{drop_more, take_rest}
@@ -63,9 +63,13 @@ has_some (ts ∷ c) h = refl
 pub some_joined : (js : List JoinedTerm) → 0 < length js → is_empty (alternatives js) ≡ false
 some_joined js h = let many = many_joined js in has_some (alternatives js) (omega (arith, many, h))
 
+is_zero : (n : ℕ) (b : Bool) → (n == 0) ≡ b → 0 < n → b ≡ false
+is_zero n true e h = let z = eqb-true n 0 e in absurd (omega (arith, z, h))
+is_zero n false e h = refl
+
 pub empty_joined : (js : List JoinedTerm) → (length js == 0) ≡ is_empty (alternatives js)
 empty_joined [] = refl
-empty_joined (j ∷ js) = sym (some_joined (j ∷ js) (omega arith))
+empty_joined (j ∷ js) = is_zero (length (j ∷ js)) (length (j ∷ js) == 0) refl (omega arith) ∙ sym (some_joined (j ∷ js) (omega arith))
 
 pub none_joined : (js : List JoinedTerm) → is_empty (alternatives js) ≡ false → 0 < length js
 none_joined [] e = absurd cc
@@ -101,7 +105,7 @@ module _ (hosts probes : ℕ) (js : List JoinedTerm) (c : Cond) (same : alternat
   )
 
   pub rest_there : All (IsThere hosts probes) (take (length js - 1) (drop 1 js))
-  rest_there = subst (All (IsThere hosts probes)) (sym (take_rest js 1)) (All-drop 1 js all_there)
+  rest_there = subst (All (IsThere hosts probes)) (sym (take_rest js 1)) (All-drop (IsThere hosts probes) 1 js all_there)
 
 -- ---- whether one of the alternatives holds
 

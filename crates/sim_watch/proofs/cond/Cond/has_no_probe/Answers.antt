@@ -1,11 +1,7 @@
-use Rattle.std.proofs.Common.{◌≡◌, ap, ◌∙◌, rules}
-use Rattle.std.specs.List.{list_any}
-use Rattle.sim_watch.specs.declared.cond.JoinedTerm.{JoinedTerm}
+use Rattle.std.proofs.Common.{ap, ◌∙◌}
 use Rattle.sim_watch.specs.Condition.{names_no_probe, has_no_probe}
 use Rattle.sim_watch.proofs.Joining.{any_joined}
 use Rattle.sim_watch.proofs.cond.Cond.has_no_probe.Goals as goal
 
 pub returns : goal.returns
-returns c =
-    let is : c.any.result ≡ list_any (λ (j : JoinedTerm). names_no_probe c.args.probes j.term) c.terms.result.now = search rules in
-    is ∙ any_joined (names_no_probe c.args.probes) c.terms.result.now ∙ ap (has_no_probe c.args.probes) c.terms.ensures.value
+returns c = c.name_no_probe.ensures ∙ any_joined (names_no_probe c.args.probes) c.terms.result.now ∙ ap (has_no_probe c.args.probes) c.terms.ensures.value
