@@ -24,7 +24,7 @@ use Rattle.sim_tape.specs.Works.{undone_by, Plays, nodes_at_end}
 use Rattle.sim_node.specs.Work.{Work}
 use Rattle.sim_book.specs.Works.{Adds, TakesBack}
 use Rattle.sim_book.specs.Tapes.{lengthened}
-use Rattle.sim_watch.specs.Condition.{Cond, fault_of, names_no_host, names_no_probe, is_empty}
+use Rattle.sim_watch.specs.Condition.{Cond, fault_of, has_no_host, has_no_probe, is_empty}
 use Rattle.sim_watch.specs.declared.BadTerm.TheVariants as bad
 use Rattle.std.specs.Option.{unwrap_or}
 use Rattle.sim_book.specs.declared.Command.{Command}
@@ -269,43 +269,43 @@ module _ {State Msg : Type 0} (node : NodeLaws State Msg) (probes : ℕ) where
   pub watch_unknown : (t : Tape) (book : Book) (ws : List (Option Cond)) (b hosts : ℕ) (c : Cond) → hosts ≡ t.scenario.setup.hosts → fault_of hosts probes c ≡ Some bad.UnknownHost
       → IsTurnOn (rules node probes t.scenario) book (branch_with ws t) (command.Watch b c) (reply.Refused refusal.UnknownHost) (branch_with ws t)
   watch_unknown t book ws b hosts c same e =
-      let unknown : list_any (names_no_host t.scenario.setup.hosts) c ≡ true = fault_unknown (list_any (names_no_host t.scenario.setup.hosts) c) (list_any (names_no_probe probes) c) (is_empty c) (subst (λ (n : ℕ). fault_of n probes c ≡ Some bad.UnknownHost) same e) in
+      let unknown : has_no_host t.scenario.setup.hosts c ≡ true = fault_unknown (has_no_host t.scenario.setup.hosts c) (has_no_probe probes c) (is_empty c) (subst (λ (n : ℕ). fault_of n probes c ≡ Some bad.UnknownHost) same e) in
       refused_on (rules node probes t.scenario) book (branch_with ws t) (branch_with ws t) (command.Watch b c) refusal.UnknownHost (rw unknown refl) refl
 
-  pub watch_full : (t : Tape) (book : Book) (ws : List (Option Cond)) (b hosts : ℕ) (c : Cond) → hosts ≡ t.scenario.setup.hosts → list_any (names_no_host hosts) c ≡ false → free_watch ws ≡ None
+  pub watch_full : (t : Tape) (book : Book) (ws : List (Option Cond)) (b hosts : ℕ) (c : Cond) → hosts ≡ t.scenario.setup.hosts → has_no_host hosts c ≡ false → free_watch ws ≡ None
       → IsTurnOn (rules node probes t.scenario) book (branch_with ws t) (command.Watch b c) (reply.Refused refusal.WatchesFull) (branch_with ws t)
   watch_full t book ws b hosts c same known full =
-      let known' : list_any (names_no_host t.scenario.setup.hosts) c ≡ false = subst (λ (n : ℕ). list_any (names_no_host n) c ≡ false) same known in
+      let known' : has_no_host t.scenario.setup.hosts c ≡ false = subst (λ (n : ℕ). has_no_host n c ≡ false) same known in
       let none : not (is_some (free_watch ws)) ≡ true = ap (λ o. not (is_some o)) full in
       refused_on (rules node probes t.scenario) book (branch_with ws t) (branch_with ws t) (command.Watch b c) refusal.WatchesFull
-      (ap (λ x. if x then Some refusal.UnknownHost else if not (is_some (free_watch ws)) then Some refusal.WatchesFull else if is_empty c || list_any (names_no_probe probes) c then Some refusal.BadCondition else None) known'
-      ∙ ap (λ x. if x then Some refusal.WatchesFull else if is_empty c || list_any (names_no_probe probes) c then Some refusal.BadCondition else None) none) refl
+      (ap (λ x. if x then Some refusal.UnknownHost else if not (is_some (free_watch ws)) then Some refusal.WatchesFull else if is_empty c || has_no_probe probes c then Some refusal.BadCondition else None) known'
+      ∙ ap (λ x. if x then Some refusal.WatchesFull else if is_empty c || has_no_probe probes c then Some refusal.BadCondition else None) none) refl
 
-  pub watch_bad : (t : Tape) (book : Book) (ws : List (Option Cond)) (b hosts i : ℕ) (c : Cond) → hosts ≡ t.scenario.setup.hosts → list_any (names_no_host hosts) c ≡ false → free_watch ws ≡ Some i
-      → (is_empty c || list_any (names_no_probe probes) c) ≡ true
+  pub watch_bad : (t : Tape) (book : Book) (ws : List (Option Cond)) (b hosts i : ℕ) (c : Cond) → hosts ≡ t.scenario.setup.hosts → has_no_host hosts c ≡ false → free_watch ws ≡ Some i
+      → (is_empty c || has_no_probe probes c) ≡ true
       → IsTurnOn (rules node probes t.scenario) book (branch_with ws t) (command.Watch b c) (reply.Refused refusal.BadCondition) (branch_with ws t)
   watch_bad t book ws b hosts i c same known room is_bad =
-      let known' : list_any (names_no_host t.scenario.setup.hosts) c ≡ false = subst (λ (n : ℕ). list_any (names_no_host n) c ≡ false) same known in
+      let known' : has_no_host t.scenario.setup.hosts c ≡ false = subst (λ (n : ℕ). has_no_host n c ≡ false) same known in
       let some : not (is_some (free_watch ws)) ≡ false = ap (λ o. not (is_some o)) room in
       refused_on (rules node probes t.scenario) book (branch_with ws t) (branch_with ws t) (command.Watch b c) refusal.BadCondition
-      (ap (λ x. if x then Some refusal.UnknownHost else if not (is_some (free_watch ws)) then Some refusal.WatchesFull else if is_empty c || list_any (names_no_probe probes) c then Some refusal.BadCondition else None) known'
-      ∙ ap (λ x. if x then Some refusal.WatchesFull else if is_empty c || list_any (names_no_probe probes) c then Some refusal.BadCondition else None) some
+      (ap (λ x. if x then Some refusal.UnknownHost else if not (is_some (free_watch ws)) then Some refusal.WatchesFull else if is_empty c || has_no_probe probes c then Some refusal.BadCondition else None) known'
+      ∙ ap (λ x. if x then Some refusal.WatchesFull else if is_empty c || has_no_probe probes c then Some refusal.BadCondition else None) some
       ∙ ap (λ x. if x then Some refusal.BadCondition else None) is_bad) refl
 
-  pub watch_on : (t : Tape) (book : Book) (ws : List (Option Cond)) (b hosts i : ℕ) (c : Cond) → hosts ≡ t.scenario.setup.hosts → list_any (names_no_host hosts) c ≡ false → free_watch ws ≡ Some i
-      → (is_empty c || list_any (names_no_probe probes) c) ≡ false
+  pub watch_on : (t : Tape) (book : Book) (ws : List (Option Cond)) (b hosts i : ℕ) (c : Cond) → hosts ≡ t.scenario.setup.hosts → has_no_host hosts c ≡ false → free_watch ws ≡ Some i
+      → (is_empty c || has_no_probe probes c) ≡ false
       → IsTurnOn (rules node probes t.scenario) book (branch_with ws t) (command.Watch b c) (reply.Made i) (branch_with (set ws i (Some c)) t)
   watch_on t book ws b hosts i c same known room good =
-      let known' : list_any (names_no_host t.scenario.setup.hosts) c ≡ false = subst (λ (n : ℕ). list_any (names_no_host n) c ≡ false) same known in
+      let known' : has_no_host t.scenario.setup.hosts c ≡ false = subst (λ (n : ℕ). has_no_host n c ≡ false) same known in
       let some : not (is_some (free_watch ws)) ≡ false = ap (λ o. not (is_some o)) room in
       done_on (rules node probes t.scenario) book (branch_with ws t) (branch_with (set ws i (Some c)) t) (command.Watch b c) (reply.Made i)
-      (ap (λ x. if x then Some refusal.UnknownHost else if not (is_some (free_watch ws)) then Some refusal.WatchesFull else if is_empty c || list_any (names_no_probe probes) c then Some refusal.BadCondition else None) known'
-      ∙ ap (λ x. if x then Some refusal.WatchesFull else if is_empty c || list_any (names_no_probe probes) c then Some refusal.BadCondition else None) some
+      (ap (λ x. if x then Some refusal.UnknownHost else if not (is_some (free_watch ws)) then Some refusal.WatchesFull else if is_empty c || has_no_probe probes c then Some refusal.BadCondition else None) known'
+      ∙ ap (λ x. if x then Some refusal.WatchesFull else if is_empty c || has_no_probe probes c then Some refusal.BadCondition else None) some
       ∙ ap (λ x. if x then Some refusal.BadCondition else None) good)
       (ap (λ o. reply.Made (unwrap_or o 8)) (sym room)) (ap (λ o. branch_with (set ws (unwrap_or o 8) (Some c)) t) (sym room))
 
   watch_either : (t : Tape) (book : Book) (ws : List (Option Cond)) (b hosts : ℕ) (c : Cond) (given : Reply) → hosts ≡ t.scenario.setup.hosts
-      → (list_any (names_no_host hosts) c ≡ false) × ((is_empty c || list_any (names_no_probe probes) c) ≡ true)
+      → (has_no_host hosts c ≡ false) × ((is_empty c || has_no_probe probes c) ≡ true)
       → given ≡ reply.Refused (if is_some (free_watch ws) then refusal.BadCondition else refusal.WatchesFull)
       → IsTurnOn (rules node probes t.scenario) book (branch_with ws t) (command.Watch b c) given (branch_with ws t)
   watch_either t book ws b hosts c given same e gives =
@@ -318,21 +318,21 @@ module _ {State Msg : Type 0} (node : NodeLaws State Msg) (probes : ℕ) where
   pub watch_probe : (t : Tape) (book : Book) (ws : List (Option Cond)) (b hosts : ℕ) (c : Cond) (given : Reply) → hosts ≡ t.scenario.setup.hosts → fault_of hosts probes c ≡ Some bad.BadProbe
       → given ≡ reply.Refused (if is_some (free_watch ws) then refusal.BadCondition else refusal.WatchesFull)
       → IsTurnOn (rules node probes t.scenario) book (branch_with ws t) (command.Watch b c) given (branch_with ws t)
-  watch_probe t book ws b hosts c given same e gives = watch_either t book ws b hosts c given same (fault_probe (list_any (names_no_host hosts) c) (list_any (names_no_probe probes) c) (is_empty c) e) gives
+  watch_probe t book ws b hosts c given same e gives = watch_either t book ws b hosts c given same (fault_probe (has_no_host hosts c) (has_no_probe probes c) (is_empty c) e) gives
 
   pub watch_empty : (t : Tape) (book : Book) (ws : List (Option Cond)) (b hosts : ℕ) (c : Cond) (given : Reply) → hosts ≡ t.scenario.setup.hosts → fault_of hosts probes c ≡ Some bad.Empty
       → given ≡ reply.Refused (if is_some (free_watch ws) then refusal.BadCondition else refusal.WatchesFull)
       → IsTurnOn (rules node probes t.scenario) book (branch_with ws t) (command.Watch b c) given (branch_with ws t)
-  watch_empty t book ws b hosts c given same e gives = watch_either t book ws b hosts c given same (fault_empty (list_any (names_no_host hosts) c) (list_any (names_no_probe probes) c) (is_empty c) e) gives
+  watch_empty t book ws b hosts c given same e gives = watch_either t book ws b hosts c given same (fault_empty (has_no_host hosts c) (has_no_probe probes c) (is_empty c) e) gives
 
   pub watch_no_room : (t : Tape) (book : Book) (ws : List (Option Cond)) (b hosts : ℕ) (c : Cond) → hosts ≡ t.scenario.setup.hosts → fault_of hosts probes c ≡ None → free_watch ws ≡ None
       → IsTurnOn (rules node probes t.scenario) book (branch_with ws t) (command.Watch b c) (reply.Refused refusal.WatchesFull) (branch_with ws t)
-  watch_no_room t book ws b hosts c same e full = watch_full t book ws b hosts c same (fault_none (list_any (names_no_host hosts) c) (list_any (names_no_probe probes) c) (is_empty c) e).0 full
+  watch_no_room t book ws b hosts c same e full = watch_full t book ws b hosts c same (fault_none (has_no_host hosts c) (has_no_probe probes c) (is_empty c) e).0 full
 
   pub watch_kept : (t : Tape) (book : Book) (ws : List (Option Cond)) (b hosts i : ℕ) (c d : Cond) → hosts ≡ t.scenario.setup.hosts → fault_of hosts probes c ≡ None → free_watch ws ≡ Some i → d ≡ c
       → IsTurnOn (rules node probes t.scenario) book (branch_with ws t) (command.Watch b c) (reply.Made i) (branch_with (set ws i (Some d)) t)
   watch_kept t book ws b hosts i c d same e room copy =
-      let good = fault_none (list_any (names_no_host hosts) c) (list_any (names_no_probe probes) c) (is_empty c) e in
+      let good = fault_none (has_no_host hosts c) (has_no_probe probes c) (is_empty c) e in
       subst (λ (x : Cond). IsTurnOn (rules node probes t.scenario) book (branch_with ws t) (command.Watch b c) (reply.Made i) (branch_with (set ws i (Some x)) t)) (sym copy)
       (watch_on t book ws b hosts i c same good.0 room good.1)
 

@@ -1,13 +1,15 @@
 //! The words of a condition.
 ghost use Rattle.std.specs.Prelude.{◌≡◌, ◌<◌, ◌↔◌, length, None, Some, IfSome, MatchOption};
 ghost use Rattle.std.specs.List.{position};
-ghost use Rattle.sim_watch.specs.Condition.{Cond as Terms};
+ghost use Rattle.sim_watch.specs.Condition.{Cond as Terms, terms as all_terms, join_term};
 ghost use Rattle.sim_script.specs.Words.{words, host};
-ghost use Rattle.sim_script.specs.Conditions.{op_of, bound, is_dot, host_and_probe, on_host, agreement, comparison, term, condition, IsWritten};
+ghost use Rattle.sim_script.specs.Conditions.{op_of, bound, is_dot, host_and_probe, value, on_host, negation, comparison, with_comparison};
+ghost use Rattle.sim_script.specs.Conditions.{on_values, counted, counting, unless_number, on_probe_unless, agreement, compared};
+ghost use Rattle.sim_script.specs.Conditions.{term, begins_after, condition, IsWritten};
 
 use crate::names::Names;
 use crate::words::{next_word, parse_number};
-use sim_watch::{Cond, Op, Term};
+use sim_watch::{Comparison, Cond, Op, Term, Value};
 
 /// The most digits of the number in a term.
 const MOST_DIGITS: usize = 19;
@@ -53,13 +55,24 @@ fn first_dot(word: &[u8]) -> Option<usize>
 }
 
 /// A host and a probe, joined by a dot.
-fn parse_value(names: &Names, word: &[u8]) -> Option<(u16, u8)>
+fn parse_probe(names: &Names, word: &[u8]) -> Option<(u16, u8)>
     ensures { result ≡ host_and_probe names.now word.now }
 {
     let dot = first_dot(word)?;
     let host = names.host(&word[..dot])?;
     let probe = names.probe(&word[dot + 1..])?;
     Some((host, probe))
+}
+
+/// A number, or the probe of a host whose value it is.
+fn parse_value(names: &Names, word: &[u8]) -> Option<Value>
+    ensures { result ≡ value names.now word.now }
+{
+    if let Some(number) = parse_bound(word) {
+        return Some(Value::Number(number));
+    }
+    let (host, probe) = parse_probe(names, word)?;
+    Some(Value::Shown(host, probe))
 }
 
 /// A host, and what follows it.
@@ -72,33 +85,119 @@ fn next_host<'a>(names: &Names, text: &'a [u8]) -> Option<(u16, &'a [u8])>
     Some((host, rest))
 }
 
+/// What stands after `not`, and what follows it.
+fn next_negation<'a>(names: &Names, text: &'a [u8]) -> Option<(Term, &'a [u8])>
+    ensures { MatchOption result (negation names.now (words text.now) ≡ None)
+        (λ r. negation names.now (words text.now) ≡ Some (r.0, words r.1.now)) }
+{
+    let (word, rest) = next_word(text)?;
+    if word == b"up".as_slice() {
+        let (host, rest) = next_host(names, rest)?;
+        Some((Term::NotUp(host), rest))
+    } else if word == b"done".as_slice() {
+        let (host, rest) = next_host(names, rest)?;
+        Some((Term::NotDone(host), rest))
+    } else {
+        None
+    }
+}
+
+/// `unless` and a number, and what follows them.
+fn next_unless(text: &[u8]) -> Option<(u64, &[u8])>
+    ensures { MatchOption result ((make : _) → unless_number make (words text.now) ≡ None)
+        (λ r. (make : _) → unless_number make (words text.now) ≡ Some (make r.0, words r.1.now)) }
+{
+    let (unless, rest) = next_word(text)?;
+    let (number, rest) = next_word(rest)?;
+    if unless != b"unless".as_slice() {
+        return None;
+    }
+    let number = parse_bound(number)?;
+    Some((number, rest))
+}
+
+/// A probe, `unless` and a number, and what follows them.
+fn next_probe_unless<'a>(names: &Names, text: &'a [u8]) -> Option<(u8, u64, &'a [u8])>
+    ensures { MatchOption result ((make : _) → on_probe_unless names.now make (words text.now) ≡ None)
+        (λ r. (make : _) → on_probe_unless names.now make (words text.now) ≡ Some (make r.0 r.1, words r.2.now)) }
+{
+    let (probe, rest) = next_word(text)?;
+    let probe = names.probe(probe)?;
+    let (number, rest) = next_unless(rest)?;
+    Some((probe, number, rest))
+}
+
 /// What stands after `agree`, and what follows it.
 fn next_agreement<'a>(names: &Names, text: &'a [u8]) -> Option<(Term, &'a [u8])>
     ensures { MatchOption result (agreement names.now (words text.now) ≡ None)
         (λ r. agreement names.now (words text.now) ≡ Some (r.0, words r.1.now)) }
 {
-    let (probe, rest) = next_word(text)?;
-    let (unless, rest) = next_word(rest)?;
-    let (number, rest) = next_word(rest)?;
-    if unless != b"unless".as_slice() {
-        return None;
-    }
+    let (probe, text) = next_word(text)?;
+    let (word, rest) = next_word(text)?;
     let probe = names.probe(probe)?;
-    let number = parse_bound(number)?;
-    Some((Term::Agree(probe, number), rest))
+    if word == b"by".as_slice() {
+        let (by, number, rest) = next_probe_unless(names, rest)?;
+        Some((Term::AgreeBy(probe, by, number), rest))
+    } else {
+        let (number, rest) = next_unless(text)?;
+        Some((Term::Agree(probe, number), rest))
+    }
 }
 
-/// What stands after the first word of a comparison, and what follows it.
-fn next_comparison<'a>(names: &Names, value: &[u8], text: &'a [u8]) -> Option<(Term, &'a [u8])>
-    ensures { MatchOption result (comparison names.now value.now (words text.now) ≡ None)
-        (λ r. comparison names.now value.now (words text.now) ≡ Some (r.0, words r.1.now)) }
+/// An operator and a value, and what follows them.
+fn next_comparison<'a>(names: &Names, text: &'a [u8]) -> Option<(Comparison, &'a [u8])>
+    ensures { MatchOption result (comparison names.now (words text.now) ≡ None)
+        (λ r. comparison names.now (words text.now) ≡ Some (r.0, words r.1.now)) }
+{
+    let (op, rest) = next_word(text)?;
+    let (value, rest) = next_word(rest)?;
+    let op = parse_op(op)?;
+    let value = parse_value(names, value)?;
+    Some((Comparison { op, value }, rest))
+}
+
+/// A probe, an operator and a value, and what follows them.
+fn next_values<'a>(names: &Names, text: &'a [u8]) -> Option<(u8, Comparison, &'a [u8])>
+    ensures { MatchOption result ((make : _) → on_values names.now make (words text.now) ≡ None)
+        (λ r. (make : _) → on_values names.now make (words text.now) ≡ Some (make r.0 r.1, words r.2.now)) }
+{
+    let (probe, rest) = next_word(text)?;
+    let probe = names.probe(probe)?;
+    let (to, rest) = next_comparison(names, rest)?;
+    Some((probe, to, rest))
+}
+
+/// What stands after the comparison of a count, and what follows it.
+fn next_counted(probe: u8, to: Comparison, text: &[u8]) -> Option<(Term, &[u8])>
+    ensures { MatchOption result (counted probe to (words text.now) ≡ None)
+        (λ r. counted probe to (words text.now) ≡ Some (r.0, words r.1.now)) }
 {
     let (op, rest) = next_word(text)?;
     let (number, rest) = next_word(rest)?;
-    let (host, probe) = parse_value(names, value)?;
     let op = parse_op(op)?;
     let number = parse_bound(number)?;
-    Some((Term::Cmp(host, probe, op, number), rest))
+    Some((Term::Count(probe, to, op, number), rest))
+}
+
+/// What stands after `count`, and what follows it.
+fn next_count<'a>(names: &Names, text: &'a [u8]) -> Option<(Term, &'a [u8])>
+    ensures { MatchOption result (counting names.now (words text.now) ≡ None)
+        (λ r. counting names.now (words text.now) ≡ Some (r.0, words r.1.now)) }
+{
+    let (probe, rest) = next_word(text)?;
+    let probe = names.probe(probe)?;
+    let (to, rest) = next_comparison(names, rest)?;
+    next_counted(probe, to, rest)
+}
+
+/// What stands after the first word of a comparison of one probe, and what follows it.
+fn next_compared<'a>(names: &Names, word: &[u8], text: &'a [u8]) -> Option<(Term, &'a [u8])>
+    ensures { MatchOption result (compared names.now word.now (words text.now) ≡ None)
+        (λ r. compared names.now word.now (words text.now) ≡ Some (r.0, words r.1.now)) }
+{
+    let (host, probe) = parse_probe(names, word)?;
+    let (to, rest) = next_comparison(names, text)?;
+    Some((Term::Cmp(host, probe, to), rest))
 }
 
 /// A term, and what follows it.
@@ -114,29 +213,66 @@ fn next_term<'a>(names: &Names, text: &'a [u8]) -> Option<(Term, &'a [u8])>
     } else if word == b"done".as_slice() {
         let (host, rest) = next_host(names, rest)?;
         Some((Term::Done(host), rest))
+    } else if word == b"not".as_slice() {
+        next_negation(names, rest)
     } else if word == b"agree".as_slice() {
         next_agreement(names, rest)
+    } else if word == b"differ".as_slice() {
+        let (probe, number, rest) = next_probe_unless(names, rest)?;
+        Some((Term::Differ(probe, number), rest))
+    } else if word == b"any".as_slice() {
+        let (probe, to, rest) = next_values(names, rest)?;
+        Some((Term::Any(probe, to), rest))
+    } else if word == b"all".as_slice() {
+        let (probe, to, rest) = next_values(names, rest)?;
+        Some((Term::All(probe, to), rest))
+    } else if word == b"count".as_slice() {
+        next_count(names, rest)
     } else {
-        next_comparison(names, word, rest)
+        next_compared(names, word, rest)
     }
 }
 
-/// The condition that a text writes: 1 to 8 terms, joined by `and`; none where it writes none. It takes no memory.
+/// Whether the term after a word begins an alternative; none where the word joins no terms.
+#[tactic(auto, unfolding(crate::specs::Conditions::begins_after))]
+fn begins_after(word: &[u8]) -> Option<bool>
+    ensures { result ≡ begins_after word.now }
+{
+    if word == b"and".as_slice() {
+        Some(false)
+    } else if word == b"or".as_slice() {
+        Some(true)
+    } else {
+        None
+    }
+}
+
+/// The condition with a term more, which begins an alternative or is joined to the last one; none where it has 8 terms.
+fn with_term(cond: Cond, begins: bool, term: Term) -> Option<Cond>
+    ensures { MatchOption result (length (all_terms cond) ≡ 8) (λ c. c ≡ join_term cond (record { begins = begins; term = term })) }
+{
+    if begins {
+        cond.or(term).ok()
+    } else {
+        cond.and(term).ok()
+    }
+}
+
+/// The condition that a text writes: 1 to 8 terms, joined by `and` and `or`; none where it writes none. It takes no memory.
 pub fn condition_of(names: &Names, text: &[u8]) -> Option<Cond>
     ensures is { result ≡ condition names.now (words text.now) }
     ensures written { IsWritten names.now (words text.now) result }
 {
     let mut cond = Cond::new();
+    let mut begins = true;
     let mut rest = text;
     for turn in 0..MOST_TERMS {
         let (term, after) = next_term(names, rest)?;
-        cond = cond.and(term).ok()?;
+        cond = with_term(cond, begins, term)?;
         let Some((word, more)) = next_word(after) else {
             return Some(cond);
         };
-        if word != b"and".as_slice() {
-            return None;
-        }
+        begins = begins_after(word)?;
         rest = more;
     }
     None

@@ -13,10 +13,9 @@ pub struct SharedCond {
 }
 
 impl Model for SharedCond {
-    ghost use Rattle.std.specs.Prelude.{List};
-    ghost use Rattle.sim_watch.specs.declared.Term.{Term};
+    ghost use Rattle.sim_watch.specs.Condition.{Cond as Alternatives};
 
-    ghost Value = { List Term };
+    ghost Value = { Alternatives };
 
     ghost view = { λ shared. shared.inner.value };
 }

@@ -8,7 +8,7 @@ use sim_book::{Book, Command, Refusal, Reply, Stop};
 use sim_echo::Echo;
 use sim_links::{Way, Ways};
 use sim_node::Setup;
-use sim_watch::{Cond, Op, SharedCond, Term};
+use sim_watch::{Comparison, Cond, Op, SharedCond, Term, Value};
 use sim_world::{Event, Fault, Query, Scenario, View};
 use std::alloc::Global;
 use std::process::Abort;
@@ -301,7 +301,8 @@ fn a_tick_is_long(rt: HostRuntime) -> Result<(), Fail> {
 
 // The client's next operation compares so with a number.
 fn next_is(alloc: Global, op: Op, number: u64) -> Result<SharedCond, Fail> {
-    let cond = Cond::new().and(Term::Cmp(1, NEXT, op, number))?;
+    let value = Value::Number(number);
+    let cond = Cond::new().and(Term::Cmp(1, NEXT, Comparison { op, value }))?;
     Ok(SharedCond::new(alloc, cond)?)
 }
 

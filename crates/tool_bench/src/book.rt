@@ -5,7 +5,7 @@ use crate::tape::scenario;
 use sim_book::{Book, Command, Reply};
 use sim_echo::Echo;
 use sim_tally::Tally;
-use sim_watch::{Cond, Op, SharedCond, Term};
+use sim_watch::{Comparison, Cond, Op, SharedCond, Term, Value};
 use std::alloc::{AllocError, Global};
 
 /// What a turn on a book is. A watch has two terms and holds all the time.
@@ -31,7 +31,11 @@ const DEPTH: u32 = 1_024;
 
 // The first client is not past its last operation, and the server runs.
 fn watch() -> Cond {
-    let Ok(cond) = Cond::new().and(Term::Cmp(1, 0, Op::LessOrEqual, 5_000)) else {
+    let last = Comparison {
+        op: Op::LessOrEqual,
+        value: Value::Number(5_000),
+    };
+    let Ok(cond) = Cond::new().and(Term::Cmp(1, 0, last)) else {
         return Cond::new();
     };
     match cond.and(Term::Up(0)) {

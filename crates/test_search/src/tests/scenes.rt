@@ -6,7 +6,7 @@ use sim_links::{Way, Ways};
 use sim_node::{Meter, NoMemory, Setup};
 use sim_tally::Tally;
 use sim_tape::{Frozen, Tape};
-use sim_watch::{Cond, Op, Term};
+use sim_watch::{Comparison, Cond, Op, Term, Value};
 use sim_world::{Event, Scenario};
 use std::alloc::Global;
 use std::test::Fail;
@@ -44,7 +44,11 @@ pub fn crowd(hosts: u16, loss: u32) -> Result<Scenario, Fail> {
 
 /// The client's next operation is at most this.
 pub fn next_at_most(client: u16, n: u64) -> Result<Cond, Fail> {
-    Ok(Cond::new().and(Term::Cmp(client, 0, Op::LessOrEqual, n))?)
+    let most = Comparison {
+        op: Op::LessOrEqual,
+        value: Value::Number(n),
+    };
+    Ok(Cond::new().and(Term::Cmp(client, 0, most))?)
 }
 
 /// A meter for each worker.

@@ -1,0 +1,8 @@
+use Rattle.std.proofs.Common.{◌≡◌, ◌≤◌, ◌+◌, drop}
+use Rattle.sim_watch.specs.Condition.{count_in}
+use Rattle.sim_watch.proofs.counting.count_in.Given as goal
+
+abbrev pub invariant-loop-host : goal.invariant-loop-host
+invariant-loop-host g l =
+    (l.count ≤ l.host)
+    × (l.count + count_in g.N.Node.laws l.probe l.op l.number (drop l.host l.world.world.hosts) ≡ count_in g.N.Node.laws l.probe l.op l.number l.world.world.hosts)
