@@ -2,7 +2,7 @@
 ghost use Rattle.std.specs.Prelude.{◌<◌, ◌≤◌};
 
 use crate::dice::Dice;
-use sim_watch::{Op, Term};
+use sim_watch::{Comparison, Op, Term, Value};
 use sim_world::{Fault, Query};
 use std::alloc::{AllocError, Global};
 
@@ -89,12 +89,30 @@ impl Asker {
         }
     }
 
+    /// An operator, and mostly a number, or else the value of a probe.
+    fn comparison(&mut self) -> Comparison {
+        let op = self.op();
+        let value = if self.dice.once_in(4) {
+            Value::Shown(self.host(), self.probe())
+        } else {
+            Value::Number(self.number())
+        };
+        Comparison { op, value }
+    }
+
     fn term(&mut self) -> Term {
-        match self.dice.below(6) {
+        match self.dice.below(14) {
             0 => Term::Up(self.host()),
             1 => Term::Done(self.host()),
-            2 => Term::Agree(self.probe(), self.number()),
-            _ => Term::Cmp(self.host(), self.probe(), self.op(), self.number()),
+            2 => Term::NotUp(self.host()),
+            3 => Term::NotDone(self.host()),
+            4 => Term::Agree(self.probe(), self.number()),
+            5 => Term::AgreeBy(self.probe(), self.probe(), self.number()),
+            6 => Term::Differ(self.probe(), self.number()),
+            7 => Term::Any(self.probe(), self.comparison()),
+            8 => Term::All(self.probe(), self.comparison()),
+            9 => Term::Count(self.probe(), self.comparison(), self.op(), self.number()),
+            _ => Term::Cmp(self.host(), self.probe(), self.comparison()),
         }
     }
 

@@ -1,7 +1,7 @@
 //! The words of hosts, probes, faults and conditions.
 use crate::setting::write_host;
 use sim_protocols::{Protocol, probe_name};
-use sim_watch::{Op, Term};
+use sim_watch::{Comparison, Op, Term, Value};
 use sim_world::{Fault, Query};
 use std::alloc::AllocError;
 
@@ -73,21 +73,64 @@ impl Naming {
         }
     }
 
+    /// A host and its probe, joined by a dot.
+    fn shown(&self, text: &mut String, host: u16, probe: u8) -> Result<(), AllocError> {
+        self.host(text, host)?;
+        write!(text, ".")?;
+        self.probe(text, probe)
+    }
+
+    fn comparison(&self, text: &mut String, to: Comparison) -> Result<(), AllocError> {
+        let sign = op_sign(to.op);
+        write!(text, " {sign} ")?;
+        match to.value {
+            Value::Number(number) => write!(text, "{number}"),
+            Value::Shown(host, probe) => self.shown(text, host, probe),
+        }
+    }
+
+    /// A word, a probe, and what it is compared with.
+    fn values(
+        &self,
+        text: &mut String,
+        word: &str,
+        k: u8,
+        to: Comparison,
+    ) -> Result<(), AllocError> {
+        write!(text, "{word} ")?;
+        self.probe(text, k)?;
+        self.comparison(text, to)
+    }
+
+    fn unless(&self, text: &mut String, word: &str, k: u8, n: u64) -> Result<(), AllocError> {
+        write!(text, "{word} ")?;
+        self.probe(text, k)?;
+        write!(text, " unless {n}")
+    }
+
     fn term(&self, text: &mut String, term: Term) -> Result<(), AllocError> {
         match term {
             Term::Up(h) => self.hosts_after(text, "up", &[h]),
+            Term::NotUp(h) => self.hosts_after(text, "not up", &[h]),
             Term::Done(h) => self.hosts_after(text, "done", &[h]),
-            Term::Agree(k, n) => {
+            Term::NotDone(h) => self.hosts_after(text, "not done", &[h]),
+            Term::Agree(k, n) => self.unless(text, "agree", k, n),
+            Term::Differ(k, n) => self.unless(text, "differ", k, n),
+            Term::AgreeBy(k, by, n) => {
                 write!(text, "agree ")?;
                 self.probe(text, k)?;
-                write!(text, " unless {n}")
+                self.unless(text, " by", by, n)
             }
-            Term::Cmp(h, k, op, n) => {
-                self.host(text, h)?;
-                write!(text, ".")?;
-                self.probe(text, k)?;
+            Term::Any(k, to) => self.values(text, "any", k, to),
+            Term::All(k, to) => self.values(text, "all", k, to),
+            Term::Count(k, to, op, most) => {
+                self.values(text, "count", k, to)?;
                 let sign = op_sign(op);
-                write!(text, " {sign} {n}")
+                write!(text, " {sign} {most}")
+            }
+            Term::Cmp(h, k, to) => {
+                self.shown(text, h, k)?;
+                self.comparison(text, to)
             }
         }
     }

@@ -2,7 +2,7 @@
 ghost use Rattle.std.specs.Prelude.{◌≡◌, ◌<◌, None, IfSome};
 ghost use Rattle.sim_world.specs.Looks.{CanLook};
 
-use sim_watch::Term;
+use sim_watch::{Comparison, Term, Value};
 use sim_world::{Fault, Query};
 
 /// Why a command is refused: the number and the name.
@@ -71,19 +71,39 @@ pub fn bad_query(hosts: u16, probes: u8, query: Query) -> Option<Refused>
     }
 }
 
+/// The host and the probe whose value is compared with, where it is one.
+fn shown(to: Comparison) -> Option<(u16, u8)> {
+    match to.value {
+        Value::Number(_) => None,
+        Value::Shown(h, k) => Some((h, k)),
+    }
+}
+
 /// Whether a term names a host that is not there.
 fn names_no_host(hosts: u16, term: Term) -> bool {
     match term {
-        Term::Up(h) | Term::Done(h) | Term::Cmp(h, _, _, _) => hosts <= h,
-        Term::Agree(_, _) => false,
+        Term::Up(h) | Term::NotUp(h) | Term::Done(h) | Term::NotDone(h) => hosts <= h,
+        Term::Agree(_, _) | Term::AgreeBy(_, _, _) | Term::Differ(_, _) => false,
+        Term::Cmp(h, _, _) if hosts <= h => true,
+        Term::Cmp(_, _, to) | Term::Count(_, to, _, _) | Term::Any(_, to) | Term::All(_, to) =>
+            match shown(to) {
+                Some((h, _)) => hosts <= h,
+                None => false,
+            },
     }
 }
 
 /// Whether a term names a probe that is not there.
 fn names_no_probe(probes: u8, term: Term) -> bool {
     match term {
-        Term::Up(_) | Term::Done(_) => false,
-        Term::Cmp(_, k, _, _) | Term::Agree(k, _) => probes <= k,
+        Term::Up(_) | Term::NotUp(_) | Term::Done(_) | Term::NotDone(_) => false,
+        Term::Agree(k, _) | Term::Differ(k, _) => probes <= k,
+        Term::AgreeBy(k, by, _) => probes <= k || probes <= by,
+        Term::Cmp(_, k, to) | Term::Count(k, to, _, _) | Term::Any(k, to) | Term::All(k, to) =>
+            match shown(to) {
+                Some((_, other)) => probes <= k || probes <= other,
+                None => probes <= k,
+            },
     }
 }
 
