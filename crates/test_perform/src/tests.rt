@@ -1,2 +1,3 @@
 mod command_line;
+mod conditions;
 mod hunts;

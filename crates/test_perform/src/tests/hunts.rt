@@ -49,7 +49,7 @@ fn search(workers: u64, lo: u64, hi: u64, cond: &str) -> Job<'_>
 }
 
 // A sweep by so many workers.
-fn sweep(workers: u64, first: u64, count: u64, events: u64, cond: &str) -> Job<'_>
+pub fn sweep(workers: u64, first: u64, count: u64, events: u64, cond: &str) -> Job<'_>
     requires { (1 ≤ workers) × (workers ≤ 16) }
     ensures { HasFewWorkers result }
 {
@@ -64,7 +64,7 @@ fn sweep(workers: u64, first: u64, count: u64, events: u64, cond: &str) -> Job<'
 }
 
 // A job over an input ends so, and writes this.
-fn ends<R: Threads + Wait + Sync + Clock + Eprint>(
+pub fn ends<R: Threads + Wait + Sync + Clock + Eprint>(
     rt: &R,
     alloc: Global,
     job: Job<'_>,
