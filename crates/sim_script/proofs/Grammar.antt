@@ -5,7 +5,7 @@ use Rattle.std.proofs.lemmas.Slice.Eq.{bytes_eq-Decides}
 use Rattle.sim_watch.specs.declared.Term.{Term}
 use Rattle.sim_watch.specs.Condition.{Cond, terms as all_terms}
 use Rattle.sim_script.specs.Words.{Text, Names}
-use Rattle.sim_script.specs.Conditions.{term, begins_after, put_before, joined, terms, condition, WritesTerm, Joins, JoinsAll, IsWritten}
+use Rattle.sim_script.specs.Conditions.{term, begins_after, put_before, joined, terms, condition, WritesTerm, JoinsAll, IsWritten}
 use Rattle.sim_script.proofs.Picking.{of_if, of_map, of_then}
 use Rattle.sim_script.proofs.OneTerm.{term_is, term_reads}
 

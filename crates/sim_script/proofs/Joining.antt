@@ -5,7 +5,7 @@ use Rattle.std.specs.Option.{option_map}
 use Rattle.std.proofs.lemmas.List.{append_assoc, length-append}
 use Rattle.sim_watch.specs.declared.Term.{Term}
 use Rattle.sim_watch.specs.declared.cond.JoinedTerm.{JoinedTerm}
-use Rattle.sim_watch.specs.Condition.{Cond, terms as all_terms, and_term, or_term, join_term}
+use Rattle.sim_watch.specs.Condition.{Cond, terms as all_terms, and_term, or_term}
 use Rattle.sim_watch.proofs.Joining.{join_terms}
 use Rattle.sim_script.specs.Words.{Text, Names}
 use Rattle.sim_script.specs.Conditions.{condition, joined, term, terms, begins_after, put_before}

@@ -14,7 +14,7 @@ use Rattle.sim_watch.specs.declared.Comparison.{Comparison}
 use Rattle.sim_watch.specs.declared.Term.{Term}
 use Rattle.sim_watch.specs.declared.Term.TheVariants.{Cmp, Count, Any, All, Agree, AgreeBy, Differ, Up, NotUp, Done, NotDone}
 use Rattle.sim_script.specs.Words.{Text, Names, host, probe, number, number_from, is_word}
-use Rattle.sim_script.specs.Conditions.{op_word, op_of, bound, is_dot, host_and_probe, value, before, comparing, on_host, negation, comparison, with_comparison, on_values, counted, counting, unless_number, on_probe_unless, agreement, compared, term, Read, WritesProbe, WritesValue, WritesTerm}
+use Rattle.sim_script.specs.Conditions.{op_word, op_of, bound, is_dot, host_and_probe, value, before, comparing, on_host, negation, comparison, with_comparison, on_values, counted, counting, unless_number, on_probe_unless, agreement, compared, term, Read, WritesValue, WritesTerm}
 use Rattle.sim_script.proofs.Picking.{of_if, of_map, of_then}
 use Rattle.sim_script.proofs.Dotted.{no_keyword, dotted_reads, dotted_is}
 

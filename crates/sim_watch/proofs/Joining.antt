@@ -1,8 +1,8 @@
 -- Terms each of which begins an alternative or is joined to the last one.
-use Rattle.std.proofs.Common.{◌≡◌, ℕ, zero, suc, ◌+◌, ◌-◌, ◌<◌, ◌==◌, Bool, true, false, ◌&&◌, ◌||◌, List, [], ◌∷◌, ◌++◌, Option, Some, None, All, length, map, take, drop, get_or, cond, refl, sym, ap, ◌∙◌, subst, arith, append-nil, append_assoc, eqb-true}
+use Rattle.std.proofs.Common.{◌≡◌, ℕ, zero, suc, ◌-◌, ◌<◌, ◌==◌, Bool, true, false, ◌&&◌, ◌||◌, List, [], ◌∷◌, ◌++◌, Some, None, All, length, map, take, drop, get_or, cond, refl, sym, ap, ◌∙◌, subst, arith, append-nil, append_assoc, eqb-true}
 use Rattle.std.specs.List.{list_any, list_all, fold}
 use Rattle.std.proofs.lemmas.Bool.{or_parts}
-use Rattle.std.proofs.lemmas.List.{drop_more, take_rest}
+use Rattle.std.proofs.lemmas.List.{take_rest}
 use Rattle.std.proofs.lemmas.List.Elements.{All-drop}
 use Rattle.sim_node.specs.Node.{NodeLaws}
 use Rattle.sim_world.specs.World.{World}
@@ -200,30 +200,3 @@ module _ {State Msg : Type 0} (node : NodeLaws State Msg) (w : World State Msg) 
       ∙ ap (λ (xs : List JoinedTerm). holds_on node (term_holds node (get_or js 0 d).term w) xs w) (take_rest js 1)
       ∙ sym (holds_first js d some)
       ∙ ap (λ (x : Cond). holds node x w) same
-
-  next_end : (b s : Bool) (y z : Bool) → (b && s) ≡ true → cond b (s || y) z ≡ true
-  next_end true true y z e = refl
-  next_end true false y z e = absurd cc
-  next_end false s y z e = absurd cc
-
-  next_more : (b s t : Bool) (f : Bool → Bool) → (b && s) ≡ false → cond b (s || f t) (f (s && t)) ≡ f ((b || s) && t)
-  next_more true true t f e = absurd cc
-  next_more true false t f e = refl
-  next_more false s t f e = refl
-
-  -- the last alternative holds so far, and another begins
-  pub on_end : (js : List JoinedTerm) (i : ℕ) (d : JoinedTerm) (s : Bool) → i < length js → ((get_or js i d).begins && s) ≡ true →
-      holds_on node s (drop i js) w ≡ true
-  on_end js i d s lt e =
-      let j = get_or js i d in
-      ap (λ xs. holds_on node s xs w) (drop_more js i d lt)
-      ∙ next_end j.begins s (holds_on node (term_holds node j.term w) (drop (i + 1) js) w)
-      (holds_on node (s && term_holds node j.term w) (drop (i + 1) js) w) e
-
-  -- one term more
-  pub on_more : (js : List JoinedTerm) (i : ℕ) (d : JoinedTerm) (s : Bool) → i < length js → ((get_or js i d).begins && s) ≡ false →
-      holds_on node s (drop i js) w ≡ holds_on node (((get_or js i d).begins || s) && term_holds node (get_or js i d).term w) (drop (i + 1) js) w
-  on_more js i d s lt e =
-      let j = get_or js i d in
-      ap (λ xs. holds_on node s xs w) (drop_more js i d lt)
-      ∙ next_more j.begins s (term_holds node j.term w) (λ b. holds_on node b (drop (i + 1) js) w) e
