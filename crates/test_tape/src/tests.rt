@@ -160,12 +160,16 @@ fn goes_by(alloc: Global, row: &Row) -> Result<(), Fail> {
     scene.acts(acts)
 }
 
-#[test]
-fn tapes_go_by_their_rows(rt: HostRuntime) -> Result<(), Fail> {
-    for row in &ROWS {
-        goes_by(rt.alloc(), row)?;
+fn all_go_by(alloc: Global, rows: &[Row]) -> Result<(), Fail> {
+    for row in rows {
+        goes_by(alloc, row)?;
     }
     Ok(())
+}
+
+#[test]
+fn tapes_go_by_their_rows(rt: HostRuntime) -> Result<(), Fail> {
+    all_go_by(rt.alloc(), &ROWS)
 }
 
 // Host 0 crashes on a branch after three events.

@@ -10,27 +10,42 @@ use std::alloc::Global;
 use std::test::Fail;
 
 /// The lines of a text of format 2, whose syncs take no time, with a link from `w` to `a` and room for more.
-pub const LINES_2: [(&str, &str); 13] = [
-    ("format", "format = 2\ndisk_latency = 0\n"),
-    (
-        "seed",
-        "seed = \"0000000000000000000000000000000000000000000000000000000000000000\"\n",
-    ),
-    ("protocol", "protocol = \"echo\"\n"),
-    ("tick", "tick = 100\n"),
-    ("latency_min", "latency_min = 10\n"),
-    ("latency_max", "latency_max = 10\n"),
-    ("loss", "loss = 0\n"),
-    ("servers", "servers = [\"a\"]\n"),
-    ("checkpoint", "checkpoint = 4\n"),
-    ("window", "window = 2\n"),
-    ("client", "[[client]]\nname = \"w\"\nops = 2\n"),
-    (
-        "link",
-        "[[link]]\nsource = \"w\"\ntarget = \"a\"\nlatency_min = 3\nlatency_max = 3\nloss = 0\n",
-    ),
-    ("more", "\n"),
-];
+pub const LINES_2: &str = r#"
+@format
+format = 2
+disk_latency = 0
+@seed
+seed = "0000000000000000000000000000000000000000000000000000000000000000"
+@protocol
+protocol = "echo"
+@tick
+tick = 100
+@latency_min
+latency_min = 10
+@latency_max
+latency_max = 10
+@loss
+loss = 0
+@servers
+servers = ["a"]
+@checkpoint
+checkpoint = 4
+@window
+window = 2
+@client
+[[client]]
+name = "w"
+ops = 2
+@link
+[[link]]
+source = "w"
+target = "a"
+latency_min = 3
+latency_max = 3
+loss = 0
+@more
+
+"#;
 
 /// Links that follow another: unknown keys, missing ones, wrong types and numbers out of their ranges, in the order of the keys and
 /// a table before the next; then a source or target that is no host, or both one; then a pair twice, also where both say the same.
@@ -350,9 +365,9 @@ fn steady(latency: u32) -> Way {
 
 /// Both formats say the same where syncs take no time and there is no link.
 pub fn both_formats(alloc: Global) -> Result<(), Fail> {
-    let text = text_with(alloc, &LINES, "")?;
+    let text = text_with(alloc, LINES, "")?;
     let one = scenario(alloc, text.as_str())?;
-    let text = text_with(alloc, &LINES_2, "link\n\n@more\n")?;
+    let text = text_with(alloc, LINES_2, "link\n\n@more\n")?;
     let two = scenario(alloc, text.as_str())?;
     say_the_same(&two, &one)?;
     ways_are(&one.ways, steady(10), &[])?;
@@ -384,7 +399,7 @@ fn say_the_same(two: &ScenarioText, one: &ScenarioText) -> Result<(), Fail>
 
 /// Links change their own directions alone.
 pub fn ways_of_links(alloc: Global) -> Result<(), Fail> {
-    let text = text_with(alloc, &LINES_2, TWO_LINKS)?;
+    let text = text_with(alloc, LINES_2, TWO_LINKS)?;
     let said = scenario(alloc, text.as_str())?;
     same(&said.protocol, &Protocol::TwoPhase, "protocol")?;
     same(&said.disk_latency, &5, "disk_latency")?;

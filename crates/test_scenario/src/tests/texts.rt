@@ -4,23 +4,33 @@ use sim_scenario::read;
 use std::alloc::{AllocError, Global};
 use std::test::Fail;
 
-/// The lines of a text that is a scenario, each under its key.
-pub const LINES: [(&str, &str); 11] = [
-    ("format", "format = 1\n"),
-    (
-        "seed",
-        "seed = \"0000000000000000000000000000000000000000000000000000000000000000\"\n",
-    ),
-    ("protocol", "protocol = \"echo\"\n"),
-    ("tick", "tick = 100\n"),
-    ("latency_min", "latency_min = 10\n"),
-    ("latency_max", "latency_max = 10\n"),
-    ("loss", "loss = 0\n"),
-    ("servers", "servers = [\"a\"]\n"),
-    ("checkpoint", "checkpoint = 4\n"),
-    ("window", "window = 2\n"),
-    ("client", "[[client]]\nname = \"w\"\nops = 2\n"),
-];
+/// The lines of a text that is a scenario, each below its key, which stands after an `@`.
+pub const LINES: &str = r#"
+@format
+format = 1
+@seed
+seed = "0000000000000000000000000000000000000000000000000000000000000000"
+@protocol
+protocol = "echo"
+@tick
+tick = 100
+@latency_min
+latency_min = 10
+@latency_max
+latency_max = 10
+@loss
+loss = 0
+@servers
+servers = ["a"]
+@checkpoint
+checkpoint = 4
+@window
+window = 2
+@client
+[[client]]
+name = "w"
+ops = 2
+"#;
 
 /// What stands in place of a key's line, where it is changed: each change is the key after an `@`, and below it the lines.
 fn changed<'a>(changes: &'a str, key: &str) -> Option<&'a str> {
@@ -35,14 +45,12 @@ fn changed<'a>(changes: &'a str, key: &str) -> Option<&'a str> {
 }
 
 /// The text of these lines, some of them changed.
-pub fn text_with(
-    alloc: Global,
-    lines: &[(&str, &str)],
-    changes: &str,
-) -> Result<String, AllocError> {
+pub fn text_with(alloc: Global, lines: &str, changes: &str) -> Result<String, AllocError> {
     let mut text = String::new(alloc);
-    for (key, line) in lines {
-        text.push_str(changed(changes, *key).unwrap_or(*line))?;
+    for entry in lines.split('@') {
+        if let Some((key, line)) = entry.split_once('\n') {
+            text.push_str(changed(changes, key).unwrap_or(line))?;
+        }
     }
     Ok(text)
 }
@@ -59,7 +67,7 @@ pub fn with_crlf(alloc: Global, lines: &str) -> Result<String, AllocError> {
 
 /// A scenario with a comment behind it, so that it has so many bytes, and then an end.
 pub fn padded(alloc: Global, len: usize, end: &str) -> Result<String, AllocError> {
-    let mut text = text_with(alloc, &LINES, "")?;
+    let mut text = text_with(alloc, LINES, "")?;
     text.push_str("#")?;
     for _ in text.len()..len {
         text.push_str("x")?;
@@ -81,7 +89,7 @@ pub fn is_answered(alloc: Global, text: &str, wanted: &str) -> bool {
 
 /// Each row of a table holds: the text with its changes is answered as it says. A row stands after a `>`, what is wanted
 /// before its first `@`.
-pub fn rows_hold(alloc: Global, lines: &[(&str, &str)], table: &str) -> Result<(), Fail> {
+pub fn rows_hold(alloc: Global, lines: &str, table: &str) -> Result<(), Fail> {
     for row in table.split('>') {
         if let Some((wanted, changes)) = row.split_once('@') {
             let text = text_with(alloc, lines, changes)?;

@@ -231,12 +231,16 @@ fn echo_plays(alloc: Global, play: &EchoPlay) -> Result<(), Fail> {
     plays::<Echo<Tally>>(alloc, &setting.scenario()?, acts, &mut Tally::new())
 }
 
-#[test]
-fn echoes_play(rt: HostRuntime) -> Result<(), Fail> {
-    for play in &ECHO_PLAYS {
-        echo_plays(rt.alloc(), play)?;
+fn all_echo_plays(alloc: Global, rows: &[EchoPlay]) -> Result<(), Fail> {
+    for play in rows {
+        echo_plays(alloc, play)?;
     }
     Ok(())
+}
+
+#[test]
+fn echoes_play(rt: HostRuntime) -> Result<(), Fail> {
+    all_echo_plays(rt.alloc(), &ECHO_PLAYS)
 }
 
 // One server and 31 clients. A message takes up to a minute.
@@ -349,10 +353,14 @@ fn scribe_plays(alloc: Global, play: &ScribePlay) -> Result<(), Fail> {
     plays::<Scribe<Tally>>(alloc, &scenario, acts, &mut Tally::new())
 }
 
-#[test]
-fn scribes_play(rt: HostRuntime) -> Result<(), Fail> {
-    for play in &SCRIBE_PLAYS {
-        scribe_plays(rt.alloc(), play)?;
+fn all_scribe_plays(alloc: Global, rows: &[ScribePlay]) -> Result<(), Fail> {
+    for play in rows {
+        scribe_plays(alloc, play)?;
     }
     Ok(())
+}
+
+#[test]
+fn scribes_play(rt: HostRuntime) -> Result<(), Fail> {
+    all_scribe_plays(rt.alloc(), &SCRIBE_PLAYS)
 }

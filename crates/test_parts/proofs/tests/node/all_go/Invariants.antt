@@ -3,4 +3,4 @@ use Rattle.test_parts.proofs.tests.node.all_go.Given as goal
 
 -- the effects stay those of four hosts
 abbrev pub invariant-loop-act : goal.invariant-loop-act
-invariant-loop-act g l = l.effects.hosts ≡ 4
+invariant-loop-act l = l.effects.hosts ≡ 4
