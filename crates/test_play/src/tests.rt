@@ -13,7 +13,8 @@
 //! - `streams::stops_at_a_failed_write`, `streams::stops_at_a_failed_flush`,
 //!   `streams::a_writer_that_takes_nothing_has_failed`: the same of its writer, and text that is
 //!   written after the failure.
-//! - `streams::reads_no_more_than_a_bad_scenario`: input that is read past the fault.
+//! - `streams::reads_no_more_than_a_bad_scenario`, `streams::reads_no_more_than_a_long_scenario`:
+//!   input that is read past the fault.
 //! - `streams::plays_over_nodes_of_a_type`: a play over a user's node that gives up, or that knows
 //!   other probes.
 //! - `probes::probes_have_names`: a name, or a number, that is left out.
