@@ -6,7 +6,7 @@
 //! - `a_frozen_run_has_the_kept_events`: a frozen run that is cut short, or with other events.
 //! - `a_rewind_stops_where_one_by_one_does`: a rewind that passes over a failing place.
 //! - `jumps_take_the_nearest_way`, `jumps_go_to_a_checkpoint`: a jump that replays or copies more,
-//!   or gives up.
+//!   or gives up; a branch whose world is not lent, or that is there before it is made.
 //! - `sessions_are_numbered_apart`: an entry under another number; a freeze that gives nothing.
 //! - `commands_at_random_are_folded`: a turn that answers want of memory for no reason, or that
 //!   leaves a branch another world than a fold of its events.
@@ -246,7 +246,7 @@ fn a_rewind_stops_where_one_by_one_does(rt: HostRuntime) -> Result<(), Fail> {
     Ok(())
 }
 
-// A jump is answered so, and takes so many turns, copies and undos.
+// A jump is answered so, and takes so many turns, copies and undos; the only branch's world is there.
 fn jumps(
     rt: &impl Abort,
     alloc: Global,
@@ -258,6 +258,8 @@ fn jumps(
     let before = book.meter().counted();
     is_told(rt, alloc, book, Command::Goto(0, to), asked(to, clock))?;
     assert_eq!(rt; book.meter().since(before), work, "to {to}");
+    assert_eq!(rt; book.here(0).map(|world| world.clock()), Some(clock));
+    assert!(rt; book.here(1).is_none());
     Ok(())
 }
 

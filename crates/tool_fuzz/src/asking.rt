@@ -207,7 +207,7 @@ impl Asker {
             2 => "back",
             3 => "run 1234567890",
             4 => "@1234567890 step",
-            5 => "watch up s0 or up s1",
+            5 => "watch up s0 or",
             6 => "watch up s0 and",
             _ => "look host S0",
         })

@@ -14,6 +14,9 @@ use std::alloc::{AllocError, Global};
 /// The most probes of a protocol.
 const MOST_PROBES: u8 = 16;
 
+/// The most bytes of a line, with its end.
+const MOST_LINE: usize = 257;
+
 /// An input, what is to be written for it, and a hunt in its runs.
 #[derive(Drop)]
 pub struct Case {
@@ -41,7 +44,7 @@ fn probes(protocol: Protocol) -> u8 {
     count
 }
 
-/// So many lines of a script, which are written to the input.
+/// So many lines of a script, which are written to the input. One that is too long is bad.
 fn script(
     alloc: Global,
     asker: &mut Asker,
@@ -52,8 +55,13 @@ fn script(
     let mut lines = Vec::new(alloc);
     for _line in 0..count {
         let line = asker.line(alloc)?;
+        let start = input.len();
         naming.line(input, &line)?;
-        lines.push(line)?;
+        if MOST_LINE < input.len().saturating_sub(start) {
+            lines.push(Line::Bad(""))?;
+        } else {
+            lines.push(line)?;
+        }
     }
     Ok(lines)
 }

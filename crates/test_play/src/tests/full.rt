@@ -106,11 +106,26 @@ fn fills(rt: &impl Abort, alloc: Global, row: &Full) -> Result<(), AllocError> {
 }
 
 #[test]
-fn fills_each_table(rt: HostRuntime) -> Result<(), Fail> {
-    fills(&rt, rt.alloc(), &BRANCHES)?;
-    fills(&rt, rt.alloc(), &WATCHES)?;
-    fills(&rt, rt.alloc(), &COMMANDS)?;
-    fills(&rt, rt.alloc(), &EVENTS)?;
-    fills(&rt, rt.alloc(), &MESSAGES)?;
-    Ok(())
+fn fills_branches(rt: HostRuntime) -> Result<(), Fail> {
+    Ok(fills(&rt, rt.alloc(), &BRANCHES)?)
+}
+
+#[test]
+fn fills_watches(rt: HostRuntime) -> Result<(), Fail> {
+    Ok(fills(&rt, rt.alloc(), &WATCHES)?)
+}
+
+#[test]
+fn fills_the_history(rt: HostRuntime) -> Result<(), Fail> {
+    Ok(fills(&rt, rt.alloc(), &COMMANDS)?)
+}
+
+#[test]
+fn fills_events(rt: HostRuntime) -> Result<(), Fail> {
+    Ok(fills(&rt, rt.alloc(), &EVENTS)?)
+}
+
+#[test]
+fn fills_a_link(rt: HostRuntime) -> Result<(), Fail> {
+    Ok(fills(&rt, rt.alloc(), &MESSAGES)?)
 }

@@ -54,7 +54,7 @@ trace 0
 watch
 watch up
 watch up a w
-watch up a or up w
+watch up a or
 watch up a and
 watch and up a
 watch up a and and up w

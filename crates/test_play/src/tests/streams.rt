@@ -290,24 +290,33 @@ fn stops_at_a_failed_write(rt: HostRuntime) {
 
 const TWO_STEPS: &[u8] = b"place 1 clock 0\nplace 2 clock 0\n";
 
+/// A play whose writer fails after so many flushes ends there, and just this is written.
+fn a_flush_fails<A: Abort + Drop>(
+    rt: &A,
+    alloc: Global,
+    head: &[u8],
+    script: &[u8],
+    flushes: usize,
+    want: &[u8],
+) {
+    let mut reader = Pieces::new(head, script);
+    reader.most = 100_000;
+    let mut writer = Narrow::new(want);
+    writer.flushes_left = flushes;
+    let status = play(alloc, &mut reader, &mut writer);
+    assert_eq!(rt; status, Status::WriterFailed, "at flush {flushes}");
+    assert!(rt; writer.took(want, want.len()), "at flush {flushes}");
+}
+
+/// Where the script takes a read, where its next line does, at the end of the input, and for a fault.
 #[test]
 fn stops_at_a_failed_flush(rt: HostRuntime) {
-    // Where the script takes a read, where its next line does, at the end of the input, and for a fault.
-    let rows: [(&[u8], &[u8], usize, &[u8]); 4] = [
-        (HEAD, b"step\nstep\n", 0, b""),
-        (HEAD, b"step\nstep\n", 1, TWO_STEPS),
-        (HEAD, b"step\nstep\n", 2, TWO_STEPS),
-        (b"---\n", b"", 0, b"scenario fault 4 format\n"),
-    ];
-    for (head, script, flushes, want) in rows {
-        let mut reader = Pieces::new(head, script);
-        reader.most = 100_000;
-        let mut writer = Narrow::new(want);
-        writer.flushes_left = flushes;
-        let status = play(rt.alloc(), &mut reader, &mut writer);
-        assert_eq!(rt; status, Status::WriterFailed);
-        assert!(rt; writer.took(want, want.len()));
-    }
+    let alloc = rt.alloc();
+    let script = b"step\nstep\n".as_slice();
+    a_flush_fails(&rt, alloc, HEAD, script, 0, b"");
+    a_flush_fails(&rt, alloc, HEAD, script, 1, TWO_STEPS);
+    a_flush_fails(&rt, alloc, HEAD, script, 2, TWO_STEPS);
+    a_flush_fails(&rt, alloc, b"---\n", b"", 0, b"scenario fault 4 format\n");
 }
 
 #[test]
@@ -337,21 +346,32 @@ impl Read for Marks {
     }
 }
 
+/// A play of a text that is no scenario, of which one byte is given a read, leaves so much of it.
+fn leaves<A: Abort + Drop>(rt: &A, alloc: Global, input: &[u8], left: usize, want: &[u8]) {
+    let mut reader = Pieces::new(input, b"");
+    let mut writer = Narrow::new(want);
+    let status = play(alloc, &mut reader, &mut writer);
+    assert_eq!(rt; (status, reader.rest.len()), (Status::BadScenario, left));
+    assert!(rt; writer.took(want, want.len()));
+}
+
 #[test]
 fn reads_no_more_than_a_bad_scenario(rt: HostRuntime) {
-    // How much is left of a text, of which one byte is given a read.
-    let rows: [(&[u8], usize, &[u8]); 3] = [
-        (b"", 0, b"scenario fault 4 format\n"),
-        (b"---\nstep\n", 5, b"scenario fault 4 format\n"),
-        (b"\xff\n---\r\nstep\n", 5, b"scenario fault 2 text\n"),
-    ];
-    for (input, left, want) in rows {
-        let mut reader = Pieces::new(input, b"");
-        let mut writer = Narrow::new(want);
-        let status = play(rt.alloc(), &mut reader, &mut writer);
-        assert_eq!(rt; (status, reader.rest.len()), (Status::BadScenario, left));
-        assert!(rt; writer.took(want, want.len()));
-    }
+    let alloc = rt.alloc();
+    let format = b"scenario fault 4 format\n".as_slice();
+    leaves(&rt, alloc, b"", 0, format);
+    leaves(&rt, alloc, b"---\nstep\n", 5, format);
+    leaves(
+        &rt,
+        alloc,
+        b"\xff\n---\r\nstep\n",
+        5,
+        b"scenario fault 2 text\n",
+    );
+}
+
+#[test]
+fn reads_no_more_than_a_long_scenario(rt: HostRuntime) {
     let mut long = Marks { left: 65_700 };
     let want = b"scenario fault 1 text\n".as_slice();
     let mut writer = Narrow::new(want);
