@@ -163,7 +163,7 @@ fn sweeps<R: Threads + Wait + Sync + Abort>(
     Ok(())
 }
 
-fn seeds(first: u64, count: u64, events: u64) -> Seeds {
+fn seeds_from(first: u64, count: u64, events: u64) -> Seeds {
     Seeds {
         first,
         count,
@@ -173,9 +173,9 @@ fn seeds(first: u64, count: u64, events: u64) -> Seeds {
 
 #[test]
 fn seeds_of_echo(rt: HostRuntime) -> Result<(), Fail> {
-    sweeps(&rt, rt.alloc(), seeds(0, 3, 6), 1, Some((0, 4)))?;
-    sweeps(&rt, rt.alloc(), seeds(5, 3, 6), 3, None)?;
-    sweeps(&rt, rt.alloc(), seeds(7, 2, 3), 1, None)
+    sweeps(&rt, rt.alloc(), seeds_from(0, 3, 6), 1, Some((0, 4)))?;
+    sweeps(&rt, rt.alloc(), seeds_from(5, 3, 6), 3, None)?;
+    sweeps(&rt, rt.alloc(), seeds_from(7, 2, 3), 1, None)
 }
 
 // A sweep for a place at which the host is down has no answer, for this reason.
@@ -196,8 +196,14 @@ fn is_no_sweep<R: Threads + Wait + Sync + Abort>(
 fn sweeps_that_are_refused(rt: HostRuntime) -> Result<(), Fail> {
     let alloc = rt.alloc();
     let range = SearchFault::BadRange;
-    is_no_sweep(&rt, alloc, seeds(u64::MAX, 2, 6), 0, range)?;
-    is_no_sweep(&rt, alloc, seeds(0, 0, 6), 0, range)?;
-    is_no_sweep(&rt, alloc, seeds(0, 4_294_967_297, 6), 0, range)?;
-    is_no_sweep(&rt, alloc, seeds(0, 1, 6), 2, SearchFault::BadCondition)
+    is_no_sweep(&rt, alloc, seeds_from(u64::MAX, 2, 6), 0, range)?;
+    is_no_sweep(&rt, alloc, seeds_from(0, 0, 6), 0, range)?;
+    is_no_sweep(&rt, alloc, seeds_from(0, 4_294_967_297, 6), 0, range)?;
+    is_no_sweep(
+        &rt,
+        alloc,
+        seeds_from(0, 1, 6),
+        2,
+        SearchFault::BadCondition,
+    )
 }

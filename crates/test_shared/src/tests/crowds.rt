@@ -17,7 +17,7 @@ use test_support::TWO_ECHOES;
 type Echoes = Echo<Tally>;
 
 // A book of one server and one client of echo, which has two operations.
-fn echoes(alloc: Global) -> Result<Book<Echoes>, Fail>
+fn echo_book(alloc: Global) -> Result<Book<Echoes>, Fail>
     ensures { IfOk result (λ b. b.history ≡ []) }
 {
     let scenario = TWO_ECHOES.scenario()?;
@@ -105,7 +105,7 @@ fn walk_all<R: Threads + Wait + Sync>(
     alloc: Global,
     ground: Ground,
 ) -> Result<(History<Echoes>, Vec<Receipt>), Fail> {
-    let (shared, mut seats) = Shared::new(alloc, echoes(alloc)?, SESSIONS)?;
+    let (shared, mut seats) = Shared::new(alloc, echo_book(alloc)?, SESSIONS)?;
     make_branches(rt, &shared, &mut seats[7])?;
     let kept = Mutex::new(Vec::new(alloc));
     thread::for_each_mut(
@@ -167,7 +167,7 @@ fn one_branch_for_all_sessions(rt: HostRuntime) -> Result<(), Fail> {
 
 #[test]
 fn a_freeze_gives_a_run(rt: HostRuntime) -> Result<(), Fail> {
-    let (shared, mut seats) = Shared::new(rt.alloc(), echoes(rt.alloc())?, 1)?;
+    let (shared, mut seats) = Shared::new(rt.alloc(), echo_book(rt.alloc())?, 1)?;
     let (receipt, frozen) = shared.freeze(&rt, &mut seats[0], 0)?;
     assert!(rt; receipt.number == 1 && frozen.is_some());
     Ok(())
@@ -194,7 +194,7 @@ fn look_on<R: Wait>(
 #[test]
 fn a_full_history(rt: HostRuntime) -> Result<(), Fail> {
     let alloc = rt.alloc();
-    let (shared, mut seats) = Shared::new(alloc, echoes(alloc)?, 2)?;
+    let (shared, mut seats) = Shared::new(alloc, echo_book(alloc)?, 2)?;
     let kept = Mutex::new(Vec::new(alloc));
     thread::for_each_mut(
         &rt,
