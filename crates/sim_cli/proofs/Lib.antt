@@ -4,5 +4,6 @@ pub mod OneAnswer
 pub mod Runs
 pub mod Readings
 pub mod Whole
-pub mod ByProtocol
 pub mod Plainly
+pub mod Front
+pub mod Places

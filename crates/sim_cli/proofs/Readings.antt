@@ -1,5 +1,5 @@
 -- What is read of a scenario's bytes.
-use Rattle.std.proofs.Common.{◌≡◌, ◌≢◌, ℕ, ◌<◌, ◌≤◌, length, map, refl, sym, ◌∙◌, ap, arith, cond, Bool, true, false, Result, Ok, Err, string_bytes, String, Vec}
+use Rattle.std.proofs.Common.{◌≡◌, ◌≢◌, ℕ, List, ◌<◌, ◌≤◌, length, map, refl, sym, ◌∙◌, ap, arith, cond, Bool, true, false, Result, Ok, Err, string_bytes, String, Vec}
 use Rattle.std.specs.Prelude.{nat_lt, IfOk}
 use Rattle.std.specs.Str.{is_utf8, IsUtf8}
 use Rattle.std.proofs.lemmas.Str.{IsUtf8-from_is_utf8, is_utf8-from_IsUtf8}
@@ -8,7 +8,7 @@ use Rattle.std.proofs.lemmas.Simd.{map-map}
 use Rattle.std.specs.declared.alloc.Global.{Global}
 use Rattle.indexmap.specs.IndexMap.{IndexMap, keys}
 use Rattle.sim_scenario.specs.Hosts.{names_in}
-use Rattle.sim_scenario.specs.Scenario.{ScenarioText, Fault, read, text_fault}
+use Rattle.sim_scenario.specs.Scenario.{Protocol, ScenarioText, Fault, read, text_fault}
 use Rattle.sim_scenario.specs.Faults.{fault_of}
 use Rattle.sim_scenario.specs.declared.fault.ScenarioFault.{ScenarioFault}
 use Rattle.sim_scenario.specs.declared.fault.ScenarioFault.TheVariants as reader
@@ -18,33 +18,33 @@ use Rattle.sim_script.specs.Script.{Text}
 use Rattle.sim_cli.specs.Play.{read_scenario}
 use Rattle.sim_cli.specs.Opens.{Reads, TellsFault}
 
-pub too_long : (text : Text) → 65536 < length text → read_scenario text ≡ Err (text_fault 1)
+pub too_long : (protocols : List Protocol) (text : Text) → 65536 < length text → read_scenario protocols text ≡ Err (text_fault 1)
 unfolding read_scenario
-too_long text h =
+too_long protocols text h =
     let long : nat_lt 65536 (length text) ≡ true = grind (arith, nat_tests) in
-    ap (λ b. cond {A = Result ScenarioText Fault} b (Err (text_fault 1)) (cond (is_utf8 text) (read text) (Err (text_fault 2)))) long
+    ap (λ b. cond {A = Result ScenarioText Fault} b (Err (text_fault 1)) (cond (is_utf8 text) (read protocols text) (Err (text_fault 2)))) long
 
-by_utf8 : (text : Text) → length text ≤ 65536 → read_scenario text ≡ cond {A = Result ScenarioText Fault} (is_utf8 text) (read text) (Err (text_fault 2))
+by_utf8 : (protocols : List Protocol) (text : Text) → length text ≤ 65536 → read_scenario protocols text ≡ cond {A = Result ScenarioText Fault} (is_utf8 text) (read protocols text) (Err (text_fault 2))
 unfolding read_scenario
-by_utf8 text h =
+by_utf8 protocols text h =
     let short : nat_lt 65536 (length text) ≡ false = grind (arith, nat_tests) in
-    ap (λ b. cond {A = Result ScenarioText Fault} b (Err (text_fault 1)) (cond (is_utf8 text) (read text) (Err (text_fault 2)))) short
+    ap (λ b. cond {A = Result ScenarioText Fault} b (Err (text_fault 1)) (cond (is_utf8 text) (read protocols text) (Err (text_fault 2)))) short
 
 either : (text : Text) (b : Bool) → is_utf8 text ≡ b → ¬ (IsUtf8 text) → is_utf8 text ≡ false
 either text true e n = absurd (n (IsUtf8-from_is_utf8 text e))
 either text false e n = e
 
-pub not_text : (text : Text) → length text ≤ 65536 → ¬ (IsUtf8 text) → read_scenario text ≡ Err (text_fault 2)
-not_text text h n = by_utf8 text h ∙ ap (λ b. cond {A = Result ScenarioText Fault} b (read text) (Err (text_fault 2))) (either text (is_utf8 text) refl n)
+pub not_text : (protocols : List Protocol) (text : Text) → length text ≤ 65536 → ¬ (IsUtf8 text) → read_scenario protocols text ≡ Err (text_fault 2)
+not_text protocols text h n = by_utf8 protocols text h ∙ ap (λ b. cond {A = Result ScenarioText Fault} b (read protocols text) (Err (text_fault 2))) (either text (is_utf8 text) refl n)
 
-pub is_read : (text shown : Text) → length text ≤ 65536 → IsUtf8 text → shown ≡ text → read_scenario text ≡ read shown
-is_read text shown h u e = by_utf8 text h ∙ ap (λ b. cond {A = Result ScenarioText Fault} b (read text) (Err (text_fault 2))) (is_utf8-from_IsUtf8 text u) ∙ ap read (sym e)
+pub is_read : (protocols : List Protocol) (text shown : Text) → length text ≤ 65536 → IsUtf8 text → shown ≡ text → read_scenario protocols text ≡ read protocols shown
+is_read protocols text shown h u e = by_utf8 protocols text h ∙ ap (λ b. cond {A = Result ScenarioText Fault} b (read protocols text) (Err (text_fault 2))) (is_utf8-from_IsUtf8 text u) ∙ ap (read protocols) (sym e)
 
 -- the line of the fault was told, or there was no memory
-pub told : (text : Text) (why : Fault) (r : WasRead) → read_scenario text ≡ Err why → TellsFault why r → Reads text r
-told text why (was.Scenario s) e t = absurd t
-told text why (was.Fault line) e t = record { fault = why; read = e; told = t }
-told text why was.NoMemory e t = tt
+pub told : (protocols : List Protocol) (text : Text) (why : Fault) (r : WasRead) → read_scenario protocols text ≡ Err why → TellsFault why r → Reads protocols text r
+told protocols text why (was.Scenario s) e t = absurd t
+told protocols text why (was.Fault line) e t = record { fault = why; read = e; told = t }
+told protocols text why was.NoMemory e t = tt
 
 -- a fault with a number is no want of memory
 pub is_fault : (e : ScenarioFault) (number : ℕ) → number ≡ (fault_of e).number → (number ≡ 0 → ⊥) → e ≢ reader.NoMemory

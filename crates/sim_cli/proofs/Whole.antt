@@ -1,5 +1,5 @@
 -- A whole play: the scenario's text, and then the script.
-use Rattle.std.proofs.Common.{◌≡◌, ◌<◌, arith, List, [], ◌∷◌, ◌++◌, length, refl, sym, ◌∙◌, ap, append_assoc, append-nil, inl, inr, ◌⊎◌, Option, Some, None, Result, Ok, Err, MatchResult, IsOk, IsErr}
+use Rattle.std.proofs.Common.{◌≡◌, ℕ, ◌<◌, arith, List, [], ◌∷◌, ◌++◌, length, refl, sym, subst, ◌∙◌, ap, append_assoc, append-nil, inl, inr, ◌⊎◌, Option, Some, None, Result, Ok, Err, MatchResult, IsOk, IsErr}
 use Rattle.std.specs.Io.KnownBytes.{IsAtEnd, Appends, Keeps, prepend_known}
 use Rattle.std.specs.Str.Lines.{lines}
 use Rattle.sim_lines.specs.Cut.{head_of, whole_lines}
@@ -8,16 +8,20 @@ use Rattle.sim_lines.specs.Taken.{HasHead, HasNoMarker}
 use Rattle.sim_lines.specs.Waiting.{Waiting, CountsReads, unread}
 use Rattle.sim_lines.proofs.Known.{Appends-none, Appends-append, prepend-none}
 use Rattle.sim_lines.proofs.Passing.{Keeps-Appends}
+use Rattle.sim_world.specs.World.{Scenario}
 use Rattle.sim_world.specs.Events.{Rules}
-use Rattle.sim_scenario.specs.Scenario.{ScenarioText, Fault, read}
+use Rattle.sim_scenario.specs.Scenario.{Protocol, ScenarioText, Fault, read}
 use Rattle.sim_cli.specs.declared.status.Answered.TheVariants as ends
 use Rattle.sim_cli.specs.declared.status.Status.{Status}
 use Rattle.sim_cli.specs.declared.status.Status.TheVariants.{Well, BadScenario, BadRequest, ReaderFailed, WriterFailed, MemoryWanted}
 use Rattle.sim_script.specs.Script.{Text, Names}
 use Rattle.sim_cli.specs.Lines.{fault_line}
 use Rattle.sim_cli.specs.Turns.{Course, beginning}
-use Rattle.sim_cli.specs.Play.{Nodes, Tells, TellsLines, Ended, Plays, PlaysOn, Played, ReadsHead, IsWithinReads, TellsAll, TellsWhole, out_of, read_scenario, names_of}
+use Rattle.sim_cli.specs.Play.{Nodes, Tells, TellsLines, Ended, Plays, PlaysOn, Played, ReadsHead, IsWithinReads, TellsAll, TellsWhole, out_of, read_scenario, names_of, scenario}
 use Rattle.sim_cli.specs.Answers.{Writes, Faults}
+use Rattle.sim_cli.specs.Opens.{HeadIs, IsNotOpened, IsOpened}
+use Rattle.sim_cli.specs.Subjects.{Ports, PlaysScript, nodes_by}
+use Rattle.sim_cli.specs.declared.opening.Opened.{Opened}
 use Rattle.sim_cli.proofs.Readings.{too_long}
 use Rattle.sim_cli.proofs.Runs.{known, at_end_of, rest_of, tells_lines}
 
@@ -34,14 +38,6 @@ given_is ahead old given a e = ap (λ (o : Option Text). prepend_known ahead o) 
 -- no more was read than the counted reads can give
 pub within : (ahead new : Waiting) (left left' : Option Text) → ahead ≡ unread → CountsReads ahead new left left' → IsWithinReads left left'
 within ahead new left left' e c = record { read = c.read; consumed = c.consumed; few = omega (arith, c.counted, ap (λ w. w.reads) e) }
-
--- the scenario's text was read, and this script is left
-pub record HeadIs (given : Text) (new : Option Text) (text : Text) : Type 0 where
-  pub taken : Text
-  pub script : Text
-  pub left : new ≡ Some script
-  pub front : given ≡ taken ++ script
-  pub cut : (read rest : Text) → script ≡ read ++ rest → head_of (taken ++ read) ≡ (text, read)
 
 pub record IsLong (given text : Text) : Type 0 where
   pub read : 65536 < length text
@@ -76,19 +72,19 @@ pub whole_cut : (given text : Text) (new : Option Text) → (h : HeadIs given ne
 whole_cut given text new h = ap head_of h.front ∙ h.cut h.script [] (sym (append-nil h.script))
 
 -- the text that was read has the scenario of the text that was given
-pub same_scenario : (given text : Text) (new : Option Text) → HeadIs given new text ⊎ IsLong given text → read_scenario (head_of given).0 ≡ read_scenario text
-same_scenario given text new s = elim s [
-  | inl h ↦ ap (λ (p : Text × Text). read_scenario p.0) (whole_cut given text new h)
-  | inr l ↦ too_long (head_of given).0 l.whole ∙ sym (too_long text l.read)
+pub same_scenario : (protocols : List Protocol) (given text : Text) (new : Option Text) → HeadIs given new text ⊎ IsLong given text → read_scenario protocols (head_of given).0 ≡ read_scenario protocols text
+same_scenario protocols given text new s = elim s [
+  | inl h ↦ ap (λ (p : Text × Text). read_scenario protocols p.0) (whole_cut given text new h)
+  | inr l ↦ too_long protocols (head_of given).0 l.whole ∙ sym (too_long protocols text l.read)
 ]
 
-not_long : (given text : Text) (scenario : ScenarioText) → IsLong given text → read_scenario text ≡ Ok scenario → ⊥
-not_long given text scenario l e =
-    let fault = too_long text l.read in
+not_long : (protocols : List Protocol) (given text : Text) (scenario : ScenarioText) → IsLong given text → read_scenario protocols text ≡ Ok scenario → ⊥
+not_long protocols given text scenario l e =
+    let fault = too_long protocols text l.read in
     cc
 
-pub not_too_long : (given text : Text) (new : Option Text) (scenario : ScenarioText) → HeadIs given new text ⊎ IsLong given text → read_scenario text ≡ Ok scenario → HeadIs given new text
-not_too_long given text new scenario s e = elim s [ inl h ↦ h | inr l ↦ absurd (not_long given text scenario l e) ]
+pub not_too_long : (protocols : List Protocol) (given text : Text) (new : Option Text) (scenario : ScenarioText) → HeadIs given new text ⊎ IsLong given text → read_scenario protocols text ≡ Ok scenario → HeadIs given new text
+not_too_long protocols given text new scenario s e = elim s [ inl h ↦ h | inr l ↦ absurd (not_long protocols given text scenario l e) ]
 
 is_err_of : (r : Result ScenarioText Fault) (fault : Fault) → r ≡ Err fault → IsErr r
 is_err_of r fault e = rw e refl
@@ -108,25 +104,25 @@ nothing_left [] (Some xs) h = h
 nothing_left (x ∷ ahead) (Some xs) h = cc
 
 -- what was read has the fault of what was given
-pub fault_of_given : (given text shown line : Text) → shown ≡ text → read_scenario (head_of given).0 ≡ read_scenario text → Faults shown line → Faults (head_of given).0 line
-fault_of_given given text shown line a e f = record { fault = f.fault; read = e ∙ ap read_scenario (sym a) ∙ f.read; told = f.told }
+pub fault_of_given : (protocols : List Protocol) (given text shown line : Text) → shown ≡ text → read_scenario protocols (head_of given).0 ≡ read_scenario protocols text → Faults protocols shown line → Faults protocols (head_of given).0 line
+fault_of_given protocols given text shown line a e f = record { fault = f.fault; read = e ∙ ap (read_scenario protocols) (sym a) ∙ f.read; told = f.told }
 
-module _ (nodes_of : ScenarioText → Nodes) where
+module _ (protocols : List Protocol) (nodes_of : ScenarioText → Nodes) where
   -- the answers to the lines of a script are what is written for all
-  all_tells : (given written : Text) (scenario : ScenarioText) → read_scenario (head_of given).0 ≡ Ok scenario →
-      TellsLines (nodes_of scenario).rules (names_of nodes_of scenario) beginning (lines (head_of given).1) written → TellsAll nodes_of given written
+  all_tells : (given written : Text) (scenario : ScenarioText) → read_scenario protocols (head_of given).0 ≡ Ok scenario →
+      TellsLines (nodes_of scenario).rules (names_of nodes_of scenario) beginning (lines (head_of given).1) written → TellsAll protocols nodes_of given written
   all_tells given written scenario e t = record {
     texts = t.texts;
-    tells = matches_ok (read_scenario (head_of given).0) scenario
+    tells = matches_ok (read_scenario protocols (head_of given).0) scenario
         (λ s. Tells (nodes_of s).rules (names_of nodes_of s) beginning (lines (head_of given).1) t.texts written) (λ f. written ≡ fault_line f) e t.tells;
     plain = λ n. (t.tells.plain n).0 ∙ ap (λ s. out_of nodes_of s (lines (head_of given).1)) (sym e);
   }
 
   -- so is the line of a fault
-  fault_tells : (given written : Text) (fault : Fault) → read_scenario (head_of given).0 ≡ Err fault → written ≡ fault_line fault → TellsAll nodes_of given written
+  fault_tells : (given written : Text) (fault : Fault) → read_scenario protocols (head_of given).0 ≡ Err fault → written ≡ fault_line fault → TellsAll protocols nodes_of given written
   fault_tells given written fault e w = record {
     texts = [];
-    tells = matches_err (read_scenario (head_of given).0) fault _ written e w;
+    tells = matches_err (read_scenario protocols (head_of given).0) fault _ written e w;
     plain = λ n. w ∙ ap (λ s. out_of nodes_of s (lines (head_of given).1)) (sym e);
   }
 
@@ -137,7 +133,7 @@ module _ (nodes_of : ScenarioText → Nodes) where
 
   -- the reader failed before there was a scenario
   pub fails_in_head : (given ahead : Text) (left held : Option Text) → HasNoMarker (Some given) (prepend_known ahead left) → ahead ≡ [] →
-      Ended held held (Played nodes_of given left ReaderFailed)
+      Ended held held (Played protocols nodes_of given left ReaderFailed)
   fails_in_head given ahead left held h none =
       let k = known given h.taken (prepend_known ahead left) h.consumed in
       record {
@@ -148,61 +144,61 @@ module _ (nodes_of : ScenarioText → Nodes) where
           rest = k.0;
           front = k.2;
           is_left = sym (prepend-none left) ∙ ap (λ xs. prepend_known xs left) (sym none) ∙ k.1;
-          tells = no_lines (read_scenario (head_of h.taken).0) (whole_lines (head_of h.taken).1) (ap whole_lines h.none);
+          tells = no_lines (read_scenario protocols (head_of h.taken).0) (whole_lines (head_of h.taken).1) (ap whole_lines h.none);
         };
       }
 
-  some_text : (given : Text) (s : Result ScenarioText Fault) → read_scenario (head_of given).0 ≡ s → (text : Text) × TellsAll nodes_of given text
+  some_text : (given : Text) (s : Result ScenarioText Fault) → read_scenario protocols (head_of given).0 ≡ s → (text : Text) × TellsAll protocols nodes_of given text
   some_text given (Ok scenario) e =
       let rest = rest_of (nodes_of scenario).rules (names_of nodes_of scenario) beginning (lines (head_of given).1) in
       (_, all_tells given _ scenario e (tells_lines (nodes_of scenario).rules (names_of nodes_of scenario) beginning rest.last (lines (head_of given).1) rest.texts _ rest.run refl))
   some_text given (Err fault) e = (fault_line fault, fault_tells given (fault_line fault) fault e refl)
 
   -- memory was wanted before anything was written
-  pub wants_first : (given : Text) (left held holds : Option Text) → Appends held holds [] → Ended held holds (Played nodes_of given left MemoryWanted)
+  pub wants_first : (given : Text) (left held holds : Option Text) → Appends held holds [] → Ended held holds (Played protocols nodes_of given left MemoryWanted)
   wants_first given left held holds a =
-      let t = some_text given (read_scenario (head_of given).0) refl in
+      let t = some_text given (read_scenario protocols (head_of given).0) refl in
       record { written = []; appended = a; is = record { more = t.0; tells = t.1 } }
 
   -- a bad scenario
-  pub told_fault : (given : Text) (left held holds : Option Text) (line : Text) (f : Faults (head_of given).0 line) → ReadsHead given left → Writes held holds line ends.Well →
-      Ended held holds (Played nodes_of given left BadScenario)
+  pub told_fault : (given : Text) (left held holds : Option Text) (line : Text) (f : Faults protocols (head_of given).0 line) → ReadsHead given left → Writes held holds line ends.Well →
+      Ended held holds (Played protocols nodes_of given left BadScenario)
   told_fault given left held holds line f h a = record {
     written = line;
     appended = a;
-    is = (is_err_of (read_scenario (head_of given).0) f.fault f.read, h, fault_tells given line f.fault f.read f.told);
+    is = (is_err_of (read_scenario protocols (head_of given).0) f.fault f.read, h, fault_tells given line f.fault f.read f.told);
   }
 
-  pub told_part : (given : Text) (left held holds : Option Text) (line : Text) (f : Faults (head_of given).0 line) → Writes held holds line ends.WriterFailed →
-      Ended held holds (Played nodes_of given left WriterFailed)
+  pub told_part : (given : Text) (left held holds : Option Text) (line : Text) (f : Faults protocols (head_of given).0 line) → Writes held holds line ends.WriterFailed →
+      Ended held holds (Played protocols nodes_of given left WriterFailed)
   told_part given left held holds line f a = record {
     written = a.0;
     appended = a.3;
     is = record { more = a.1; tells = fault_tells given (a.0 ++ a.1) f.fault f.read (sym a.2 ∙ f.told) };
   }
 
-  module _ (given text : Text) (new : Option Text) (scenario : ScenarioText) (h : HeadIs given new text) (e : read_scenario text ≡ Ok scenario) where
-    the_scenario : read_scenario (head_of given).0 ≡ Ok scenario
-    the_scenario = ap (λ (p : Text × Text). read_scenario p.0) (whole_cut given text new h) ∙ e
+  module _ (given text : Text) (new : Option Text) (scenario : ScenarioText) (h : HeadIs given new text) (e : read_scenario protocols text ≡ Ok scenario) where
+    the_scenario : read_scenario protocols (head_of given).0 ≡ Ok scenario
+    the_scenario = ap (λ (p : Text × Text). read_scenario protocols p.0) (whole_cut given text new h) ∙ e
 
-    all_told : (written : Text) → TellsLines (nodes_of scenario).rules (names_of nodes_of scenario) beginning (lines h.script) written → TellsAll nodes_of given written
+    all_told : (written : Text) → TellsLines (nodes_of scenario).rules (names_of nodes_of scenario) beginning (lines h.script) written → TellsAll protocols nodes_of given written
     all_told written t =
         let script : (head_of given).1 ≡ h.script = ap (λ (p : Text × Text). p.1) (whole_cut given text new h) in
         all_tells given written scenario the_scenario (rw script t)
 
     some_told : (read rest written : Text) → h.script ≡ read ++ rest → TellsLines (nodes_of scenario).rules (names_of nodes_of scenario) beginning (whole_lines read) written →
-        TellsWhole nodes_of (h.taken ++ read) written
+        TellsWhole protocols nodes_of (h.taken ++ read) written
     some_told read rest written f t =
         let cut = h.cut read rest f in
         let script : (head_of (h.taken ++ read)).1 ≡ read = ap (λ (p : Text × Text). p.1) cut in
-        matches_ok (read_scenario (head_of (h.taken ++ read)).0) scenario
+        matches_ok (read_scenario protocols (head_of (h.taken ++ read)).0) scenario
         (λ s. TellsLines (nodes_of s).rules (names_of nodes_of s) beginning (whole_lines (head_of (h.taken ++ read)).1) written) (λ _. written ≡ [])
-        (ap (λ (p : Text × Text). read_scenario p.0) cut ∙ e) (rw script t)
+        (ap (λ (p : Text × Text). read_scenario protocols p.0) cut ∙ e) (rw script t)
 
     -- what was played of the script was played of what was given
     play_of : (ahead : Waiting) (left : Option Text) (last : Course) (status : Status) (written : Text) →
-        Plays (nodes_of scenario).rules (names_of nodes_of scenario) beginning h.script last ahead left status written → Played nodes_of given left status written
-    play_of ahead left last Well written p = (is_ok_of (read_scenario (head_of given).0) scenario the_scenario, nothing_left ahead.bytes left p.0, all_told written p.1.0)
+        Plays (nodes_of scenario).rules (names_of nodes_of scenario) beginning h.script last ahead left status written → Played protocols nodes_of given left status written
+    play_of ahead left last Well written p = (is_ok_of (read_scenario protocols (head_of given).0) scenario the_scenario, nothing_left ahead.bytes left p.0, all_told written p.1.0)
     play_of ahead left last BadScenario written p = absurd p
     play_of ahead left last BadRequest written p = absurd p
     play_of ahead left last ReaderFailed written p = record {
@@ -216,8 +212,20 @@ module _ (nodes_of : ScenarioText → Nodes) where
     play_of ahead left last MemoryWanted written p = record { more = p.more; tells = all_told (written ++ p.more) p.tells }
 
     pub play_all : (ahead : Waiting) (left held holds : Option Text) (status : Status) →
-        Ended held holds (PlaysOn (nodes_of scenario).rules (names_of nodes_of scenario) beginning h.script ahead left status) → Ended held holds (Played nodes_of given left status)
+        Ended held holds (PlaysOn (nodes_of scenario).rules (names_of nodes_of scenario) beginning h.script ahead left status) → Ended held holds (Played protocols nodes_of given left status)
     play_all ahead left held holds status p = record { written = p.written; appended = p.appended; is = play_of ahead left p.is.0 status p.written p.is.1 }
+
+  -- there is no scenario
+  pub not_opened : (given : Text) (ahead : Waiting) (left held holds : Option Text) (ended : Status) → IsNotOpened protocols given ahead left held holds ended
+      → Ended held holds (Played protocols nodes_of given left ended)
+  not_opened given ahead left held holds Well n = absurd n
+  not_opened given ahead left held holds BadScenario n = told_fault given left held holds n.0.line n.0.fault n.1 n.0.written
+  not_opened given ahead left held holds BadRequest n = absurd n
+  not_opened given ahead left held holds ReaderFailed n =
+      subst (λ (h : Option Text). Ended held h (Played protocols nodes_of given left ReaderFailed)) (sym n.2) (fails_in_head given ahead.bytes left held n.0 n.1)
+  not_opened given ahead left held holds WriterFailed n = told_part given left held holds n.line n.fault n.written
+  not_opened given ahead left held holds MemoryWanted n =
+      subst (λ (h : Option Text). Ended held h (Played protocols nodes_of given left MemoryWanted)) (sym n) (wants_first given left held held (Appends-none held))
 
 -- memory was wanted before a line was answered
 pub wants_script : {State Msg : Type 0} (r : Rules State Msg) (names : Names) (old : Course) (script : Text) (ahead : Waiting) (left held holds : Option Text) → Appends held holds [] → Ended held holds (PlaysOn r names old script ahead left MemoryWanted)
@@ -230,3 +238,17 @@ pub play_begun : {State Msg : Type 0} (r rules : Rules State Msg) (n names : Nam
     rules ≡ r → names ≡ n → course ≡ beginning → Ended held holds (Plays rules names course script last ahead left status) → Ended held holds (PlaysOn r n beginning script ahead left status)
 play_begun r rules n names course last script ahead left held holds status a b c p =
     record { written = p.written; appended = p.appended; is = (last, rw (a, b, c) at p.is) }
+
+module _ (protocols : List Protocol) (nodes : ℕ → Scenario → Nodes) where
+  -- a script that was played over the nodes of a scenario that was read
+  pub opened_played : (given : Text) (opened : Opened) (old new : Ports) (ended : Status)
+      → IsOpened protocols (nodes_by nodes) given (prepend_known old.ahead.bytes old.left) opened
+      → PlaysScript (nodes opened.protocol opened.scenario).rules opened.names old new ended
+      → Ended old.held new.held (Played protocols (nodes_by nodes) given new.left ended)
+  opened_played given opened old new ended o p =
+      let s = o.said in
+      let played = p.played o.head.script o.head.left in
+      play_all protocols (nodes_by nodes) given o.text _ s o.head o.read new.ahead new.left old.held new.held ended
+      (subst (λ (k : ℕ). Ended old.held new.held (PlaysOn (nodes k (scenario s)).rules (names_of (nodes_by nodes) s) beginning o.head.script new.ahead new.left ended)) o.protocol
+      (subst (λ (x : Scenario). Ended old.held new.held (PlaysOn (nodes opened.protocol x).rules (names_of (nodes_by nodes) s) beginning o.head.script new.ahead new.left ended)) o.scenario
+      (subst (λ (n : Names). Ended old.held new.held (PlaysOn (nodes opened.protocol opened.scenario).rules n beginning o.head.script new.ahead new.left ended)) o.names played)))

@@ -1,9 +1,9 @@
 -- How the answer to one line ended.
-use Rattle.std.specs.Prelude.{◌≡◌, [], Option, Err, ◌⊎◌}
+use Rattle.std.specs.Prelude.{◌≡◌, List, [], Option, Err, ◌⊎◌}
 use Rattle.std.specs.Io.KnownBytes.{Appends}
 use Rattle.sim_lines.specs.Left.{AppendsPart, Passes, PassesSome}
 use Rattle.sim_world.specs.Events.{Rules}
-use Rattle.sim_scenario.specs.Scenario.{Fault}
+use Rattle.sim_scenario.specs.Scenario.{Protocol, Fault}
 use Rattle.sim_script.specs.declared.script.ScriptLine.{ScriptLine}
 use Rattle.sim_cli.specs.declared.status.Answered.{Answered}
 use Rattle.sim_cli.specs.declared.status.Answered.TheVariants.{Well, WriterFailed, MemoryWanted}
@@ -50,7 +50,7 @@ module _ {State Msg : Type 0} (r : Rules State Msg) (names : Names) where
   Answers old new line held holds waiting left MemoryWanted = Passes held holds waiting [] left
 
 -- a text writes no scenario, and a line tells why
-pub record Faults (text line : Text) : Type 0 where
+pub record Faults (protocols : List Protocol) (text line : Text) : Type 0 where
   pub fault : Fault
-  pub read : read_scenario text ≡ Err fault
+  pub read : read_scenario protocols text ≡ Err fault
   pub told : line ≡ fault_line fault

@@ -4,6 +4,6 @@ pub mod Lines
 pub mod Play
 pub mod Answers
 pub mod Opens
-pub mod Protocols
+pub mod Subjects
 pub mod Plain
 pub mod Statuses

@@ -1,30 +1,88 @@
--- The reading of a scenario.
-use Rattle.std.specs.Prelude.{◌≡◌, string_bytes, Ok}
-use Rattle.sim_scenario.specs.Scenario.{Fault as ScenarioFault}
+-- The reading of a scenario, and what is left then.
+use Rattle.std.specs.Prelude.{◌≡◌, List, [], ◌++◌, Option, Some, string_bytes, Ok, length, ◌<◌}
+use Rattle.std.specs.Io.KnownBytes.{Appends, prepend_known}
+use Rattle.sim_lines.specs.Cut.{head_of}
+use Rattle.sim_lines.specs.Left.{AppendsPart}
+use Rattle.sim_lines.specs.Taken.{HasNoMarker}
+use Rattle.sim_lines.specs.Waiting.{Waiting}
+use Rattle.sim_scenario.specs.Scenario.{Protocol, ScenarioText, Fault as ScenarioFault}
 use Rattle.sim_scenario.specs.Hosts.{IsNumbered}
 use Rattle.sim_scenario.specs.Limits.{IsWithinLimits}
 use Rattle.sim_scenario.specs.Seen.{seen}
+use Rattle.sim_cli.specs.declared.opening.Opened.{Opened}
 use Rattle.sim_cli.specs.declared.scenario.WasRead.{WasRead}
 use Rattle.sim_cli.specs.declared.scenario.WasRead.TheVariants as was
+use Rattle.sim_cli.specs.declared.status.Status.{Status}
+use Rattle.sim_cli.specs.declared.status.Status.TheVariants.{Well, BadScenario, BadRequest, ReaderFailed, WriterFailed, MemoryWanted}
 use Rattle.sim_script.specs.Script.{Text}
 use Rattle.sim_cli.specs.Lines.{fault_line}
-use Rattle.sim_cli.specs.Play.{read_scenario}
+use Rattle.sim_cli.specs.Play.{Nodes, ReadsHead, names_of, read_scenario, scenario}
 use Rattle.sim_cli.specs.Answers.{Faults}
 
 -- a scenario that was read, or the line of a fault, or there was no memory
-abbrev pub Reads : Text → WasRead → Type 0
-Reads text (was.Scenario s) = read_scenario text ≡ Ok (seen s)
-Reads text (was.Fault line) = Faults text (string_bytes line)
-Reads text was.NoMemory = Unit {0}
+abbrev pub Reads : List Protocol → Text → WasRead → Type 0
+Reads protocols text (was.Scenario s) = read_scenario protocols text ≡ Ok (seen s)
+Reads protocols text (was.Fault line) = Faults protocols text (string_bytes line)
+Reads protocols text was.NoMemory = Unit {0}
 
 -- a scenario that was read has its hosts' numbers, and is within the limits
-abbrev pub KeepsLimits : WasRead → Type 0
-KeepsLimits (was.Scenario s) = IsNumbered s.names × IsWithinLimits (seen s)
-KeepsLimits (was.Fault line) = Unit {0}
-KeepsLimits was.NoMemory = Unit {0}
+abbrev pub KeepsLimits : List Protocol → WasRead → Type 0
+KeepsLimits protocols (was.Scenario s) =
+    IsNumbered s.names × IsWithinLimits (seen s) × (s.protocol < length protocols)
+KeepsLimits protocols (was.Fault line) = Unit {0}
+KeepsLimits protocols was.NoMemory = Unit {0}
 
 -- the line of a fault, or there was no memory
 abbrev pub TellsFault : ScenarioFault → WasRead → Type 0
 TellsFault why (was.Scenario s) = ⊥
 TellsFault why (was.Fault line) = string_bytes line ≡ fault_line why
 TellsFault why was.NoMemory = Unit {0}
+
+-- the scenario's text was read, and this script is left
+pub record HeadIs (given : Text) (new : Option Text) (text : Text) : Type 0 where
+  pub taken : Text
+  pub script : Text
+  pub left : new ≡ Some script
+  pub front : given ≡ taken ++ script
+  pub cut : (read rest : Text) → script ≡ read ++ rest → head_of (taken ++ read) ≡ (text, read)
+
+-- A scenario was read of what was given: its values, the names of its hosts and probes, and what is
+-- left for the script.
+pub record IsOpened (protocols : List Protocol) (nodes_of : ScenarioText → Nodes) (given : Text)
+    (left : Option Text) (opened : Opened) : Type 0 where
+  pub text : Text
+  pub said : ScenarioText
+  pub head : HeadIs given left text
+  pub read : read_scenario protocols text ≡ Ok said
+  pub protocol : opened.protocol ≡ said.protocol
+  pub scenario : opened.scenario ≡ scenario said
+  pub names : opened.names ≡ names_of nodes_of said
+
+-- the line of a fault was written, or a part of it
+abbrev pub WritesFault : Option Text → Option Text → Text → Status → Type 0
+WritesFault held holds line Well = ⊥
+WritesFault held holds line BadScenario = Appends held holds line
+WritesFault held holds line BadRequest = ⊥
+WritesFault held holds line ReaderFailed = ⊥
+WritesFault held holds line WriterFailed = AppendsPart held holds line
+WritesFault held holds line MemoryWanted = ⊥
+
+-- the scenario that was given is bad, and this was written of the line of its fault
+pub record IsBad (protocols : List Protocol) (given : Text) (held holds : Option Text)
+    (ended : Status) : Type 0 where
+  pub line : Text
+  pub fault : Faults protocols (head_of given).0 line
+  pub written : WritesFault held holds line ended
+
+-- Why there is no scenario, and what was written then, by the status.
+abbrev pub IsNotOpened : List Protocol → Text → Waiting → Option Text → Option Text → Option Text
+    → Status → Type 0
+IsNotOpened protocols given ahead left held holds Well = ⊥
+IsNotOpened protocols given ahead left held holds BadScenario =
+    IsBad protocols given held holds BadScenario × ReadsHead given left
+IsNotOpened protocols given ahead left held holds BadRequest = ⊥
+IsNotOpened protocols given ahead left held holds ReaderFailed =
+    HasNoMarker (Some given) (prepend_known ahead.bytes left) × (ahead.bytes ≡ []) × (holds ≡ held)
+IsNotOpened protocols given ahead left held holds WriterFailed =
+    IsBad protocols given held holds WriterFailed
+IsNotOpened protocols given ahead left held holds MemoryWanted = holds ≡ held

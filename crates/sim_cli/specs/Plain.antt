@@ -1,6 +1,6 @@
 -- What is written where memory was ample.
-use Rattle.std.specs.Prelude.{◌≡◌, ◌++◌, codes, ◌⊎◌}
-use Rattle.sim_scenario.specs.Scenario.{ScenarioText}
+use Rattle.std.specs.Prelude.{◌≡◌, List, ◌++◌, codes, ◌⊎◌}
+use Rattle.sim_scenario.specs.Scenario.{Protocol, ScenarioText}
 use Rattle.sim_cli.specs.declared.status.Status.{Status}
 use Rattle.sim_cli.specs.declared.status.Status.TheVariants as status
 use Rattle.sim_script.specs.Script.{Text}
@@ -19,5 +19,5 @@ abbrev pub IsDone : Status → Type 0
 IsDone ended = (ended ≡ status.Well) ⊎ (ended ≡ status.BadScenario)
 
 -- where no command wanted memory, what was written is `out` of what was given
-abbrev pub IsPlain : (ScenarioText → Nodes) → Text → Text → Type 0
-IsPlain nodes_of given written = ¬ (TellsWant written) → written ≡ out nodes_of given
+abbrev pub IsPlain : List Protocol → (ScenarioText → Nodes) → Text → Text → Type 0
+IsPlain protocols nodes_of given written = ¬ (TellsWant written) → written ≡ out protocols nodes_of given

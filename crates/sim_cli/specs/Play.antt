@@ -9,7 +9,7 @@ use Rattle.sim_lines.specs.Taken.{HasHead}
 use Rattle.sim_lines.specs.Waiting.{Waiting}
 use Rattle.sim_world.specs.World.{Scenario}
 use Rattle.sim_world.specs.Events.{Rules}
-use Rattle.sim_scenario.specs.Scenario.{ScenarioText, Fault, read, text_fault}
+use Rattle.sim_scenario.specs.Scenario.{Protocol, ScenarioText, Fault, read, text_fault}
 use Rattle.sim_script.specs.declared.script.ScriptLine.{ScriptLine}
 use Rattle.sim_script.specs.declared.script.ScriptLine.TheVariants.{Nothing, Bad, Asked}
 use Rattle.sim_script.specs.Script.{Text, Names, script_line}
@@ -117,10 +117,11 @@ pub record Ended (held holds : Option Text) (P : Text → Type 0) : Type 0 where
   pub appended : Appends held holds written
   pub is : P written
 
--- the scenario that bytes write, or why they write none: a text that is too long, then one that is not UTF-8
-unfoldable pub read_scenario : Text → Result ScenarioText Fault
-read_scenario text =
-    if nat_lt 65536 (length text) then Err (text_fault 1) else (if is_utf8 text then read text else Err (text_fault 2))
+-- the scenario that bytes write, which names one of these protocols, or why they write none: a text that is too long, then one that is not UTF-8
+unfoldable pub read_scenario : List Protocol → Text → Result ScenarioText Fault
+read_scenario protocols text =
+    if nat_lt 65536 (length text) then Err (text_fault 1)
+    else (if is_utf8 text then read protocols text else Err (text_fault 2))
 
 abbrev pub scenario : ScenarioText → Scenario
 scenario s = record {
@@ -162,22 +163,24 @@ module _ (nodes_of : ScenarioText → Nodes) where
   out_of (Err why) script = fault_line why
   out_of (Ok s) script = out_from (nodes_of s).rules (names_of s) beginning script
 
+-- A scenario names one of these protocols, and stands for the nodes of a run.
+module _ (protocols : List Protocol) (nodes_of : ScenarioText → Nodes) where
   -- What is written for an input where memory is ample. The scenario is what stands before the first line `---`, and the script's lines follow it.
   abbrev pub out : Text → Text
-  out input = out_of (read_scenario (head_of input).0) (lines (head_of input).1)
+  out input = out_of nodes_of (read_scenario protocols (head_of input).0) (lines (head_of input).1)
 
   -- What is written for all of an input: the fault of its scenario, or the texts of the lines of its script. Where none tells of memory it is `out`.
   pub record TellsAll (given written : Text) : Type 0 where
     pub texts : List Text
-    pub tells : MatchResult (read_scenario (head_of given).0)
-        (λ s. Tells (nodes_of s).rules (names_of s) beginning (lines (head_of given).1) texts written) (λ why. written ≡ fault_line why)
+    pub tells : MatchResult (read_scenario protocols (head_of given).0)
+        (λ s. Tells (nodes_of s).rules (names_of nodes_of s) beginning (lines (head_of given).1) texts written) (λ why. written ≡ fault_line why)
     pub plain : AllByRecursion TellsNoWant texts → written ≡ out given
 
   -- what is written for the whole lines of an input that stopped: nothing where it has no scenario
   abbrev pub TellsWhole : Text → Text → Type 0
   TellsWhole read written =
-      MatchResult (read_scenario (head_of read).0)
-      (λ s. TellsLines (nodes_of s).rules (names_of s) beginning (whole_lines (head_of read).1) written) (λ _. written ≡ [])
+      MatchResult (read_scenario protocols (head_of read).0)
+      (λ s. TellsLines (nodes_of s).rules (names_of nodes_of s) beginning (whole_lines (head_of read).1) written) (λ _. written ≡ [])
 
   -- a beginning of what is written for all of an input
   pub record BeginsAll (given written : Text) : Type 0 where
@@ -194,8 +197,8 @@ module _ (nodes_of : ScenarioText → Nodes) where
 
   -- What is written for what is given, and what is left of it, by how the play ends.
   abbrev pub Played : Text → Option Text → Status → Text → Type 0
-  Played given left Well written = IsOk (read_scenario (head_of given).0) × IsAtEnd left × TellsAll given written
-  Played given left BadScenario written = IsErr (read_scenario (head_of given).0) × ReadsHead given left × TellsAll given written
+  Played given left Well written = IsOk (read_scenario protocols (head_of given).0) × IsAtEnd left × TellsAll given written
+  Played given left BadScenario written = IsErr (read_scenario protocols (head_of given).0) × ReadsHead given left × TellsAll given written
   Played given left BadRequest written = ⊥
   Played given left ReaderFailed written = StopsIn given left written
   Played given left WriterFailed written = BeginsAll given written

@@ -2,8 +2,11 @@
 //!
 //! - [`play`] reads a scenario, a line `---` and a script, carries out the commands on a book, and
 //!   writes one line for each. It is all that `simback play` does with its input and output.
-//! - [`play_nodes`] does the same for nodes of any type, given a scenario that was read and the
-//!   names of the probes. `play` calls it for each of the four protocols that ship.
+//! - A [`Subject`] is a protocol with its name, its type of nodes and the names of their probes. A
+//!   program plays a list of subjects: [`Shipped`], or a list of its own, made by [`With`] and
+//!   [`NoSubject`].
+//! - A [`Task`] is what is done over nodes of any type, as [`Playing`]. [`Subjects`] carries it out
+//!   over the nodes of the protocol that a scenario names, and [`open`] reads that scenario.
 //! - [`answer_lines`] is the loop over the lines of a script, on a book of the caller's.
 //! - [`Status`] says how a play ended; its number is the exit status of the program.
 //! - [`write_text`] writes a text and flushes the writer, as for the line of a scenario's fault.
@@ -19,23 +22,30 @@
 //!
 //! - A play is session 0 of a book and has no state of its own. What is kept, how fast a `back` is
 //!   and what want of memory leaves are the book's contracts.
-//! - The definitions speak of `Nodes`: the rules of a run and the names of probes. A scenario
-//!   stands for `Nodes` by one row for each protocol, so one definition and one body serve every
-//!   node type.
+//! - The definitions speak of `Nodes`: the rules of a run and the names of probes. A list of
+//!   subjects gives the `Nodes` of each place, so one definition and one body serve every type of
+//!   nodes.
+//! - A list of subjects is a type and no value. So each task is compiled for each type of nodes, and
+//!   no call goes through a pointer. `Subjects::carry_out` is the one place where a protocol becomes
+//!   a type of nodes: a new task needs no `match` over protocols.
 //! - The crate needs no threads and no clock. Searches and sweeps, which do, are in `sim_perform`.
 //! - Want of memory before the first line of the script ends the play with status 4 before anything
 //!   is written.
 #![tactic(auto)]
 
 mod answering;
-mod nodes;
+mod opening;
 mod playing;
 mod scenario;
+mod shipped;
 mod status;
+mod subjects;
 
 pub use answering::{answer_lines, turn_of};
-pub use nodes::{play_nodes, set_up};
-pub use playing::{play, write_text};
-pub use scenario::{WasRead, probe_names, protocol_of, read_scenario};
+pub use opening::{Opened, open, set_up, write_text};
+pub use playing::{Playing, play};
+pub use scenario::{WasRead, read_scenario};
+pub use shipped::{AbdSubject, BackupSubject, CommitSubject, EchoSubject, Shipped};
 pub use sim_tally::Tally;
 pub use status::{Answered, Status};
+pub use subjects::{NoSubject, Subject, Subjects, Task, With};

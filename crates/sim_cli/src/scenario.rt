@@ -1,18 +1,12 @@
 //! The scenario of a play.
-ghost use Rattle.std.specs.Prelude.{◌≡◌, ◌≤◌, IfOk, map, string_bytes, vec_len};
-ghost use Rattle.sim_protocols.specs.Probes as protocols;
-ghost use Rattle.sim_cli.specs.Protocols.{protocol_of};
+ghost use Rattle.std.specs.Prelude.{◌≤◌, length};
 ghost use Rattle.sim_cli.specs.Opens.{Reads, KeepsLimits, TellsFault};
 
-use sim_protocols::{Protocol, probe_name};
-use sim_scenario::ScenarioText;
-use std::alloc::{AllocError, Global};
+use sim_scenario::{Protocols, ScenarioText};
+use std::alloc::Global;
 
 /// The longest text of a scenario (bytes).
 const MAX_TEXT: usize = 65_536;
-
-/// No protocol has more probes.
-const MAX_PROBES: u8 = 16;
 
 /// A scenario that was read, or why there is none.
 #[derive(Drop)]
@@ -33,10 +27,11 @@ fn tell_fault(alloc: Global, number: u8, key: &str) -> WasRead
     }
 }
 
-/// Reads the bytes of a scenario's text.
-pub fn read_scenario(alloc: Global, bytes: &[u8]) -> WasRead
-    ensures reads { Reads bytes.now result }
-    ensures within { KeepsLimits result }
+/// Reads the bytes of a scenario's text, which names one of these protocols.
+pub fn read_scenario<P: Protocols>(alloc: Global, bytes: &[u8]) -> WasRead
+    requires few { length P.listed ≤ 255 }
+    ensures reads { Reads P.listed bytes.now result }
+    ensures within { KeepsLimits P.listed result }
 {
     if bytes.len() > MAX_TEXT {
         return tell_fault(alloc, 1, "text");
@@ -44,7 +39,7 @@ pub fn read_scenario(alloc: Global, bytes: &[u8]) -> WasRead
     let Ok(text) = str::from_utf8(bytes) else {
         return tell_fault(alloc, 2, "text");
     };
-    match sim_scenario::read(alloc, text) {
+    match sim_scenario::read::<P>(alloc, text) {
         Ok(scenario) => WasRead::Scenario(scenario),
         Err(fault) => {
             // Want of memory is no fault of the text, and has the number 0.
@@ -56,30 +51,4 @@ pub fn read_scenario(alloc: Global, bytes: &[u8]) -> WasRead
             }
         }
     }
-}
-
-/// The protocol that a scenario names.
-pub fn protocol_of(protocol: sim_scenario::Protocol) -> Protocol
-    ensures { result ≡ protocol_of protocol }
-{
-    match protocol {
-        sim_scenario::Protocol::Echo => Protocol::Echo,
-        sim_scenario::Protocol::PrimaryBackup => Protocol::PrimaryBackup,
-        sim_scenario::Protocol::Abd => Protocol::AbdRegister,
-        sim_scenario::Protocol::TwoPhase => Protocol::TwoPhase,
-    }
-}
-
-/// The names of a protocol's probes, in the order of their numbers.
-pub fn probe_names(alloc: Global, protocol: Protocol) -> Result<Vec<String>, AllocError>
-    ensures names { IfOk result (λ probes. map string_bytes probes.items ≡ protocols.probe_names protocol) }
-    ensures few { IfOk result (λ probes. vec_len probes ≤ 16) }
-{
-    let mut probes = Vec::new(alloc);
-    for k in 0..MAX_PROBES {
-        if let Some(name) = probe_name(protocol, k) {
-            probes.push(String::from_str(alloc, name)?)?;
-        }
-    }
-    Ok(probes)
 }

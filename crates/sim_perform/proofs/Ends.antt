@@ -1,24 +1,29 @@
 -- What was written is what a job's status says.
-use Rattle.std.proofs.Common.{◌≡◌, [], Option, sym, ap, subst, ◌∙◌, refl, inl, inr, Result, Ok}
+use Rattle.std.proofs.Common.{◌≡◌, ℕ, List, [], Option, sym, ap, subst, ◌∙◌, refl, inl, inr, Result, Ok}
 use Rattle.std.specs.Prelude.{⊤}
 use Rattle.sim_lines.specs.Cut.{head_of}
+use Rattle.sim_lines.specs.Waiting.{Waiting}
 use Rattle.sim_lines.proofs.Known.{Appends-none}
-use Rattle.sim_scenario.specs.Scenario.{ScenarioText, Fault}
-use Rattle.sim_script.specs.Script.{Text}
+use Rattle.sim_scenario.specs.Scenario.{Protocol, ScenarioText, Fault}
+use Rattle.sim_script.specs.Script.{Text, Names}
+use Rattle.sim_world.specs.World.{Scenario}
 use Rattle.sim_job.specs.declared.wanted.Job.{Job}
 use Rattle.sim_cli.specs.declared.status.Status.{Status}
 use Rattle.sim_cli.specs.declared.status.Status.TheVariants.{Well, BadScenario, BadRequest, ReaderFailed, WriterFailed, MemoryWanted}
 use Rattle.sim_cli.specs.Answers.{Faults}
 use Rattle.sim_cli.specs.Lines.{fault_line}
-use Rattle.sim_cli.specs.Play.{Nodes, Ended, names_of, read_scenario}
-use Rattle.sim_cli.proofs.Whole.{HeadIs, whole_cut}
+use Rattle.sim_cli.specs.Play.{Nodes, Ended, names_of, read_scenario, scenario}
+use Rattle.sim_cli.specs.declared.opening.Opened.{Opened}
+use Rattle.sim_cli.specs.Opens.{HeadIs, IsNotOpened, IsOpened}
+use Rattle.sim_cli.specs.Subjects.{nodes_by}
+use Rattle.sim_cli.proofs.Whole.{whole_cut}
 use Rattle.sim_perform.specs.declared.answer.Answer.{Answer}
 use Rattle.sim_perform.specs.declared.answer.Answer.TheVariants as answer
 use Rattle.sim_perform.specs.declared.hunting.Area.{Area}
 use Rattle.sim_perform.specs.Answers.{status_of}
 use Rattle.sim_perform.specs.Following.{Stops}
 use Rattle.sim_perform.specs.Hunts.{hunt_answer}
-use Rattle.sim_perform.specs.Outcomes.{Outcome, EndsBy, WritesOutcome, WritesAnswer, Performed, answered, faulty, outcome, outcome_of}
+use Rattle.sim_perform.specs.Outcomes.{Outcome, EndsBy, WritesOutcome, WritesAnswer, Hunted, Performed, answered, faulty, outcome, outcome_of}
 
 -- a status after a line that was written
 HasLine : Status → Type 0
@@ -91,18 +96,49 @@ told_fault o fault line ended held holds same told w =
     subst (λ (x : Outcome). Ended held holds (EndsBy x ended)) (sym same)
     (line_told (faulty fault) ended held holds tt (same_outcome (faulty fault) BadScenario ended line held holds refl told w))
 
-module _ (nodes_of : ScenarioText → Nodes) where
+module _ (protocols : List Protocol) (nodes_of : ScenarioText → Nodes) where
   module _ (area : Area) (cond : Text) where
     -- the outcome of a scenario that was read, and of a bad one
-    pub outcome_read : (given text : Text) (new : Option Text) (s : ScenarioText) (h : HeadIs given new text) → read_scenario text ≡ Ok s
-        → outcome nodes_of area cond given ≡ answered (hunt_answer (nodes_of s).rules (names_of nodes_of s) area cond h.script)
+    pub outcome_read : (given text : Text) (new : Option Text) (s : ScenarioText) (h : HeadIs given new text) → read_scenario protocols text ≡ Ok s
+        → outcome protocols nodes_of area cond given ≡ answered (hunt_answer (nodes_of s).rules (names_of nodes_of s) area cond h.script)
     outcome_read given text new s h e =
-        ap (λ (p : Text × Text). outcome_of nodes_of area cond (read_scenario p.0) p.1) (whole_cut given text new h)
-        ∙ ap (λ (r : Result ScenarioText Fault). outcome_of nodes_of area cond r h.script) e
+        ap (λ (p : Text × Text). outcome_of protocols nodes_of area cond (read_scenario protocols p.0) p.1) (whole_cut given text new h)
+        ∙ ap (λ (r : Result ScenarioText Fault). outcome_of protocols nodes_of area cond r h.script) e
 
-    pub outcome_fault : (given line : Text) (f : Faults (head_of given).0 line) → outcome nodes_of area cond given ≡ faulty f.fault
-    outcome_fault given line f = ap (λ (r : Result ScenarioText Fault). outcome_of nodes_of area cond r (head_of given).1) f.read
+    outcome_fault : (given line : Text) (f : Faults protocols (head_of given).0 line) → outcome protocols nodes_of area cond given ≡ faulty f.fault
+    outcome_fault given line f = ap (λ (r : Result ScenarioText Fault). outcome_of protocols nodes_of area cond r (head_of given).1) f.read
+
+    bad_told : (given : Text) (held holds : Option Text) (line : Text) (f : Faults protocols (head_of given).0 line) (ended : Status)
+        → WritesOutcome held holds (record { status = BadScenario; line = line }) ended → Ended held holds (Hunted protocols nodes_of area cond given ended)
+    bad_told given held holds line f ended w =
+        told_fault (outcome protocols nodes_of area cond given) f.fault line ended held holds (outcome_fault given line f) f.told w
+
+    -- there is no scenario
+    pub not_opened : (given : Text) (ahead : Waiting) (left held holds : Option Text) (ended : Status) → IsNotOpened protocols given ahead left held holds ended
+        → Ended held holds (Hunted protocols nodes_of area cond given ended)
+    not_opened given ahead left held holds Well n = absurd n
+    not_opened given ahead left held holds BadScenario n = bad_told given held holds n.0.line n.0.fault BadScenario (inl (refl, n.0.written))
+    not_opened given ahead left held holds BadRequest n = absurd n
+    not_opened given ahead left held holds ReaderFailed n =
+        subst (λ (h : Option Text). Ended held h (Hunted protocols nodes_of area cond given ReaderFailed)) (sym n.2) (nothing (outcome protocols nodes_of area cond given) ReaderFailed held tt)
+    not_opened given ahead left held holds WriterFailed n = bad_told given held holds n.line n.fault WriterFailed (inr (refl, n.written))
+    not_opened given ahead left held holds MemoryWanted n =
+        subst (λ (h : Option Text). Ended held h (Hunted protocols nodes_of area cond given MemoryWanted)) (sym n) (nothing (outcome protocols nodes_of area cond given) MemoryWanted held tt)
 
   pub as_job : (job asked : Job) (given : Text) (left held holds : Option Text) (ended : Status) → job ≡ asked
-      → Ended held holds (Performed nodes_of asked given left ended) → Ended held holds (Performed nodes_of job given left ended)
-  as_job job asked given left held holds ended same p = subst (λ (j : Job). Ended held holds (Performed nodes_of j given left ended)) (sym same) p
+      → Ended held holds (Performed protocols nodes_of asked given left ended) → Ended held holds (Performed protocols nodes_of job given left ended)
+  as_job job asked given left held holds ended same p = subst (λ (j : Job). Ended held holds (Performed protocols nodes_of j given left ended)) (sym same) p
+
+module _ (protocols : List Protocol) (nodes : ℕ → Scenario → Nodes) (area : Area) (cond : Text) where
+  -- the answer of a hunt over the nodes of a scenario that was read
+  pub opened_answer : (given : Text) (left : Option Text) (opened : Opened) (o : IsOpened protocols (nodes_by nodes) given left opened)
+      → outcome protocols (nodes_by nodes) area cond given ≡ answered (hunt_answer (nodes opened.protocol opened.scenario).rules opened.names area cond o.head.script)
+  opened_answer given left opened o =
+      let s = o.said in
+      let script = o.head.script in
+      let same : hunt_answer (nodes opened.protocol opened.scenario).rules opened.names area cond script
+      ≡ hunt_answer (nodes s.protocol (scenario s)).rules (names_of (nodes_by nodes) s) area cond script =
+      ap (λ (k : ℕ). hunt_answer (nodes k opened.scenario).rules opened.names area cond script) o.protocol
+      ∙ ap (λ (x : Scenario). hunt_answer (nodes s.protocol x).rules opened.names area cond script) o.scenario
+      ∙ ap (λ (n : Names). hunt_answer (nodes s.protocol (scenario s)).rules n area cond script) o.names in
+      outcome_read protocols (nodes_by nodes) area cond given o.text _ s o.head o.read ∙ ap answered (sym same)

@@ -3,14 +3,11 @@ use Rattle.std.proofs.Common.{◌≡◌, ℕ, List, Option, Some, None, refl, sy
 use Rattle.sim_node.specs.Node.{NodeLaws}
 use Rattle.sim_world.specs.declared.Event.{Event}
 use Rattle.sim_world.specs.World.{Scenario}
-use Rattle.sim_world.specs.Events.{rules}
+use Rattle.sim_world.specs.Events.{Rules, rules}
 use Rattle.sim_watch.specs.Condition.{Cond}
 use Rattle.sim_script.specs.Script.{Text, Names, words}
 use Rattle.sim_script.specs.Conditions.{condition}
-use Rattle.sim_protocols.specs.Probes.{probe_names}
-use Rattle.sim_scenario.specs.declared.Protocol.{Protocol as NamedProtocol}
-use Rattle.sim_scenario.specs.declared.Protocol.TheVariants as named
-use Rattle.sim_cli.specs.Protocols.{nodes_by, protocol_of}
+use Rattle.sim_cli.specs.Play.{Nodes}
 use Rattle.sim_perform.specs.declared.answer.Answer.{Answer}
 use Rattle.sim_perform.specs.declared.answer.Answer.TheVariants.{BadCondition}
 use Rattle.sim_perform.specs.declared.hunting.Area.{Area}
@@ -33,34 +30,22 @@ module _ {State Msg : Type 0} (L : NodeLaws State Msg) (K : ℕ) (script : Text)
       (subst (λ (x : Scenario). IfOk t (λ a. a ≡ search_answer (rules L K x) c events lo hi)) same
       (passed_on (λ a. a ≡ search_answer (rules L K s) c events lo hi) r t is passed)))
 
--- the names of a protocol's probes
-pub probes_of : (p : NamedProtocol) (s : Scenario) → probe_names (protocol_of p) ≡ (nodes_by p s).probes
-unfolding nodes_by
-probes_of named.Echo s = refl
-probes_of named.PrimaryBackup s = refl
-probes_of named.Abd s = refl
-probes_of named.TwoPhase s = refl
+module _ {State Msg : Type 0} (r : Rules State Msg) (names : Names) (script : Text) (o : Area) where
+  -- by the words of a condition
+  pub found_words : {F : Type 0} (t : Result Answer F) (c : Cond) (given word : Text) → given ≡ word → Some c ≡ condition names (words given)
+      → IfOk t (λ a. a ≡ found_on r names o script c) → IfOk t (λ a. a ≡ hunt_answer r names o word script)
+  found_words t c given word text read is =
+      subst (λ (w : Text). IfOk t (λ a. a ≡ found_for r names o script (condition names (words w)))) text
+      (subst (λ (x : Option Cond). IfOk t (λ a. a ≡ found_for r names o script x)) read is)
+
+  -- by words that are none
+  pub no_words : (given word : Text) → given ≡ word → None ≡ condition names (words given) → BadCondition ≡ hunt_answer r names o word script
+  no_words given word text read =
+      subst (λ (w : Text). BadCondition ≡ found_for r names o script (condition names (words w))) text
+      (subst (λ (x : Option Cond). BadCondition ≡ found_for r names o script x) read refl)
 
 module _ (script : Text) (o : Area) where
   -- over the nodes of a protocol
-  pub found_by : {F : Type 0} (t : Result Answer F) (p q : NamedProtocol) (s : Scenario) (names : Names) (c : Cond) → q ≡ p
-      → IfOk t (λ a. a ≡ found_on (nodes_by p s).rules names o script c) → IfOk t (λ a. a ≡ found_on (nodes_by q s).rules names o script c)
-  found_by t p q s names c same is = subst (λ (x : NamedProtocol). IfOk t (λ a. a ≡ found_on (nodes_by x s).rules names o script c)) (sym same) is
-
-  -- by the words of a condition
-  pub found_words : {F : Type 0} (t : Result Answer F) (p : NamedProtocol) (n m : Names) (s q : Scenario) (c : Cond) (given word : Text)
-      → n ≡ m → s ≡ q → given ≡ word → Some c ≡ condition n (words given)
-      → IfOk t (λ a. a ≡ found_on (nodes_by p s).rules n o script c) → IfOk t (λ a. a ≡ hunt_answer (nodes_by p q).rules m o word script)
-  found_words t p n m s q c given word names same text read is =
-      subst (λ (w : Text). IfOk t (λ a. a ≡ found_for (nodes_by p q).rules m o script (condition m (words w)))) text
-      (subst (λ (x : Names). IfOk t (λ a. a ≡ found_for (nodes_by p q).rules x o script (condition x (words given)))) names
-      (subst (λ (x : Option Cond). IfOk t (λ a. a ≡ found_for (nodes_by p q).rules n o script x)) read
-      (subst (λ (x : Scenario). IfOk t (λ a. a ≡ found_on (nodes_by p x).rules n o script c)) same is)))
-
-  -- by words that are none
-  pub no_words : (p : NamedProtocol) (n m : Names) (q : Scenario) (given word : Text)
-      → n ≡ m → given ≡ word → None ≡ condition n (words given) → BadCondition ≡ hunt_answer (nodes_by p q).rules m o word script
-  no_words p n m q given word names text read =
-      subst (λ (w : Text). BadCondition ≡ found_for (nodes_by p q).rules m o script (condition m (words w))) text
-      (subst (λ (x : Names). BadCondition ≡ found_for (nodes_by p q).rules x o script (condition x (words given))) names
-      (subst (λ (x : Option Cond). BadCondition ≡ found_for (nodes_by p q).rules n o script x) read refl))
+  pub found_by : {F : Type 0} (nodes : ℕ → Scenario → Nodes) (t : Result Answer F) (k place : ℕ) (s : Scenario) (names : Names) (c : Cond) → place ≡ k
+      → IfOk t (λ a. a ≡ found_on (nodes k s).rules names o script c) → IfOk t (λ a. a ≡ found_on (nodes place s).rules names o script c)
+  found_by nodes t k place s names c same is = subst (λ (x : ℕ). IfOk t (λ a. a ≡ found_on (nodes x s).rules names o script c)) (sym same) is

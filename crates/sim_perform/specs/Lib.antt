@@ -2,3 +2,4 @@ pub mod Answers
 pub mod Following
 pub mod Hunts
 pub mod Outcomes
+pub mod Shipped

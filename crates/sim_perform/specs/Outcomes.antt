@@ -1,9 +1,9 @@
 -- What a job writes, and the status with which it ends.
-use Rattle.std.specs.Prelude.{◌≡◌, [], ◌++◌, Option, Result, Ok, Err, ◌⊎◌}
+use Rattle.std.specs.Prelude.{◌≡◌, List, [], ◌++◌, Option, Result, Ok, Err, ◌⊎◌}
 use Rattle.std.specs.Io.KnownBytes.{Appends}
 use Rattle.sim_lines.specs.Cut.{head_of}
 use Rattle.sim_lines.specs.Left.{AppendsPart}
-use Rattle.sim_scenario.specs.Scenario.{ScenarioText, Fault}
+use Rattle.sim_scenario.specs.Scenario.{Protocol, ScenarioText, Fault}
 use Rattle.sim_script.specs.Script.{Text}
 use Rattle.sim_job.specs.declared.wanted.Job.{Job}
 use Rattle.sim_job.specs.declared.wanted.Job.TheVariants as jobs
@@ -48,8 +48,8 @@ abbrev pub WritesAnswer : Option Text → Option Text → Answer → Status → 
 WritesAnswer held holds a ended =
     WritesOutcome held holds (answered a) ended ⊎ ((ended ≡ MemoryWanted) × Appends held holds [])
 
--- A scenario stands for the nodes of a run.
-module _ (nodes_of : ScenarioText → Nodes) where
+-- A scenario names one of these protocols, and stands for the nodes of a run.
+module _ (protocols : List Protocol) (nodes_of : ScenarioText → Nodes) where
   module _ (area : Area) (cond : Text) where
     -- the answer to a hunt, or the fault of the scenario
     abbrev pub outcome_of : Result ScenarioText Fault → Text → Outcome
@@ -60,7 +60,7 @@ module _ (nodes_of : ScenarioText → Nodes) where
     -- The outcome of a hunt for an input. The scenario is what stands before the first line `---`,
     -- and the script follows it. A sweep does not depend on the script.
     abbrev pub outcome : Text → Outcome
-    outcome input = outcome_of (read_scenario (head_of input).0) (head_of input).1
+    outcome input = outcome_of (read_scenario protocols (head_of input).0) (head_of input).1
 
     -- what a hunt writes for what is given, by its status
     abbrev pub Hunted : Text → Status → Text → Type 0
@@ -68,7 +68,7 @@ module _ (nodes_of : ScenarioText → Nodes) where
 
   -- what a job writes for what is given, and what is left of it, by its status
   abbrev pub Performed : Job → Text → Option Text → Status → Text → Type 0
-  Performed jobs.Play given left ended written = Played nodes_of given left ended written
+  Performed jobs.Play given left ended written = Played protocols nodes_of given left ended written
   Performed (jobs.Search workers progress lo hi cond) given left ended written =
       Hunted (Places lo hi) cond.now given ended written
   Performed (jobs.Sweep workers progress first count events cond) given left ended written =

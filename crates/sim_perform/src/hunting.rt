@@ -11,6 +11,7 @@ use crate::answer::{Answer, of_search, of_sweep};
 use crate::following::follow;
 use crate::progress::Progress;
 use sim_book::Book;
+use sim_cli::Opened;
 use sim_lines::Ahead;
 use sim_node::{NoMemory, Node};
 use sim_script::Names;
@@ -48,8 +49,7 @@ pub enum Area {
 /// scenario's hosts and probes.
 #[derive(Drop)]
 pub struct Quest<'a> {
-    pub scenario: Scenario,
-    pub names: Names,
+    pub opened: &'a Opened,
     pub cond: Cond,
     pub hunt: &'a Hunt<'a>,
 }
@@ -145,10 +145,10 @@ where
     N::Msg: Send + Sync,
     N::Undo: Send + Sync,
     requires { IsTeam quest.now.hunt.now.workers }
-    ensures { IfOk result (λ a. a ≡ sweep_answer (rules N.laws N.PROBES quest.now.scenario)
+    ensures { IfOk result (λ a. a ≡ sweep_answer (rules N.laws N.PROBES quest.now.opened.now.scenario)
         quest.now.cond first count events) }
 {
-    let scenario = &quest.scenario;
+    let scenario = &quest.opened.scenario;
     let cond = &quest.cond;
     let meters = meters(alloc, quest.hunt.workers)?;
     if quest.hunt.progress {
@@ -192,13 +192,18 @@ where
     requires { IsTeam quest.now.hunt.now.workers }
     ensures answer { (script : List ℕ) →
         prepend_known ahead.old.bytes (R.remaining reader.old) ≡ Some script →
-        IfOk result (λ a. a ≡ found_on (rules N.laws N.PROBES quest.now.scenario)
-        quest.now.names quest.now.hunt.now.area script quest.now.cond) }
+        IfOk result (λ a. a ≡ found_on (rules N.laws N.PROBES quest.now.opened.now.scenario)
+        quest.now.opened.now.names quest.now.hunt.now.area script quest.now.cond) }
     ensures stops { IfErr result Stops }
 {
     match quest.hunt.area {
         Area::Places { lo, hi } => {
-            let frozen = played::<N, R>(alloc, &quest.scenario, &quest.names, reader, ahead)?;
+            let Opened {
+                scenario,
+                names,
+                ..
+            } = quest.opened;
+            let frozen = played::<N, R>(alloc, scenario, names, reader, ahead)?;
             told(search_run(rt, alloc, &frozen, lo, hi, quest))
         }
         Area::Seeds {

@@ -1,11 +1,17 @@
 //! Carries out a job of the command line over any reader and any writer: a play, a search of the
 //! run that a script leaves, or a sweep over seeds.
 //!
-//! [`perform`] is the one call. It gives a play to `sim_cli::play`, with the same contract. A
+//! [`perform`] is the one call, for the protocols that ship. It gives a play to `sim_cli::play`, with
+//! the same contract. A
 //! search or a sweep (a hunt) reads the scenario as a play does, looks for the condition with
 //! several workers, and writes one line: `first P`, `seed I place P`, `none`, `bad range` or `bad
 //! condition`. With `--progress` it reports on standard error how many pieces are done, at most
 //! twice a second; the standard output does not change.
+//!
+//! [`run`] is the whole of a program: it reads the words of the command line and gives the job to
+//! `perform`, over the standard input and output. Help goes to the standard output with status 0, a
+//! mistake to the standard error with status 2. Words that are not UTF-8 end with status 2 and are
+//! not repeated. If the standard error takes nothing, the status stays the same.
 //!
 //! The contract of `perform` covers all three jobs, for every reader and writer whose bytes
 //! contracts can name (`Performed` in `specs/Outcomes.antt`). What a hunt writes is a function of
@@ -29,8 +35,10 @@ mod answer;
 mod following;
 mod hunting;
 mod performing;
+mod program;
 mod progress;
 
 pub use performing::perform;
+pub use program::run;
 pub use sim_cli::Status;
 pub use sim_job::{Job, LineError, job};

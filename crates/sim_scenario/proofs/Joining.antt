@@ -7,10 +7,9 @@ use Rattle.std.proofs.lemmas.Bool.{le-ltb}
 use Rattle.hex.specs.Hex.{decode_of}
 use Rattle.toml.specs.Data.{Members, as_str, as_table}
 use Rattle.toml.specs.Parse.{parse_document}
-use Rattle.sim_scenario.specs.declared.Protocol.{Protocol}
 use Rattle.sim_scenario.specs.declared.reading.Opening.{Opening}
 use Rattle.sim_scenario.specs.declared.reading.Rest.{Rest}
-use Rattle.sim_scenario.specs.Scenario.{Fault, ScenarioText, first_some, key_faults, count_fault, repeated_fault, document_fault, scenario_of, read, read_document, text_fault, unknown_key, at_key, whole_fault, string_fault, list_fault, names_fault, clients_fault, is_within, out_of_range, is_seed, protocol_named, protocol_of, least_servers, whole, text_at, server_names, clients, repeated_from, first_32, known_keys, is_format_2, LinkText, Link, links, links_fault, links_between, links_of, host_fault, pair_fault, with_links, way_of, host_names}
+use Rattle.sim_scenario.specs.Scenario.{Protocol, Fault, ScenarioText, first_some, key_faults, count_fault, repeated_fault, document_fault, scenario_of, read, read_document, text_fault, unknown_key, at_key, whole_fault, string_fault, list_fault, names_fault, clients_fault, is_within, out_of_range, is_seed, place_named, protocol_of, least_servers, whole, text_at, server_names, clients, repeated_from, first_32, known_keys, is_format_2, LinkText, Link, links, links_fault, links_between, links_of, host_fault, pair_fault, with_links, way_of, host_names}
 use Rattle.sim_links.specs.declared.Way.{Way}
 use Rattle.sim_links.specs.Ways.{Ways, all}
 use Rattle.sim_scenario.proofs.Saying.{IsPart, Say, and, done, after}
@@ -28,9 +27,10 @@ seed_part : (doc : Members) → IsPart (seed_of doc) (at_key (codes "seed") doc 
 unfolding seed_of
 seed_part doc = record { same = refl }
 
-protocol_part : (doc : Members) → IsPart (protocol_in doc) (at_key (codes "protocol") doc (string_fault (λ s. is_some (protocol_named s)) 7)) (protocol_of doc)
+protocol_part : (protocols : List Protocol) (doc : Members)
+    → IsPart (protocol_in protocols doc) (at_key (codes "protocol") doc (string_fault (λ s. is_some (place_named protocols s)) 7)) (protocol_of protocols doc)
 unfolding protocol_in
-protocol_part doc = record { same = refl }
+protocol_part protocols doc = record { same = refl }
 
 number_part : (name : List ℕ) (low high : ℕ) (doc : Members) → IsPart (number_of name name low high doc) (at_key name doc (whole_fault (is_within low high) out_of_range)) (whole name doc)
 unfolding number_of
@@ -48,10 +48,10 @@ clients_part : (names : List (List ℕ)) (doc : Members)
 unfolding clients_of
 clients_part names doc = record { same = refl }
 
-count_part : (protocol : Protocol) (servers hosts : ℕ)
-    → IsPart (count_of protocol servers hosts) (if nat_lt 32 hosts || nat_lt servers (least_servers protocol) then Some (record { number = 11; key = codes "servers" }) else None) tt
+count_part : (protocols : List Protocol) (protocol servers hosts : ℕ)
+    → IsPart (count_of protocols protocol servers hosts) (if nat_lt 32 hosts || nat_lt servers (least_servers protocols protocol) then Some (record { number = 11; key = codes "servers" }) else None) tt
 unfolding count_of
-count_part protocol servers hosts = record { same = refl }
+count_part protocols protocol servers hosts = record { same = refl }
 
 differing_part : (servers : ℕ) (names : List (List ℕ))
     → IsPart (differing servers names) (option_map (λ k. record { number = 12; key = if nat_lt k servers then codes "servers" else codes "client" }) (repeated_from 0 [] names)) names
@@ -81,29 +81,29 @@ ways_part : (way : Way) (links : List Link) → IsPart (linked_ways way links) (
 unfolding linked_ways
 ways_part way links = record { same = refl }
 
-in_order : (doc : Members)
-    → Say (scenario_in doc) (option_map (λ key. record { number = 3; key = key }) (unknown_key (known_keys doc) doc) ∷ (key_faults doc ++ count_fault doc ∷ repeated_fault doc ∷ host_fault (links_of doc) ∷ pair_fault (unwrap_or (links_of doc) []) ∷ [])) (scenario_of doc)
+in_order : (protocols : List Protocol) (doc : Members)
+    → Say (scenario_in protocols doc) (option_map (λ key. record { number = 3; key = key }) (unknown_key (known_keys doc) doc) ∷ (key_faults protocols doc ++ count_fault protocols doc ∷ repeated_fault doc ∷ host_fault (links_of doc) ∷ pair_fault (unwrap_or (links_of doc) []) ∷ [])) (scenario_of protocols doc)
 unfolding scenario_in hosts_in joined_in
-in_order doc =
-    and _ (keys_part doc) (and _ (format_part doc) (and _ (seed_part doc) (and _ (protocol_part doc)
+in_order protocols doc =
+    and _ (keys_part doc) (and _ (format_part doc) (and _ (seed_part doc) (and _ (protocol_part protocols doc)
     (and _ (number_part (codes "tick") 1 60000 doc) (and _ (number_part (codes "latency_min") 0 60000 doc)
     (and _ (number_part (codes "latency_max") (whole (codes "latency_min") doc) 60000 doc) (and _ (number_part (codes "loss") 0 1000 doc)
     (and _ (servers_part doc) (and _ (number_part (codes "checkpoint") 1 1024 doc) (and _ (number_part (codes "window") 1 4096 doc)
-    (and _ (clients_part (server_names doc) doc) (and _ (disk_latency_part doc) (and _ (links_part doc) (and _ (count_part _ _ _) (and _ (differing_part _ _)
+    (and _ (clients_part (server_names doc) doc) (and _ (disk_latency_part doc) (and _ (links_part doc) (and _ (count_part protocols _ _ _) (and _ (differing_part _ _)
     (and _ (placed_part (host_names doc) (links doc)) (and _ (ways_part (way_of doc) (unwrap_or (links_of doc) [])) done)))))))))))))))))
 
-read_document-checked : (doc : Members) (fault : Option Fault) → (elim fault as (λ _. Result ScenarioText Fault) [ Some f ↦ Err f | None ↦ Ok (scenario_of doc) ]) ≡ checked fault (scenario_of doc)
-read_document-checked doc None = refl
-read_document-checked doc (Some f) = refl
+read_document-checked : (protocols : List Protocol) (doc : Members) (fault : Option Fault) → (elim fault as (λ _. Result ScenarioText Fault) [ Some f ↦ Err f | None ↦ Ok (scenario_of protocols doc) ]) ≡ checked fault (scenario_of protocols doc)
+read_document-checked protocols doc None = refl
+read_document-checked protocols doc (Some f) = refl
 
 -- what a text is read as, where it is a document
-pub read_of_document : (text : List ℕ) (doc : Members) → length text ≤ 65536 → parse_document text ≡ Some doc → read text ≡ scenario_in doc
-read_of_document text doc short parsed =
-    ap (λ b. cond b (Err (text_fault 1)) (read_document (parse_document text))) (le-ltb 65536 (length text) short)
-    ∙ ap read_document parsed
-    ∙ read_document-checked doc (document_fault doc)
-    ∙ ap (λ o. checked o (scenario_of doc)) (sym (after (option_map (λ key. record { number = 3; key = key }) (unknown_key (known_keys doc) doc)) (key_faults doc) (count_fault doc ∷ repeated_fault doc ∷ host_fault (links_of doc) ∷ pair_fault (unwrap_or (links_of doc) []) ∷ [])))
-    ∙ sym (in_order doc).same
+pub read_of_document : (protocols : List Protocol) (text : List ℕ) (doc : Members) → length text ≤ 65536 → parse_document text ≡ Some doc → read protocols text ≡ scenario_in protocols doc
+read_of_document protocols text doc short parsed =
+    ap (λ b. cond b (Err (text_fault 1)) (read_document protocols (parse_document text))) (le-ltb 65536 (length text) short)
+    ∙ ap (read_document protocols) parsed
+    ∙ read_document-checked protocols doc (document_fault protocols doc)
+    ∙ ap (λ o. checked o (scenario_of protocols doc)) (sym (after (option_map (λ key. record { number = 3; key = key }) (unknown_key (known_keys doc) doc)) (key_faults protocols doc) (count_fault protocols doc ∷ repeated_fault doc ∷ host_fault (links_of doc) ∷ pair_fault (unwrap_or (links_of doc) []) ∷ [])))
+    ∙ sym (in_order protocols doc).same
 
 -- parts that say what is left of them
 pub record Ends {A : Type 0} (parts end : Result A Fault) : Type 0 where
@@ -125,36 +125,36 @@ within (Ok a) middle next e = e
 within (Err fault) middle next e = e
 
 -- what a document says after its first parts
-pub scenario_in-said : (doc : Members) (seed : List ℕ) (protocol : Protocol) (tick latency_min latency_max loss : ℕ)
-    → keys_of doc ≡ Ok tt → format_of doc ≡ Ok tt → seed_of doc ≡ Ok seed → protocol_in doc ≡ Ok protocol
+pub scenario_in-said : (protocols : List Protocol) (doc : Members) (seed : List ℕ) (protocol tick latency_min latency_max loss : ℕ)
+    → keys_of doc ≡ Ok tt → format_of doc ≡ Ok tt → seed_of doc ≡ Ok seed → protocol_in protocols doc ≡ Ok protocol
     → number_of (codes "tick") (codes "tick") 1 60000 doc ≡ Ok tick
     → number_of (codes "latency_min") (codes "latency_min") 0 60000 doc ≡ Ok latency_min
     → number_of (codes "latency_max") (codes "latency_max") latency_min 60000 doc ≡ Ok latency_max
     → number_of (codes "loss") (codes "loss") 0 1000 doc ≡ Ok loss
-    → scenario_in doc ≡ hosts_in (record { seed = seed; protocol = protocol; tick = tick; way = record { latency_min = latency_min; latency_max = latency_max; loss = loss } }) doc
+    → scenario_in protocols doc ≡ hosts_in protocols (record { seed = seed; protocol = protocol; tick = tick; way = record { latency_min = latency_min; latency_max = latency_max; loss = loss } }) doc
 unfolding scenario_in
-scenario_in-said doc seed protocol tick latency_min latency_max loss a b c d e f g h =
+scenario_in-said protocols doc seed protocol tick latency_min latency_max loss a b c d e f g h =
     (given _ a (given _ b (given _ c (given _ d (given _ e (given _ f (given _ g (given _ h last)))))))).same
 
 -- what it says after its hosts and links
-pub hosts_in-said : (opening : Opening) (doc : Members) (servers : List (List ℕ)) (checkpoint window : ℕ) (hosts : List (List ℕ)) (operations : List ℕ) (disk_latency : ℕ) (texts : List LinkText)
+pub hosts_in-said : (protocols : List Protocol) (opening : Opening) (doc : Members) (servers : List (List ℕ)) (checkpoint window : ℕ) (hosts : List (List ℕ)) (operations : List ℕ) (disk_latency : ℕ) (texts : List LinkText)
     → servers_of doc ≡ Ok servers
     → number_of (codes "checkpoint") (codes "checkpoint") 1 1024 doc ≡ Ok checkpoint
     → number_of (codes "window") (codes "window") 1 4096 doc ≡ Ok window
     → clients_of servers doc ≡ Ok (both hosts operations)
     → disk_latency_of doc ≡ Ok disk_latency
     → links_in doc ≡ Ok texts
-    → hosts_in opening doc ≡ joined_in opening (length servers) hosts operations (record { checkpoint = checkpoint; window = window; disk_latency = disk_latency }) texts
+    → hosts_in protocols opening doc ≡ joined_in protocols opening (length servers) hosts operations (record { checkpoint = checkpoint; window = window; disk_latency = disk_latency }) texts
 unfolding hosts_in
-hosts_in-said opening doc servers checkpoint window hosts operations disk_latency texts a b c d e f =
+hosts_in-said protocols opening doc servers checkpoint window hosts operations disk_latency texts a b c d e f =
     (given _ a (given _ b (given _ c (given _ d (given _ e (given _ f last)))))).same
 
 -- what it says where the hosts and the links are joined
-pub joined_in-said : (opening : Opening) (servers : ℕ) (hosts : List (List ℕ)) (operations : List ℕ) (rest : Rest) (texts : List LinkText) (names : List (List ℕ)) (ways : Ways)
-    → count_of opening.protocol servers (length hosts) ≡ Ok tt
+pub joined_in-said : (protocols : List Protocol) (opening : Opening) (servers : ℕ) (hosts : List (List ℕ)) (operations : List ℕ) (rest : Rest) (texts : List LinkText) (names : List (List ℕ)) (ways : Ways)
+    → count_of protocols opening.protocol servers (length hosts) ≡ Ok tt
     → differing servers hosts ≡ Ok names
     → ways_in opening.way names texts ≡ Ok ways
-    → joined_in opening servers hosts operations rest texts ≡ Ok (record {
+    → joined_in protocols opening servers hosts operations rest texts ≡ Ok (record {
       names = names;
       protocol = opening.protocol;
       seed = opening.seed;
@@ -167,32 +167,32 @@ pub joined_in-said : (opening : Opening) (servers : ℕ) (hosts : List (List ℕ
       window = rest.window;
     })
 unfolding joined_in ways_in
-joined_in-said opening servers hosts operations rest texts names ways a b c =
+joined_in-said protocols opening servers hosts operations rest texts names ways a b c =
     (given _ a (given _ b (within (placed names texts) (linked_ways opening.way) _ (given _ c last)))).same
 
 -- where their number is not that of a scenario
-pub joined_in-count : (opening : Opening) (servers : ℕ) (hosts : List (List ℕ)) (operations : List ℕ) (rest : Rest) (texts : List LinkText) (fault : Fault)
-    → count_of opening.protocol servers (length hosts) ≡ Err fault
-    → joined_in opening servers hosts operations rest texts ≡ Err fault
+pub joined_in-count : (protocols : List Protocol) (opening : Opening) (servers : ℕ) (hosts : List (List ℕ)) (operations : List ℕ) (rest : Rest) (texts : List LinkText) (fault : Fault)
+    → count_of protocols opening.protocol servers (length hosts) ≡ Err fault
+    → joined_in protocols opening servers hosts operations rest texts ≡ Err fault
 unfolding joined_in
-joined_in-count opening servers hosts operations rest texts fault a = (stopped _ a).same
+joined_in-count protocols opening servers hosts operations rest texts fault a = (stopped _ a).same
 
 -- where two names are equal
-pub joined_in-equal : (opening : Opening) (servers : ℕ) (hosts : List (List ℕ)) (operations : List ℕ) (rest : Rest) (texts : List LinkText) (fault : Fault)
-    → count_of opening.protocol servers (length hosts) ≡ Ok tt
+pub joined_in-equal : (protocols : List Protocol) (opening : Opening) (servers : ℕ) (hosts : List (List ℕ)) (operations : List ℕ) (rest : Rest) (texts : List LinkText) (fault : Fault)
+    → count_of protocols opening.protocol servers (length hosts) ≡ Ok tt
     → differing servers hosts ≡ Err fault
-    → joined_in opening servers hosts operations rest texts ≡ Err fault
+    → joined_in protocols opening servers hosts operations rest texts ≡ Err fault
 unfolding joined_in
-joined_in-equal opening servers hosts operations rest texts fault a b = (given _ a (stopped _ b)).same
+joined_in-equal protocols opening servers hosts operations rest texts fault a b = (given _ a (stopped _ b)).same
 
 -- where the links between them make no ways
-pub joined_in-astray : (opening : Opening) (servers : ℕ) (hosts : List (List ℕ)) (operations : List ℕ) (rest : Rest) (texts : List LinkText) (names : List (List ℕ)) (fault : Fault)
-    → count_of opening.protocol servers (length hosts) ≡ Ok tt
+pub joined_in-astray : (protocols : List Protocol) (opening : Opening) (servers : ℕ) (hosts : List (List ℕ)) (operations : List ℕ) (rest : Rest) (texts : List LinkText) (names : List (List ℕ)) (fault : Fault)
+    → count_of protocols opening.protocol servers (length hosts) ≡ Ok tt
     → differing servers hosts ≡ Ok names
     → ways_in opening.way names texts ≡ Err fault
-    → joined_in opening servers hosts operations rest texts ≡ Err fault
+    → joined_in protocols opening servers hosts operations rest texts ≡ Err fault
 unfolding joined_in ways_in
-joined_in-astray opening servers hosts operations rest texts names fault a b c =
+joined_in-astray protocols opening servers hosts operations rest texts names fault a b c =
     (given _ a (given _ b (within (placed names texts) (linked_ways opening.way) _ (stopped _ c)))).same
 
 -- a scenario with the same servers and operations

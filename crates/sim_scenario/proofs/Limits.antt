@@ -1,17 +1,18 @@
 -- A text that is accepted is within the limits.
 use Rattle.std.proofs.Common.{◌≡◌, ℕ, ◌+◌, ◌-◌, ◌<◌, ◌≤◌, zero, suc, Bool, true, false, cond, List, [], ◌∷◌, ◌++◌, length, map, replicate, get_or, set, Option, Some, None, Result, Ok, Err, refl, sym, ap, subst, ◌∙◌, codes, length-append, arith}
-use Rattle.std.specs.Prelude.{pos, negsuc, nat_lt, nat_le, ◌||◌, if◌then◌else◌}
+use Rattle.std.specs.Prelude.{pos, negsuc, nat_lt, nat_le, ◌||◌, is_some, if◌then◌else◌}
 use Rattle.std.specs.Option.{unwrap_or, option_map, option_and_then}
 use Rattle.std.proofs.lemmas.Bool.{and_parts, leb-true, ltb-false}
 use Rattle.std.proofs.lemmas.List.{length-map, length-replicate, get_or-replicate, get_or-append_right, get_or-take}
 use Rattle.toml.specs.Data.{Data, Members, same_key, string, integer, float, boolean, datetime, array, table, get_member, as_integer, as_str, as_table}
 use Rattle.toml.specs.Parse.{parse_document}
 use Rattle.std.specs.List.{AllByRecursion, position}
+use Rattle.std.specs.Str.{bytes_eq}
 use Rattle.sim_links.specs.declared.Way.{Way}
 use Rattle.sim_links.specs.Ways.{Ways, all, way, with_way, at_once, IsWay}
 use Rattle.sim_scenario.proofs.Linking.{all_some-each, between-found}
 use Rattle.sim_links.specs.Link.{direction}
-use Rattle.sim_scenario.specs.Scenario.{Fault, ScenarioText, first_some, key_faults, count_fault, repeated_fault, document_fault, scenario_of, read, read_document, text_fault, unknown_key, known_keys, client_keys, at_key, keyed, whole_fault, string_fault, list_fault, list_of, names_fault, client_fault, clients_fault, is_within, is_empty, is_name, out_of_range, whole, server_names, clients, host_names, least_servers, protocol_of, first_32, way_of, is_format_2, link_fault, links_fault, link_keys, link_text, links, links_of, link_between, host_fault, pair_fault, with_links, ways_of, LinkText, Link, wrong_type}
+use Rattle.sim_scenario.specs.Scenario.{Protocol, place_named, Fault, ScenarioText, first_some, key_faults, count_fault, repeated_fault, document_fault, scenario_of, read, read_document, text_fault, unknown_key, known_keys, client_keys, at_key, keyed, whole_fault, string_fault, list_fault, list_of, names_fault, client_fault, clients_fault, is_within, is_empty, is_name, out_of_range, whole, server_names, clients, host_names, least_servers, protocol_of, first_32, way_of, is_format_2, link_fault, links_fault, link_keys, link_text, links, links_of, link_between, host_fault, pair_fault, with_links, ways_of, LinkText, Link, wrong_type}
 use Rattle.sim_scenario.specs.Limits.{IsWithinLimits}
 
 -- the first fault of several is none: so are all
@@ -105,8 +106,8 @@ none_at (None ∷ xs) h zero = refl
 none_at (None ∷ xs) h (suc k) = none_at xs h k
 none_at (Some x ∷ xs) h k = cc
 
-abbrev faults_of : Members → List (Option Fault)
-faults_of doc = option_map (λ key. record { number = 3; key = key }) (unknown_key (known_keys doc) doc) ∷ first_some (key_faults doc) ∷ count_fault doc ∷ repeated_fault doc
+abbrev faults_of : List Protocol → Members → List (Option Fault)
+faults_of protocols doc = option_map (λ key. record { number = 3; key = key }) (unknown_key (known_keys doc) doc) ∷ first_some (key_faults protocols doc) ∷ count_fault protocols doc ∷ repeated_fault doc
     ∷ host_fault (links_of doc) ∷ pair_fault (unwrap_or (links_of doc) []) ∷ []
 
 -- the ways of links without a fault
@@ -172,9 +173,9 @@ latency_within true doc h = (whole_within (codes "disk_latency") 0 60000 out_of_
 latency_within false doc h = omega arith
 
 -- a document without a fault says a scenario within the limits
-scenario_of-limits : (doc : Members) → document_fault doc ≡ None → IsWithinLimits (scenario_of doc)
-scenario_of-limits doc h =
-    let keys = none_at (key_faults doc) (none_at (faults_of doc) h 1) in
+scenario_of-limits : (protocols : List Protocol) (doc : Members) → document_fault protocols doc ≡ None → IsWithinLimits (scenario_of protocols doc)
+scenario_of-limits protocols doc h =
+    let keys = none_at (key_faults protocols doc) (none_at (faults_of protocols doc) h 1) in
     let tick = whole_within (codes "tick") 1 60000 out_of_range doc (keys 3) in
     let latency_min = whole_within (codes "latency_min") 0 60000 out_of_range doc (keys 4) in
     let latency_max = whole_within (codes "latency_max") (whole (codes "latency_min") doc) 60000 out_of_range doc (keys 5) in
@@ -183,8 +184,8 @@ scenario_of-limits doc h =
     let checkpoint = whole_within (codes "checkpoint") 1 1024 out_of_range doc (keys 8) in
     let window = whole_within (codes "window") 1 4096 out_of_range doc (keys 9) in
     let clients_are = list_within clients_fault as_table (get_member (codes "client") doc) (no_keyed (codes "client") _ (keys 10)) in
-    let too_few = nat_lt (length (server_names doc)) (least_servers (protocol_of doc)) in
-    let many : nat_lt 32 (length (host_names doc)) ≡ false = neither _ too_few (no_count (nat_lt 32 (length (host_names doc)) || too_few) (record { number = 11; key = codes "servers" }) (none_at (faults_of doc) h 2)) in
+    let too_few = nat_lt (length (server_names doc)) (least_servers protocols (protocol_of protocols doc)) in
+    let many : nat_lt 32 (length (host_names doc)) ≡ false = neither _ too_few (no_count (nat_lt 32 (length (host_names doc)) || too_few) (record { number = 11; key = codes "servers" }) (none_at (faults_of protocols doc) h 2)) in
     let hosts : length (host_names doc) ≤ 32 = ltb-false 32 (length (host_names doc)) many in
     let operations = map (whole (codes "ops")) (clients doc) in
     let size : length (host_names doc) ≡ length (server_names doc) + length (clients doc) =
@@ -206,16 +207,58 @@ scenario_of-limits doc h =
       window = window;
     }
 
-accepted : (doc : Members) (s : ScenarioText) (fault : Option Fault) → document_fault doc ≡ fault
-    → ◌≡◌ {A = Result ScenarioText Fault} (elim fault as (λ _. Result ScenarioText Fault) [ Some f ↦ Err f | None ↦ Ok (scenario_of doc) ]) (Ok s) → IsWithinLimits s
-accepted doc s None e h = let same : scenario_of doc ≡ s = cc in subst IsWithinLimits same (scenario_of-limits doc e)
-accepted doc s (Some f) e h = cc
+place_within : (b : Bool) (o : Option ℕ) (n : ℕ) → ((k : ℕ) → o ≡ Some k → k < n) → (k : ℕ)
+    → (if b then Some 0 else option_map (λ place. place + 1) o) ≡ Some k → k < suc n
+place_within true o n below k h = let zero_is : ◌≡◌ {A = ℕ} 0 k = cc in omega (arith, zero_is)
+place_within false None n below k h = cc
+place_within false (Some place) n below k h =
+    let next : ◌≡◌ {A = ℕ} (place + 1) k = cc in
+    omega (arith, next, below place refl)
 
-read_document-limits : (o : Option Members) (s : ScenarioText) (long : Bool) → cond long (Err (text_fault 1)) (read_document o) ≡ Ok s → IsWithinLimits s
-read_document-limits o s true h = cc
-read_document-limits None s false h = cc
-read_document-limits (Some doc) s false h = accepted doc s (document_fault doc) refl h
+-- the place of a protocol is in the list
+pub place_named-within : (protocols : List Protocol) (name : List ℕ) (k : ℕ) → place_named protocols name ≡ Some k → k < length protocols
+place_named-within [] name k h = cc
+place_named-within (p ∷ ps) name k h = place_within (bytes_eq name p.name) (place_named ps name) (length ps) (place_named-within ps name) k h
+
+named_within : (n : ℕ) (o : Option ℕ) → ((k : ℕ) → o ≡ Some k → k < n) → is_some o ≡ true → unwrap_or o 0 < n
+named_within n None below h = cc
+named_within n (Some k) below h = below k refl
+
+protocol_within : (protocols : List Protocol) (o : Option Data) → string_fault (λ s. is_some (place_named protocols s)) 7 o ≡ None
+    → unwrap_or (place_named protocols (unwrap_or (option_and_then as_str o) [])) 0 < length protocols
+protocol_within protocols None h = cc
+protocol_within protocols (Some (string s)) h =
+    named_within (length protocols) (place_named protocols s) (place_named-within protocols s) (passed 7 (is_some (place_named protocols s)) h)
+protocol_within protocols (Some (integer z)) h = cc
+protocol_within protocols (Some (float x)) h = cc
+protocol_within protocols (Some (boolean b)) h = cc
+protocol_within protocols (Some (datetime d)) h = cc
+protocol_within protocols (Some (array ds)) h = cc
+protocol_within protocols (Some (table ms)) h = cc
+
+scenario_of-known : (protocols : List Protocol) (doc : Members) → document_fault protocols doc ≡ None → (scenario_of protocols doc).protocol < length protocols
+scenario_of-known protocols doc h =
+    let keys = none_at (key_faults protocols doc) (none_at (faults_of protocols doc) h 1) in
+    protocol_within protocols (get_member (codes "protocol") doc) (no_keyed (codes "protocol") _ (keys 2))
+
+module _ (protocols : List Protocol) (P : ScenarioText → Type 0) (each : (doc : Members) → document_fault protocols doc ≡ None → P (scenario_of protocols doc)) where
+  accepted : (doc : Members) (s : ScenarioText) (fault : Option Fault) → document_fault protocols doc ≡ fault
+      → ◌≡◌ {A = Result ScenarioText Fault} (elim fault as (λ _. Result ScenarioText Fault) [ Some f ↦ Err f | None ↦ Ok (scenario_of protocols doc) ]) (Ok s) → P s
+  accepted doc s None e h = let same : scenario_of protocols doc ≡ s = cc in subst P same (each doc e)
+  accepted doc s (Some f) e h = cc
+
+  read_document-each : (o : Option Members) (s : ScenarioText) (long : Bool) → cond long (Err (text_fault 1)) (read_document protocols o) ≡ Ok s → P s
+  read_document-each o s true h = cc
+  read_document-each None s false h = cc
+  read_document-each (Some doc) s false h = accepted doc s (document_fault protocols doc) refl h
 
 -- what is read is within the limits
-pub read-limits : (text : List ℕ) (s : ScenarioText) → read text ≡ Ok s → IsWithinLimits s
-read-limits text s h = read_document-limits (parse_document text) s (nat_lt 65536 (length text)) h
+pub read-limits : (protocols : List Protocol) (text : List ℕ) (s : ScenarioText) → read protocols text ≡ Ok s → IsWithinLimits s
+read-limits protocols text s h = read_document-each protocols IsWithinLimits (scenario_of-limits protocols) (parse_document text) s (nat_lt 65536 (length text)) h
+
+abbrev IsKnown : List Protocol → ScenarioText → Type 0
+IsKnown protocols s = s.protocol < length protocols
+
+-- its protocol is one of those that may be named
+pub read-known : (protocols : List Protocol) (text : List ℕ) (s : ScenarioText) → read protocols text ≡ Ok s → s.protocol < length protocols
+read-known protocols text s h = read_document-each protocols (IsKnown protocols) (scenario_of-known protocols) (parse_document text) s (nat_lt 65536 (length text)) h

@@ -6,10 +6,9 @@ use Rattle.hex.specs.Hex.{decode_of}
 use Rattle.toml.specs.Data.{Members, get_member, as_str, as_table}
 use Rattle.sim_links.specs.declared.Way.{Way}
 use Rattle.sim_links.specs.Ways.{Ways, all}
-use Rattle.sim_scenario.specs.declared.Protocol.{Protocol}
 use Rattle.sim_scenario.specs.declared.reading.Opening.{Opening}
 use Rattle.sim_scenario.specs.declared.reading.Rest.{Rest}
-use Rattle.sim_scenario.specs.Scenario.{Fault, ScenarioText, LinkText, Link, known_keys, client_keys, link_keys, is_format_2, links_fault, link_text, link_tables, links, links_between, host_fault, pair_fault, with_links, unknown_key, keyed, at_key, whole_fault, string_fault, list_fault, names_fault, clients_fault, is_name, is_within, wrong_type, out_of_range, is_seed, protocol_named, protocol_of, least_servers, whole, text_at, server_names, clients, repeated_from, first_32}
+use Rattle.sim_scenario.specs.Scenario.{Fault, ScenarioText, LinkText, Link, known_keys, client_keys, link_keys, is_format_2, links_fault, link_text, link_tables, links, links_between, host_fault, pair_fault, with_links, unknown_key, keyed, at_key, whole_fault, string_fault, list_fault, names_fault, clients_fault, is_name, is_within, wrong_type, out_of_range, is_seed, Protocol, place_named, protocol_of, least_servers, whole, text_at, server_names, clients, repeated_from, first_32}
 
 -- a value, where there is no fault
 abbrev pub checked : {A : Type 0} → Option Fault → A → Result A Fault
@@ -29,9 +28,6 @@ format_of doc = checked (at_key (codes "format") doc (whole_fault (is_within 1 2
 
 unfoldable pub seed_of : Members → Result (List ℕ) Fault
 seed_of doc = checked (at_key (codes "seed") doc (string_fault is_seed 6)) (unwrap_or (result_ok (decode_of (text_at (codes "seed") doc))) [])
-
-unfoldable pub protocol_in : Members → Result Protocol Fault
-protocol_in doc = checked (at_key (codes "protocol") doc (string_fault (λ s. is_some (protocol_named s)) 7)) (protocol_of doc)
 
 -- a number at a key, whose faults are written with another
 unfoldable pub number_of : List ℕ → List ℕ → ℕ → ℕ → Members → Result ℕ Fault
@@ -120,55 +116,60 @@ ways_in way names links = do
   between ← placed names links
   linked_ways way between
 
--- there are as many hosts, and servers, as may be
-unfoldable pub count_of : Protocol → ℕ → ℕ → Result (Unit {0}) Fault
-count_of protocol servers hosts = checked (if nat_lt 32 hosts || nat_lt servers (least_servers protocol) then Some (record { number = 11; key = codes "servers" }) else None) tt
-
 -- no two names are equal
 unfoldable pub differing : ℕ → List (List ℕ) → Result (List (List ℕ)) Fault
 differing servers names =
     checked (option_map (λ k. record { number = 12; key = if nat_lt k servers then codes "servers" else codes "client" }) (repeated_from 0 [] names)) names
 
--- how many hosts there are, their names, and the links between them
-unfoldable pub joined_in : Opening → ℕ → List (List ℕ) → List ℕ → Rest → List LinkText → Result ScenarioText Fault
-joined_in opening servers hosts operations rest links = do
-  fitting ← count_of opening.protocol servers (length hosts)
-  names ← differing servers hosts
-  between ← placed names links
-  ways ← linked_ways opening.way between
-  Ok (record {
-    names = names;
-    protocol = opening.protocol;
-    seed = opening.seed;
-    tick = opening.tick;
-    ways = ways;
-    disk_latency = rest.disk_latency;
-    servers = servers;
-    ops = first_32 (replicate servers 0 ++ operations);
-    checkpoint = rest.checkpoint;
-    window = rest.window;
-  })
+-- A text names one of these protocols.
+module _ (protocols : List Protocol) where
+  unfoldable pub protocol_in : Members → Result ℕ Fault
+  protocol_in doc = checked (at_key (codes "protocol") doc (string_fault (λ s. is_some (place_named protocols s)) 7)) (protocol_of protocols doc)
 
--- the hosts and the links, and what comes between them
-unfoldable pub hosts_in : Opening → Members → Result ScenarioText Fault
-hosts_in opening doc = do
-  servers ← servers_of doc
-  checkpoint ← number_of (codes "checkpoint") (codes "checkpoint") 1 1024 doc
-  window ← number_of (codes "window") (codes "window") 1 4096 doc
-  hosts ← clients_of servers doc
-  disk_latency ← disk_latency_of doc
-  links ← links_in doc
-  joined_in opening (length servers) hosts.0 hosts.1 (record { checkpoint = checkpoint; window = window; disk_latency = disk_latency }) links
+  -- there are as many hosts, and servers, as may be
+  unfoldable pub count_of : ℕ → ℕ → ℕ → Result (Unit {0}) Fault
+  count_of protocol servers hosts = checked (if nat_lt 32 hosts || nat_lt servers (least_servers protocols protocol) then Some (record { number = 11; key = codes "servers" }) else None) tt
 
--- what a document says, part by part
-unfoldable pub scenario_in : Members → Result ScenarioText Fault
-scenario_in doc = do
-  known ← keys_of doc
-  format ← format_of doc
-  seed ← seed_of doc
-  protocol ← protocol_in doc
-  tick ← number_of (codes "tick") (codes "tick") 1 60000 doc
-  latency_min ← number_of (codes "latency_min") (codes "latency_min") 0 60000 doc
-  latency_max ← number_of (codes "latency_max") (codes "latency_max") latency_min 60000 doc
-  loss ← number_of (codes "loss") (codes "loss") 0 1000 doc
-  hosts_in (record { seed = seed; protocol = protocol; tick = tick; way = record { latency_min = latency_min; latency_max = latency_max; loss = loss } }) doc
+  -- how many hosts there are, their names, and the links between them
+  unfoldable pub joined_in : Opening → ℕ → List (List ℕ) → List ℕ → Rest → List LinkText → Result ScenarioText Fault
+  joined_in opening servers hosts operations rest links = do
+    fitting ← count_of opening.protocol servers (length hosts)
+    names ← differing servers hosts
+    between ← placed names links
+    ways ← linked_ways opening.way between
+    Ok (record {
+      names = names;
+      protocol = opening.protocol;
+      seed = opening.seed;
+      tick = opening.tick;
+      ways = ways;
+      disk_latency = rest.disk_latency;
+      servers = servers;
+      ops = first_32 (replicate servers 0 ++ operations);
+      checkpoint = rest.checkpoint;
+      window = rest.window;
+    })
+
+  -- the hosts and the links, and what comes between them
+  unfoldable pub hosts_in : Opening → Members → Result ScenarioText Fault
+  hosts_in opening doc = do
+    servers ← servers_of doc
+    checkpoint ← number_of (codes "checkpoint") (codes "checkpoint") 1 1024 doc
+    window ← number_of (codes "window") (codes "window") 1 4096 doc
+    hosts ← clients_of servers doc
+    disk_latency ← disk_latency_of doc
+    links ← links_in doc
+    joined_in opening (length servers) hosts.0 hosts.1 (record { checkpoint = checkpoint; window = window; disk_latency = disk_latency }) links
+
+  -- what a document says, part by part
+  unfoldable pub scenario_in : Members → Result ScenarioText Fault
+  scenario_in doc = do
+    known ← keys_of doc
+    format ← format_of doc
+    seed ← seed_of doc
+    protocol ← protocol_in doc
+    tick ← number_of (codes "tick") (codes "tick") 1 60000 doc
+    latency_min ← number_of (codes "latency_min") (codes "latency_min") 0 60000 doc
+    latency_max ← number_of (codes "latency_max") (codes "latency_max") latency_min 60000 doc
+    loss ← number_of (codes "loss") (codes "loss") 0 1000 doc
+    hosts_in (record { seed = seed; protocol = protocol; tick = tick; way = record { latency_min = latency_min; latency_max = latency_max; loss = loss } }) doc

@@ -1,5 +1,5 @@
 -- The text of a scenario: a TOML document with these keys and no others, and the faults of other texts in the order in which they are looked for.
-use Rattle.std.specs.Prelude.{ℕ, ◌+◌, ◌==◌, nat_lt, nat_le, Bool, true, false, ◌&&◌, ◌||◌, ℤ, pos, negsuc, codes, List, [], ◌∷◌, ◌++◌, length, map, take, replicate, Option, Some, None, is_some, Result, Ok, Err, if◌then◌else◌}
+use Rattle.std.specs.Prelude.{ℕ, zero, suc, ◌+◌, ◌==◌, nat_lt, nat_le, Bool, true, false, ◌&&◌, ◌||◌, ℤ, pos, negsuc, codes, List, [], ◌∷◌, ◌++◌, length, map, take, replicate, Option, Some, None, is_some, Result, Ok, Err, if◌then◌else◌}
 use Rattle.std.specs.Option.{unwrap_or, option_map, option_and_then}
 use Rattle.std.specs.Result.{result_ok}
 use Rattle.std.specs.Str.{bytes_eq}
@@ -9,12 +9,10 @@ use Rattle.toml.specs.Data.{Data, Items, Members, string, integer, no_items, ite
 use Rattle.toml.specs.Parse.{parse_document}
 use Rattle.sim_links.specs.declared.Way.{Way}
 use Rattle.sim_links.specs.Ways.{Ways, all, with_way}
-use Rattle.sim_scenario.specs.declared.Protocol.{Protocol}
-use Rattle.sim_scenario.specs.declared.Protocol.TheVariants.{Echo, PrimaryBackup, Abd, TwoPhase}
 
 -- what a scenario says
 --     names            the hosts in the order of their numbers, the servers first
---     protocol
+--     protocol         its place in the list of the protocols
 --     seed             32 bytes
 --     tick             how long a tick is (ms)
 --     ways             the latencies (ms) and the loss (in a thousand) of each ordered pair of hosts
@@ -25,7 +23,7 @@ use Rattle.sim_scenario.specs.declared.Protocol.TheVariants.{Echo, PrimaryBackup
 --     window           how many events can be undone by their records
 pub record ScenarioText : Type 0 where
   pub names : List (List ℕ)
-  pub protocol : Protocol
+  pub protocol : ℕ
   pub seed : List ℕ
   pub tick : ℕ
   pub ways : Ways
@@ -40,19 +38,24 @@ pub record Fault : Type 0 where
   pub number : ℕ
   pub key : List ℕ
 
-abbrev pub least_servers : Protocol → ℕ
-least_servers Echo = 1
-least_servers PrimaryBackup = 2
-least_servers Abd = 1
-least_servers TwoPhase = 2
+-- a protocol that a scenario may name
+--     name              as it stands in the text
+--     least_servers     how many servers it needs
+pub record Protocol : Type 0 where
+  pub name : List ℕ
+  pub least_servers : ℕ
 
-abbrev pub protocol_named : List ℕ → Option Protocol
-protocol_named name =
-    if bytes_eq name (codes "echo") then Some Echo
-    else (if bytes_eq name (codes "primary_backup") then Some PrimaryBackup
-    else (if bytes_eq name (codes "abd") then Some Abd
-    else (if bytes_eq name (codes "two_phase") then Some TwoPhase
-    else None)))
+-- the place of the first protocol with a name
+abbrev pub place_named : List Protocol → List ℕ → Option ℕ
+place_named [] name = None
+place_named (p ∷ ps) name =
+    if bytes_eq name p.name then Some 0 else option_map (λ place. place + 1) (place_named ps name)
+
+-- how many servers the protocol at a place needs
+abbrev pub least_servers : List Protocol → ℕ → ℕ
+least_servers [] place = 0
+least_servers (p ∷ ps) zero = p.least_servers
+least_servers (p ∷ ps) (suc place) = least_servers ps place
 
 -- a name is 1 to 16 bytes, small letters and digits, the first a letter
 abbrev pub is_letter : ℕ → Bool
@@ -175,8 +178,9 @@ clients doc = unwrap_or (option_and_then (list_of as_table) (get_member (codes "
 abbrev pub host_names : Members → List (List ℕ)
 host_names doc = server_names doc ++ map (text_at (codes "name")) (clients doc)
 
-abbrev pub protocol_of : Members → Protocol
-protocol_of doc = unwrap_or (protocol_named (text_at (codes "protocol") doc)) Echo
+-- the place of the protocol that a document names
+abbrev pub protocol_of : List Protocol → Members → ℕ
+protocol_of protocols doc = unwrap_or (place_named protocols (text_at (codes "protocol") doc)) 0
 
 -- the way that a table says: the latencies and the loss
 abbrev pub way_of : Members → Way
@@ -269,29 +273,11 @@ ways_of doc = with_links (unwrap_or (links_of doc) []) (all (way_of doc))
 abbrev pub is_seed : List ℕ → Bool
 is_seed text = (length text == 64) && list_all is_hex_digit text
 
--- the faults of each key, in the order of the keys
 abbrev pub keyed : List ℕ → Option ℕ → Option Fault
 keyed key fault = option_map (λ number. record { number = number; key = key }) fault
 
 abbrev pub at_key : List ℕ → Members → (Option Data → Option ℕ) → Option Fault
 at_key key doc fault = keyed key (fault (get_member key doc))
-
-abbrev pub key_faults : Members → List (Option Fault)
-key_faults doc =
-    at_key (codes "format") doc (whole_fault (is_within 1 2) 8)
-    ∷ at_key (codes "seed") doc (string_fault is_seed 6)
-    ∷ at_key (codes "protocol") doc (string_fault (λ s. is_some (protocol_named s)) 7)
-    ∷ at_key (codes "tick") doc (whole_fault (is_within 1 60000) out_of_range)
-    ∷ at_key (codes "latency_min") doc (whole_fault (is_within 0 60000) out_of_range)
-    ∷ at_key (codes "latency_max") doc (whole_fault (is_within (whole (codes "latency_min") doc) 60000) out_of_range)
-    ∷ at_key (codes "loss") doc (whole_fault (is_within 0 1000) out_of_range)
-    ∷ at_key (codes "servers") doc (list_fault names_fault as_str)
-    ∷ at_key (codes "checkpoint") doc (whole_fault (is_within 1 1024) out_of_range)
-    ∷ at_key (codes "window") doc (whole_fault (is_within 1 4096) out_of_range)
-    ∷ at_key (codes "client") doc (list_fault clients_fault as_table)
-    ∷ (if is_format_2 doc then at_key (codes "disk_latency") doc (whole_fault (is_within 0 60000) out_of_range) else None)
-    ∷ (if is_format_2 doc then at_key (codes "link") doc links_fault else None)
-    ∷ []
 
 -- the first name, in the order of the hosts, that an earlier host has: its place
 abbrev pub repeated_from : ℕ → List (List ℕ) → List (List ℕ) → Option ℕ
@@ -302,45 +288,65 @@ abbrev pub repeated_fault : Members → Option Fault
 repeated_fault doc =
     option_map (λ k. record { number = 12; key = if nat_lt k (length (server_names doc)) then codes "servers" else codes "client" }) (repeated_from 0 [] (host_names doc))
 
-abbrev pub count_fault : Members → Option Fault
-count_fault doc =
-    if nat_lt 32 (length (host_names doc)) || nat_lt (length (server_names doc)) (least_servers (protocol_of doc))
-    then Some (record { number = 11; key = codes "servers" }) else None
-
-abbrev pub document_fault : Members → Option Fault
-document_fault doc = first_some
-    (option_map (λ key. record { number = 3; key = key }) (unknown_key (known_keys doc) doc)
-    ∷ first_some (key_faults doc)
-    ∷ count_fault doc
-    ∷ repeated_fault doc
-    ∷ host_fault (links_of doc)
-    ∷ pair_fault (unwrap_or (links_of doc) [])
-    ∷ [])
-
 abbrev pub first_32 : List ℕ → List ℕ
 first_32 ns = take 32 (ns ++ replicate 32 0)
-
-abbrev pub scenario_of : Members → ScenarioText
-scenario_of doc = record {
-  names = host_names doc;
-  protocol = protocol_of doc;
-  seed = unwrap_or (result_ok (decode_of (text_at (codes "seed") doc))) [];
-  tick = whole (codes "tick") doc;
-  ways = ways_of doc;
-  disk_latency = if is_format_2 doc then whole (codes "disk_latency") doc else 0;
-  servers = length (server_names doc);
-  ops = first_32 (replicate (length (server_names doc)) 0 ++ map (whole (codes "ops")) (clients doc));
-  checkpoint = whole (codes "checkpoint") doc;
-  window = whole (codes "window") doc;
-}
 
 abbrev pub text_fault : ℕ → Fault
 text_fault number = record { number = number; key = codes "text" }
 
-abbrev pub read_document : Option Members → Result ScenarioText Fault
-read_document None = Err (text_fault 2)
-read_document (Some doc) = elim (document_fault doc) [ Some fault ↦ Err fault | None ↦ Ok (scenario_of doc) ]
+-- A text names one of these protocols.
+module _ (protocols : List Protocol) where
+  -- the faults of each key, in the order of the keys
+  abbrev pub key_faults : Members → List (Option Fault)
+  key_faults doc =
+      at_key (codes "format") doc (whole_fault (is_within 1 2) 8)
+      ∷ at_key (codes "seed") doc (string_fault is_seed 6)
+      ∷ at_key (codes "protocol") doc (string_fault (λ s. is_some (place_named protocols s)) 7)
+      ∷ at_key (codes "tick") doc (whole_fault (is_within 1 60000) out_of_range)
+      ∷ at_key (codes "latency_min") doc (whole_fault (is_within 0 60000) out_of_range)
+      ∷ at_key (codes "latency_max") doc (whole_fault (is_within (whole (codes "latency_min") doc) 60000) out_of_range)
+      ∷ at_key (codes "loss") doc (whole_fault (is_within 0 1000) out_of_range)
+      ∷ at_key (codes "servers") doc (list_fault names_fault as_str)
+      ∷ at_key (codes "checkpoint") doc (whole_fault (is_within 1 1024) out_of_range)
+      ∷ at_key (codes "window") doc (whole_fault (is_within 1 4096) out_of_range)
+      ∷ at_key (codes "client") doc (list_fault clients_fault as_table)
+      ∷ (if is_format_2 doc then at_key (codes "disk_latency") doc (whole_fault (is_within 0 60000) out_of_range) else None)
+      ∷ (if is_format_2 doc then at_key (codes "link") doc links_fault else None)
+      ∷ []
 
--- what a text is read as, by its bytes
-abbrev pub read : List ℕ → Result ScenarioText Fault
-read text = if nat_lt 65536 (length text) then Err (text_fault 1) else read_document (parse_document text)
+  abbrev pub count_fault : Members → Option Fault
+  count_fault doc =
+      if nat_lt 32 (length (host_names doc)) || nat_lt (length (server_names doc)) (least_servers protocols (protocol_of protocols doc))
+      then Some (record { number = 11; key = codes "servers" }) else None
+
+  abbrev pub document_fault : Members → Option Fault
+  document_fault doc = first_some
+      (option_map (λ key. record { number = 3; key = key }) (unknown_key (known_keys doc) doc)
+      ∷ first_some (key_faults doc)
+      ∷ count_fault doc
+      ∷ repeated_fault doc
+      ∷ host_fault (links_of doc)
+      ∷ pair_fault (unwrap_or (links_of doc) [])
+      ∷ [])
+
+  abbrev pub scenario_of : Members → ScenarioText
+  scenario_of doc = record {
+    names = host_names doc;
+    protocol = protocol_of protocols doc;
+    seed = unwrap_or (result_ok (decode_of (text_at (codes "seed") doc))) [];
+    tick = whole (codes "tick") doc;
+    ways = ways_of doc;
+    disk_latency = if is_format_2 doc then whole (codes "disk_latency") doc else 0;
+    servers = length (server_names doc);
+    ops = first_32 (replicate (length (server_names doc)) 0 ++ map (whole (codes "ops")) (clients doc));
+    checkpoint = whole (codes "checkpoint") doc;
+    window = whole (codes "window") doc;
+  }
+
+  abbrev pub read_document : Option Members → Result ScenarioText Fault
+  read_document None = Err (text_fault 2)
+  read_document (Some doc) = elim (document_fault doc) [ Some fault ↦ Err fault | None ↦ Ok (scenario_of doc) ]
+
+  -- what a text is read as, by its bytes
+  abbrev pub read : List ℕ → Result ScenarioText Fault
+  read text = if nat_lt 65536 (length text) then Err (text_fault 1) else read_document (parse_document text)

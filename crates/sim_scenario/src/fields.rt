@@ -1,5 +1,5 @@
 //! The values at the keys of a table.
-ghost use Rattle.std.specs.Prelude.{◌≡◌, ◌≤◌, ℕ, ℤ, Bool, List, map, IfOk, IfErr, Some};
+ghost use Rattle.std.specs.Prelude.{◌≡◌, ◌≤◌, ℕ, ℤ, Bool, List, length, map, IfOk, IfErr, Some};
 ghost use Rattle.std.specs.Option.{option_map, option_copied};
 ghost use Rattle.std.specs.List.{list_any};
 ghost use Rattle.std.specs.Str.{bytes_eq};
@@ -9,7 +9,7 @@ ghost use Rattle.sim_scenario.specs.Faults as faults;
 ghost use Rattle.sim_scenario.specs.Scenario as scenario;
 ghost use Rattle.sim_scenario.specs.Parts as parts;
 
-use crate::Protocol;
+use crate::Protocols;
 use crate::fault::{Key, ScenarioFault};
 use std::alloc::Global;
 use toml::{Table, Value};
@@ -141,12 +141,13 @@ pub fn seed(table: &Table) -> Result<[u8; 32], ScenarioFault>
     }
 }
 
-/// The protocol.
+/// The place of the protocol among those that may be named.
 #[tactic(auto, unfolding(crate::specs::Parts::protocol_in))]
-pub fn protocol(table: &Table) -> Result<Protocol, ScenarioFault>
-    ensures { faults.Gives (λ protocol. protocol) result (parts.protocol_in (table_view table.now)) }
+pub fn protocol<P: Protocols>(table: &Table) -> Result<usize, ScenarioFault>
+    requires few { length P.listed ≤ 255 }
+    ensures { faults.Gives (λ protocol. protocol) result (parts.protocol_in P.listed (table_view table.now)) }
 {
-    match Protocol::named(text_at(table, "protocol", Key::Protocol)?) {
+    match P::named(text_at(table, "protocol", Key::Protocol)?) {
         Some(protocol) => Ok(protocol),
         None => Err(ScenarioFault::UnknownProtocol),
     }

@@ -11,7 +11,7 @@ ghost use Rattle.sim_scenario.specs.Hosts.{names_in, IsNumbered};
 
 use crate::fault::{Key, ScenarioFault};
 use crate::fields::{field, number_at, text_at, unknown_key};
-use crate::{NoMemory, Protocol};
+use crate::{NoMemory, Protocols};
 use indexmap::IndexMap;
 use std::alloc::Global;
 use toml::{Table, Value};
@@ -241,11 +241,15 @@ pub fn host_operations(servers: usize, clients: &[u16]) -> [u16; 32]
 
 /// There are at most 32 hosts, and as many servers as the protocol needs.
 #[tactic(auto, unfolding(crate::specs::Parts::count_of))]
-pub fn fitting(protocol: Protocol, servers: usize, hosts: usize) -> Result<(), ScenarioFault>
-    ensures said { faults.Gives (λ n. n) result (parts.count_of protocol servers hosts) }
+pub fn fitting<P: Protocols>(
+    protocol: usize,
+    servers: usize,
+    hosts: usize,
+) -> Result<(), ScenarioFault>
+    ensures said { faults.Gives (λ n. n) result (parts.count_of P.listed protocol servers hosts) }
     ensures few { OnOk result (hosts ≤ 32) }
 {
-    if hosts > 32 || servers < protocol.least_servers() {
+    if hosts > 32 || servers < P::least_servers(protocol) {
         return Err(ScenarioFault::HostCount);
     }
     Ok(())

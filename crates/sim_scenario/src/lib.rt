@@ -5,7 +5,8 @@
 //! and the numbers 1 to 14; docs/SCENARIO.md lists them with a text for each.
 //!
 //! ```text
-//! let scenario = sim_scenario::read(alloc, text)?;
+//! let scenario = sim_scenario::read::<Mine>(alloc, text)?;
+//! scenario.protocol              // the place of the protocol among `Mine`
 //! scenario.names.get("w")        // the number of host w
 //! scenario.tick                  // 1 to 60,000 ms
 //! ```
@@ -23,8 +24,9 @@
 //!   in hand.
 //! - A link's `source` and `target` may be any string. A string that is no name is no host, so it
 //!   is fault 13 and not fault 10.
-//! - The crate knows the protocols by name and by the number of servers that each needs, and
-//!   nothing else. It depends on no node and no world.
+//! - The crate knows no protocol. Its caller gives a list of them, a type that implements
+//!   [`Protocols`]: each has a name and a least number of servers. So a program with protocols of
+//!   its own reads the same texts with the same faults. The crate depends on no node and no world.
 #![tactic(auto)]
 
 mod fault;
@@ -33,8 +35,9 @@ mod hosts;
 mod links;
 mod reading;
 
-ghost use Rattle.std.specs.Prelude.{◌≡◌};
+ghost use Rattle.std.specs.Prelude.{◌≡◌, ◌≤◌, ◌<◌, List, length, IfSome};
 ghost use Rattle.sim_scenario.specs.Scenario as scenario;
+ghost use Rattle.sim_scenario.specs.Scenario.{Protocol};
 
 pub use fault::{Key, ScenarioFault};
 pub use hosts::{host_name, host_number, is_name};
@@ -43,38 +46,20 @@ pub use reading::read;
 use sim_links::Ways;
 pub use std::alloc::AllocError as NoMemory;
 
-/// The protocol of a scenario.
-#[derive(Clone, Copy, Debug, PartialEq, Eq)]
-pub enum Protocol {
-    Echo,
-    PrimaryBackup,
-    Abd,
-    TwoPhase,
-}
+/// The protocols that a scenario may name: a list, in which each has a place.
+pub trait Protocols {
+    /// The name of each protocol, and how many servers it needs.
+    ghost listed: { List Protocol };
 
-impl Protocol {
-    /// The protocol that a text names.
-    pub fn named(name: &str) -> Option<Protocol>
-        ensures { result ≡ scenario.protocol_named name.now }
-    {
-        match name {
-            "echo" => Some(Protocol::Echo),
-            "primary_backup" => Some(Protocol::PrimaryBackup),
-            "abd" => Some(Protocol::Abd),
-            "two_phase" => Some(Protocol::TwoPhase),
-            _ => None,
-        }
-    }
+    /// The place of the first protocol with this name, or none.
+    fn named(name: &str) -> Option<usize>
+        requires few { length listed ≤ 255 }
+        ensures is { result ≡ scenario.place_named listed name.now }
+        ensures within { IfSome result (λ place. place < length listed) };
 
-    /// How many servers the protocol needs.
-    pub fn least_servers(self) -> usize
-        ensures { result ≡ scenario.least_servers self }
-    {
-        match self {
-            Protocol::Echo | Protocol::Abd => 1,
-            Protocol::PrimaryBackup | Protocol::TwoPhase => 2,
-        }
-    }
+    /// How many servers the protocol at a place needs.
+    fn least_servers(place: usize) -> usize
+        ensures { result ≡ scenario.least_servers listed place };
 }
 
 /// What a scenario says.
@@ -82,7 +67,8 @@ impl Protocol {
 pub struct ScenarioText {
     /// The number of each host, by its name. The hosts stand in the order of their numbers, the servers first.
     pub names: IndexMap<String, u16>,
-    pub protocol: Protocol,
+    /// The place of the protocol in the list of those that may be named.
+    pub protocol: usize,
     pub seed: [u8; 32],
     /// How long a tick is, 1 to 60,000 ms.
     pub tick: u32,

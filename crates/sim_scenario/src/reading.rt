@@ -1,5 +1,5 @@
 //! The whole text of a scenario.
-ghost use Rattle.std.specs.Prelude.{◌≡◌, ◌≢◌, ◌+◌, IfOk, IfErr, Ok, Err, map, string_bytes, vec_len};
+ghost use Rattle.std.specs.Prelude.{◌≡◌, ◌≢◌, ◌≤◌, ◌<◌, ◌+◌, length, IfOk, IfErr, Ok, Err, map, string_bytes, vec_len};
 ghost use Rattle.toml.specs.View.{table_view};
 ghost use Rattle.sim_scenario.specs.Faults as faults;
 ghost use Rattle.sim_scenario.specs.Hosts.{IsNumbered};
@@ -13,7 +13,7 @@ use crate::fault::{Key, ScenarioFault};
 use crate::fields::{disk_latency, format, known_keys, number, protocol, seed};
 use crate::hosts::{Hosts, all_hosts, fitting, host_operations, number_hosts, server_names};
 use crate::links::{LinkText, links, ways};
-use crate::{Protocol, ScenarioText};
+use crate::{Protocols, ScenarioText};
 use sim_links::Way;
 use std::alloc::Global;
 use toml::Table;
@@ -24,17 +24,19 @@ const MAX_TEXT: usize = 65_536;
 /// Reads the text of a scenario. An error is the first fault of the text, in the order of the format's description, or
 /// `NoMemory` where memory was refused before the text was read to its first fault or its end. What is read is within the
 /// limits of a run.
-pub fn read(alloc: Global, text: &str) -> Result<ScenarioText, ScenarioFault>
-    ensures accepted { IfOk result (λ s. scenario.read text.now ≡ Ok (seen s)) }
-    ensures refused { IfErr result (λ e. e ≢ ScenarioFault.NoMemory → scenario.read text.now ≡ Err (faults.fault_of e)) }
+pub fn read<P: Protocols>(alloc: Global, text: &str) -> Result<ScenarioText, ScenarioFault>
+    requires few { length P.listed ≤ 255 }
+    ensures accepted { IfOk result (λ s. scenario.read P.listed text.now ≡ Ok (seen s)) }
+    ensures refused { IfErr result (λ e. e ≢ ScenarioFault.NoMemory → scenario.read P.listed text.now ≡ Err (faults.fault_of e)) }
     ensures numbered { IfOk result (λ s. IsNumbered s.names) }
     ensures within { IfOk result (λ s. IsWithinLimits (seen s)) }
+    ensures known { IfOk result (λ s. s.protocol < length P.listed) }
 {
     if text.len() > MAX_TEXT {
         return Err(ScenarioFault::TooLong);
     }
     match toml::table_from_str(alloc, text) {
-        Ok(table) => read_table(alloc, &table),
+        Ok(table) => read_table::<P>(alloc, &table),
         Err(error) => {
             if error.is_memory() {
                 Err(ScenarioFault::NoMemory)
@@ -49,7 +51,7 @@ pub fn read(alloc: Global, text: &str) -> Result<ScenarioText, ScenarioFault>
 #[derive(Drop)]
 struct Opening {
     seed: [u8; 32],
-    protocol: Protocol,
+    protocol: usize,
     tick: u32,
     way: Way,
 }
@@ -64,14 +66,15 @@ struct Rest {
 
 // Reads what comes first, and then the hosts.
 #[tactic(auto, unfolding(crate::specs::Parts::scenario_in))]
-fn read_table(alloc: Global, table: &Table) -> Result<ScenarioText, ScenarioFault>
-    ensures said { faults.Gives seen result (parts.scenario_in (table_view table.now)) }
+fn read_table<P: Protocols>(alloc: Global, table: &Table) -> Result<ScenarioText, ScenarioFault>
+    requires few { length P.listed ≤ 255 }
+    ensures said { faults.Gives seen result (parts.scenario_in P.listed (table_view table.now)) }
     ensures numbered { IfOk result (λ s. IsNumbered s.names) }
 {
     known_keys(alloc, table)?;
     format(table)?;
     let seed = seed(table)?;
-    let protocol = protocol(table)?;
+    let protocol = protocol::<P>(table)?;
     let tick = number(table, Key::Tick, 1, 60_000)?;
     let latency_min = number(table, Key::LatencyMin, 0, 60_000)?;
     let latency_max = number(table, Key::LatencyMax, latency_min, 60_000)?;
@@ -87,13 +90,17 @@ fn read_table(alloc: Global, table: &Table) -> Result<ScenarioText, ScenarioFaul
         tick,
         way,
     };
-    read_hosts(alloc, table, opening)
+    read_hosts::<P>(alloc, table, opening)
 }
 
 // Reads the hosts and the links, and then joins them.
 #[tactic(auto, unfolding(crate::specs::Parts::hosts_in))]
-fn read_hosts(alloc: Global, table: &Table, opening: Opening) -> Result<ScenarioText, ScenarioFault>
-    ensures said { faults.Gives seen result (parts.hosts_in opening (table_view table.now)) }
+fn read_hosts<P: Protocols>(
+    alloc: Global,
+    table: &Table,
+    opening: Opening,
+) -> Result<ScenarioText, ScenarioFault>
+    ensures said { faults.Gives seen result (parts.hosts_in P.listed opening (table_view table.now)) }
     ensures numbered { IfOk result (λ s. IsNumbered s.names) }
 {
     let server_names = server_names(alloc, table)?;
@@ -108,12 +115,12 @@ fn read_hosts(alloc: Global, table: &Table, opening: Opening) -> Result<Scenario
         window,
         disk_latency,
     };
-    joined(alloc, opening, servers, hosts, rest, links.as_slice())
+    joined::<P>(alloc, opening, servers, hosts, rest, links.as_slice())
 }
 
 // Numbers the hosts, and places the links between them.
 #[tactic(auto, unfolding(crate::specs::Parts::joined_in))]
-fn joined(
+fn joined<P: Protocols>(
     alloc: Global,
     opening: Opening,
     servers: usize,
@@ -123,7 +130,7 @@ fn joined(
 ) -> Result<ScenarioText, ScenarioFault>
     requires counted { vec_len hosts.names ≡ servers + vec_len hosts.operations }
     ensures said { faults.Gives seen result
-        (parts.joined_in opening servers (map string_bytes hosts.names.items) hosts.operations.items rest (map link_said links.now)) }
+        (parts.joined_in P.listed opening servers (map string_bytes hosts.names.items) hosts.operations.items rest (map link_said links.now)) }
     ensures numbered { IfOk result (λ s. IsNumbered s.names) }
 {
     let Opening {
@@ -132,7 +139,7 @@ fn joined(
         tick,
         way,
     } = opening;
-    fitting(protocol, servers, hosts.names.len())?;
+    fitting::<P>(protocol, servers, hosts.names.len())?;
     let ops = host_operations(servers, hosts.operations.as_slice());
     let names = number_hosts(alloc, hosts.names, servers)?;
     let ways = ways(alloc, way, &names, links)?;

@@ -17,7 +17,7 @@ const NO_HOST: u16 = 65_535;
 /// The number that stands for a probe that is not there.
 const NO_PROBE: u8 = 255;
 
-/// The names of the hosts, with their numbers, and of the probes, in the order of their numbers: at most 16.
+/// The names of the hosts, with their numbers, and of the probes, in the order of their numbers: at most 255.
 #[derive(Drop)]
 pub struct Names {
     hosts: IndexMap<String, u16>,
@@ -33,7 +33,7 @@ impl Model for Names {
 
     ghost view = { λ n. record { hosts = names_in n.hosts; probes = map string_bytes n.probes.items } };
 
-    ghost invariant = { λ n. IsNumbered n.hosts × (length n.probes.items ≤ 16) };
+    ghost invariant = { λ n. IsNumbered n.hosts × (length n.probes.items ≤ 255) };
 }
 
 /// A word as a text, where it is a name: 1 to 16 small letters and digits, the first a letter.
@@ -72,10 +72,10 @@ fn name_of(names: &[String], number: usize) -> &str
 }
 
 impl Names {
-    /// The names of hosts, with their numbers, and of at most 16 probes.
+    /// The names of hosts, with their numbers, and of at most 255 probes.
     pub fn new(hosts: IndexMap<String, u16>, probes: Vec<String>) -> Names
         requires hosts { IsNumbered hosts }
-        requires probes { length probes.items ≤ 16 }
+        requires probes { length probes.items ≤ 255 }
         ensures { result ≡ record { hosts = names_in hosts; probes = map string_bytes probes.items } }
     {
         Names { hosts, probes }

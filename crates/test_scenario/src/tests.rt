@@ -8,6 +8,7 @@
 //! * `faults_and_names`: what a fault prints, the number of want of memory, and which names are names.
 
 mod links;
+mod protocols;
 mod rows;
 mod said;
 mod texts;
@@ -15,7 +16,7 @@ mod texts;
 use links::{LINES_2, both_formats, ways_of_links};
 use said::{names_are, same, scenario, ways_are};
 use sim_links::Way;
-use sim_scenario::{Protocol, ScenarioFault, ScenarioText, is_name};
+use sim_scenario::{ScenarioFault, ScenarioText, is_name};
 use std::alloc::{AllocError, Global};
 use std::test::Fail;
 use texts::{LINES, is_answered, padded, rows_hold, text_with, with_crlf};
@@ -116,7 +117,7 @@ const OPS: [u16; 32] = [
 ];
 
 fn says_the_numbers(said: &ScenarioText) -> Result<(), Fail> {
-    same(&said.protocol, &Protocol::Echo, "protocol")?;
+    same(&said.protocol, &0, "protocol")?;
     same(&said.tick, &17, "tick")?;
     same(&said.disk_latency, &0, "disk_latency")?;
     same(&said.servers, &2, "servers")?;

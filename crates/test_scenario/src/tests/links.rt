@@ -5,7 +5,7 @@ ghost use Rattle.sim_scenario.specs.Hosts.{IsNumbered};
 use super::said::{names_are, same, scenario, ways_are};
 use super::texts::{LINES, text_with};
 use sim_links::Way;
-use sim_scenario::{Protocol, ScenarioText};
+use sim_scenario::ScenarioText;
 use std::alloc::Global;
 use std::test::Fail;
 
@@ -401,7 +401,7 @@ fn say_the_same(two: &ScenarioText, one: &ScenarioText) -> Result<(), Fail>
 pub fn ways_of_links(alloc: Global) -> Result<(), Fail> {
     let text = text_with(alloc, LINES_2, TWO_LINKS)?;
     let said = scenario(alloc, text.as_str())?;
-    same(&said.protocol, &Protocol::TwoPhase, "protocol")?;
+    same(&said.protocol, &3, "protocol")?;
     same(&said.disk_latency, &5, "disk_latency")?;
     let quick = Way {
         latency_min: 1,

@@ -3,6 +3,7 @@
 ghost use Rattle.std.specs.Prelude.{IfOk};
 ghost use Rattle.sim_scenario.specs.Hosts.{IsNumbered};
 
+use super::protocols::Shipped;
 use indexmap::IndexMap;
 use sim_links::{Way, Ways};
 use sim_scenario::{ScenarioText, host_name, host_number, read};
@@ -22,7 +23,7 @@ pub fn same<T: PartialEq + Debug>(seen: &T, wanted: &T, what: &str) -> Result<()
 pub fn scenario(alloc: Global, text: &str) -> Result<ScenarioText, Fail>
     ensures { IfOk result (λ s. IsNumbered s.names) }
 {
-    match read(alloc, text) {
+    match read::<Shipped>(alloc, text) {
         Ok(said) => Ok(said),
         Err(fault) => Err(Fail::new(fault.key())),
     }

@@ -1,5 +1,6 @@
 //! Texts, and what is answered to them.
 
+use super::protocols::Shipped;
 use sim_scenario::read;
 use std::alloc::{AllocError, Global};
 use std::test::Fail;
@@ -78,7 +79,7 @@ pub fn padded(alloc: Global, len: usize, end: &str) -> Result<String, AllocError
 
 /// Whether the text is refused with this number and key, or is a scenario where `0` is wanted.
 pub fn is_answered(alloc: Global, text: &str, wanted: &str) -> bool {
-    match read(alloc, text) {
+    match read::<Shipped>(alloc, text) {
         Ok(_) => wanted == "0",
         Err(fault) => {
             let (number, key) = wanted.split_once(' ').unwrap_or((wanted, ""));

@@ -1,0 +1,5 @@
+pub mod RaftLog
+pub mod Raft
+pub mod RaftProbes
+pub mod RaftRecords
+pub mod Reacting

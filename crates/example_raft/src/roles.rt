@@ -1,0 +1,153 @@
+use crate::Rules;
+use sim_hosts::{Boxed, HostSet};
+use sim_node::Setup;
+
+/// A value in the log, with the term of the leader that put it there. No entry has the term 0.
+#[derive(Clone, Copy, Debug, PartialEq, Eq)]
+pub struct Entry {
+    pub term: u64,
+    pub value: u64,
+}
+
+/// A candidate's request for a vote: its term, how many entries its log has, and the term of the
+/// last of them.
+#[derive(Clone, Copy, Debug, PartialEq, Eq)]
+pub struct Ask {
+    pub term: u64,
+    pub len: u8,
+    pub last: u64,
+}
+
+/// What a leader of this term tells: after `prev` entries, the last of them of the term `before`,
+/// stands this entry, if any. `commit` entries are committed.
+#[derive(Clone, Copy, Debug, PartialEq, Eq)]
+pub struct Append {
+    pub term: u64,
+    pub prev: u8,
+    pub before: u64,
+    pub entry: Option<Entry>,
+    pub commit: u8,
+}
+
+/// What a follower answers in a term: its log is the leader's up to `at` entries, or else the
+/// leader is to try again after `at` entries.
+#[derive(Clone, Copy, Debug, PartialEq, Eq)]
+pub struct Ack {
+    pub agrees: bool,
+    pub at: u8,
+    pub term: u64,
+}
+
+/// A message. A client's value is 1000 times the client's number, and the number of its operation,
+/// counted from 1.
+#[derive(Clone, Copy, Debug, PartialEq, Eq)]
+pub enum Message {
+    /// A client asks to commit a value.
+    Put(u64),
+    /// A value is committed.
+    Fin(u64),
+    /// This server leads: ask it.
+    Try(u16),
+    /// A candidate asks for a vote.
+    RequestVote(Ask),
+    /// A server is for the candidate of this term, or isn't.
+    Vote(bool, u64),
+    /// A leader tells of its log.
+    Append(Append),
+    /// A follower answers its leader.
+    Appended(Ack),
+}
+
+/// A client: the operation that it waits for, counted from 1, and the server that it asks.
+#[derive(Clone, Copy, Debug, PartialEq, Eq)]
+pub struct Client {
+    pub next: u64,
+    pub server: u16,
+}
+
+/// What a server is in its term.
+#[derive(Clone, Copy, Debug, PartialEq, Eq)]
+pub enum Rank {
+    Follower,
+    Candidate,
+    Leader,
+}
+
+/// What a server is, but for its log and what it knows of the others.
+#[derive(Clone, Copy, Debug, PartialEq, Eq)]
+pub struct Standing {
+    pub term: u64,
+    /// For whom it has voted in this term.
+    pub voted: Option<u16>,
+    pub rank: Rank,
+    /// Whom it knows to lead this term.
+    pub leader: Option<u16>,
+    /// Who has voted for it.
+    pub votes: HostSet,
+    /// How many entries its log has.
+    pub len: u8,
+    /// How many of them are known to be the leader's.
+    pub matched: u8,
+    /// How many of them are known to be committed.
+    pub commit: u8,
+    /// How many syncs it waits for.
+    pub unsure: u64,
+}
+
+/// How many entries a host has acknowledged in a term.
+#[derive(Clone, Copy, Debug, PartialEq, Eq)]
+pub struct Peer {
+    pub term: u64,
+    pub has: u8,
+}
+
+/// A server. What stands in `log` from its length on has no meaning; nor has what it knows of a
+/// peer in another term.
+#[derive(Clone, Copy, Debug)]
+pub struct Server {
+    pub standing: Standing,
+    pub log: [Entry; 64],
+    pub peers: [Peer; 32],
+}
+
+/// What a server has at hand when it reacts: the rules that it follows, the setup of the cluster,
+/// its number, and the random word.
+#[derive(Clone, Copy, Debug)]
+pub struct Context {
+    pub rules: Rules,
+    pub setup: Setup,
+    pub me: u16,
+    pub word: u32,
+}
+
+/// What a host is.
+#[derive(Drop)]
+pub enum Role {
+    Client(Client),
+    Server(Boxed<Server>),
+}
+
+/// The state of a host.
+#[derive(Drop)]
+pub struct State {
+    pub setup: Setup,
+    pub me: u16,
+    pub role: Role,
+}
+
+/// What a reaction has changed of a log or of what is known of the others: what stood there before.
+#[derive(Clone, Copy, Debug, PartialEq, Eq)]
+pub enum Change {
+    Nothing,
+    /// This place of the log held this entry.
+    Entry(u8, Entry),
+    /// This host had acknowledged so much.
+    Peer(u16, Peer),
+}
+
+/// The record of a reaction: what the host was before it, as far as that may have changed.
+#[derive(Clone, Copy, Debug, PartialEq, Eq)]
+pub enum RaftUndo {
+    Client(Client),
+    Server { standing: Standing, change: Change },
+}

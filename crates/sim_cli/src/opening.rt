@@ -1,0 +1,144 @@
+//! What comes before a task: the scenario is read, and its fault is told.
+ghost use Rattle.std.specs.Prelude.{◌≡◌, ◌≤◌, ◌<◌, ℕ, List, Some, length, map, vec_len};
+ghost use Rattle.std.specs.Prelude.{IfOk, IfErr, string_bytes};
+ghost use Rattle.std.specs.Io.KnownBytes.{prepend_known};
+ghost use Rattle.sim_lines.specs.Waiting.{CountsReads};
+ghost use Rattle.sim_scenario.specs.Hosts.{IsNumbered, names_in};
+ghost use Rattle.sim_scenario.specs.Limits.{IsWithinLimits};
+ghost use Rattle.sim_scenario.specs.Seen.{seen};
+ghost use Rattle.sim_cli.specs.Answers.{Writes};
+ghost use Rattle.sim_cli.specs.Opens.{IsNotOpened, IsOpened, WritesFault};
+ghost use Rattle.sim_cli.specs.Play.{names_of, scenario};
+ghost use Rattle.sim_cli.specs.Subjects.{nodes_by};
+
+use crate::scenario::{WasRead, read_scenario};
+use crate::status::{Answered, Status};
+use crate::subjects::Subjects;
+use sim_lines::{Ahead, HeadError, put, read_head};
+use sim_node::Setup;
+use sim_scenario::ScenarioText;
+use sim_script::Names;
+use sim_world::Scenario;
+use std::alloc::Global;
+use std::io::{Read, Write};
+
+/// A scenario that was read: the place of its protocol, its values, and the names of its hosts and
+/// probes.
+#[derive(Drop)]
+pub struct Opened {
+    pub protocol: usize,
+    pub scenario: Scenario,
+    pub names: Names,
+}
+
+/// The scenario of a run and the names, by what was read and the names of the probes, in the order
+/// of their numbers.
+pub fn set_up(text: ScenarioText, probes: Vec<String>) -> (Scenario, Names)
+    requires numbered { IsNumbered text.names }
+    requires within { IsWithinLimits (seen text) }
+    requires few { vec_len probes ≤ 255 }
+    ensures scenario { result.0 ≡ scenario (seen text) }
+    ensures names { result.1
+        ≡ record { hosts = names_in text.names; probes = map string_bytes probes.items } }
+{
+    let setup = Setup {
+        servers: text.servers,
+        hosts: text.names.len() as u16,
+        ops: text.ops,
+    };
+    let Ok(scenario) = Scenario::new(
+        text.seed,
+        text.tick,
+        text.ways,
+        text.disk_latency,
+        setup,
+        text.checkpoint,
+        text.window,
+    ) else {
+        unreachable!()
+    };
+    (scenario, Names::new(text.names, probes))
+}
+
+/// Writes a text, and flushes the writer. If the writer fails, it was given a part from the text's
+/// front.
+pub fn write_text<W: Write>(writer: &mut W, text: &[u8]) -> Answered
+    ensures { Writes (W.contents writer.old) (W.contents writer.new) text.now result }
+{
+    match put(writer, text) {
+        Ok(()) => match writer.flush() {
+            Ok(()) => Answered::Well,
+            Err(_) => Answered::WriterFailed,
+        },
+        Err(_) => Answered::WriterFailed,
+    }
+}
+
+// Writes the line of a scenario's fault.
+fn write_fault<W: Write>(writer: &mut W, line: &[u8]) -> Status
+    ensures { WritesFault (W.contents writer.old) (W.contents writer.new) line.now result }
+{
+    match write_text(writer, line) {
+        Answered::Well => Status::BadScenario,
+        Answered::WriterFailed => Status::WriterFailed,
+        Answered::MemoryWanted => unreachable!(),
+    }
+}
+
+// What a scenario that was read says, for nodes of its protocol. The only error is want of memory.
+fn ready<L: Subjects>(alloc: Global, text: ScenarioText) -> Result<Opened, Status>
+    requires numbered { IsNumbered text.names }
+    requires within { IsWithinLimits (seen text) }
+    requires known { text.protocol < length L.listed }
+    ensures protocol { IfOk result (λ o. o.protocol ≡ text.protocol) }
+    ensures scenario { IfOk result (λ o. o.scenario ≡ scenario (seen text)) }
+    ensures names { IfOk result (λ o. o.names ≡ names_of (nodes_by L.nodes) (seen text)) }
+    ensures wants { IfErr result (λ status. status ≡ Status.MemoryWanted) }
+{
+    let protocol = text.protocol;
+    let Ok(probes) = L::probe_names(alloc, protocol) else {
+        return Err(Status::MemoryWanted);
+    };
+    let (scenario, names) = set_up(text, probes);
+    Ok(Opened {
+        protocol,
+        scenario,
+        names,
+    })
+}
+
+/// Reads a scenario that names one of the subjects, up to the line `---` after it. An error is the
+/// status with which a program ends that has no scenario. Then the line of the scenario's fault was
+/// written, or a part of it if the writer failed, or nothing if the reader failed or memory was
+/// wanted.
+pub fn open<L: Subjects, R: Read, W: Write>(
+    alloc: Global,
+    reader: &mut R,
+    ahead: &mut Ahead,
+    writer: &mut W,
+) -> Result<Opened, Status>
+    requires few { length L.listed ≤ 255 }
+    ensures opened { (given : List ℕ) →
+        prepend_known ahead.old.bytes (R.remaining reader.old) ≡ Some given →
+        IfOk result (IsOpened L.listed (nodes_by L.nodes) given
+        (prepend_known ahead.new.bytes (R.remaining reader.new))) }
+    ensures known { IfOk result (λ o. o.protocol < length L.listed) }
+    ensures same { IfOk result (λ _. W.contents writer.new ≡ W.contents writer.old) }
+    ensures not { (given : List ℕ) →
+        prepend_known ahead.old.bytes (R.remaining reader.old) ≡ Some given →
+        IfErr result (IsNotOpened L.listed given ahead.new (R.remaining reader.new)
+        (W.contents writer.old) (W.contents writer.new)) }
+    ensures counts { CountsReads ahead.old ahead.new
+        (R.remaining reader.old) (R.remaining reader.new) }
+{
+    let text = match read_head(alloc, reader, ahead) {
+        Ok(text) => text,
+        Err(HeadError::Failed) => return Err(Status::ReaderFailed),
+        Err(HeadError::NoMemory) => return Err(Status::MemoryWanted),
+    };
+    match read_scenario::<L>(alloc, text.as_slice()) {
+        WasRead::Scenario(text) => ready::<L>(alloc, text),
+        WasRead::Fault(line) => Err(write_fault(writer, line.as_bytes())),
+        WasRead::NoMemory => Err(Status::MemoryWanted),
+    }
+}

@@ -1,0 +1,123 @@
+//! The four protocols that ship.
+ghost use Rattle.std.specs.Prelude.{codes};
+ghost use Rattle.sim_protocols.specs.Probes.{probe_names};
+ghost use Rattle.sim_protocols.specs.declared.Protocol.TheVariants as shipped;
+
+use crate::subjects::{NoSubject, Subject, With};
+use sim_node::Node;
+use sim_protocols::{AbdRegister, Echo, PrimaryBackup, TwoPhase};
+use sim_tally::Tally;
+
+/// The protocols that ship, in the order of their places.
+pub type Shipped = With<
+    EchoSubject,
+    With<BackupSubject, With<AbdSubject, With<CommitSubject, NoSubject>>>,
+>;
+
+/// Echo: a server answers pings.
+pub struct EchoSubject;
+
+/// A primary with a backup.
+pub struct BackupSubject;
+
+/// The register of Attiya, Bar-Noy and Dolev.
+pub struct AbdSubject;
+
+/// Two-phase commit.
+pub struct CommitSubject;
+
+impl Subject for EchoSubject {
+    type Node = Echo<Tally>;
+
+    type Msg = <Echo<Tally> as Node>::Msg;
+
+    type Undo = <Echo<Tally> as Node>::Undo;
+
+    ghost protocol = { record { name = codes "echo"; least_servers = 1 } };
+
+    ghost probes = { probe_names shipped.Echo };
+
+    fn name() -> &'static str {
+        "echo"
+    }
+
+    fn least_servers() -> usize {
+        1
+    }
+
+    fn probe_names() -> &'static [&'static str] {
+        &["next", "served"]
+    }
+}
+
+impl Subject for BackupSubject {
+    type Node = PrimaryBackup<Tally>;
+
+    type Msg = <PrimaryBackup<Tally> as Node>::Msg;
+
+    type Undo = <PrimaryBackup<Tally> as Node>::Undo;
+
+    ghost protocol = { record { name = codes "primary_backup"; least_servers = 2 } };
+
+    ghost probes = { probe_names shipped.PrimaryBackup };
+
+    fn name() -> &'static str {
+        "primary_backup"
+    }
+
+    fn least_servers() -> usize {
+        2
+    }
+
+    fn probe_names() -> &'static [&'static str] {
+        &["next", "applied"]
+    }
+}
+
+impl Subject for AbdSubject {
+    type Node = AbdRegister<Tally>;
+
+    type Msg = <AbdRegister<Tally> as Node>::Msg;
+
+    type Undo = <AbdRegister<Tally> as Node>::Undo;
+
+    ghost protocol = { record { name = codes "abd"; least_servers = 1 } };
+
+    ghost probes = { probe_names shipped.AbdRegister };
+
+    fn name() -> &'static str {
+        "abd"
+    }
+
+    fn least_servers() -> usize {
+        1
+    }
+
+    fn probe_names() -> &'static [&'static str] {
+        &["next", "num", "val"]
+    }
+}
+
+impl Subject for CommitSubject {
+    type Node = TwoPhase<Tally>;
+
+    type Msg = <TwoPhase<Tally> as Node>::Msg;
+
+    type Undo = <TwoPhase<Tally> as Node>::Undo;
+
+    ghost protocol = { record { name = codes "two_phase"; least_servers = 2 } };
+
+    ghost probes = { probe_names shipped.TwoPhase };
+
+    fn name() -> &'static str {
+        "two_phase"
+    }
+
+    fn least_servers() -> usize {
+        2
+    }
+
+    fn probe_names() -> &'static [&'static str] {
+        &["next", "first"]
+    }
+}

@@ -1,0 +1,209 @@
+//! The protocols of a program, and the one place where a protocol becomes a type of nodes.
+ghost use Rattle.std.specs.Prelude.{◌≡◌, ◌≤◌, ◌<◌, ℕ, List, [], ◌∷◌, length, map, vec_len};
+ghost use Rattle.std.specs.Prelude.{IfOk, string_bytes};
+ghost use Rattle.sim_world.specs.World.{Scenario as ScenarioValue};
+ghost use Rattle.sim_world.specs.Events.{Rules, rules};
+ghost use Rattle.sim_scenario.specs.Scenario.{Protocol};
+ghost use Rattle.sim_script.specs.Script.{Text, Names as NamesValue};
+ghost use Rattle.sim_cli.specs.Play.{Nodes};
+ghost use Rattle.sim_cli.specs.Subjects.{Ports, first_or, no_nodes, nodes_with, ports};
+
+use crate::opening::Opened;
+use crate::status::Status;
+use sim_lines::Ahead;
+use sim_node::Node;
+use sim_scenario::Protocols;
+use sim_tally::Tally;
+use std::alloc::{AllocError, Global};
+use std::io::{Read, Write};
+use std::marker::PhantomData;
+
+/// What is done over nodes of any type: a play, or a search.
+pub trait Task {
+    ghost use Rattle.sim_cli.specs.declared.status.Status.{Status};
+
+    /// What must hold of the task.
+    ghost can: { Self → Type 0 };
+
+    /// What is done, by the rules of the nodes and the names of hosts and probes, from an input and
+    /// an output to those that are left.
+    ghost does: { {State Msg : Type 0} → Self → Rules State Msg → NamesValue → Ports → Ports
+        → Status → Type 0 };
+
+    /// Does it over nodes of one type, in a scenario that was read. The reader gives the script.
+    fn carry_out<N: Node<Meter = Tally> + Send + Sync, R: Read, W: Write>(
+        &self,
+        opened: &Opened,
+        reader: &mut R,
+        ahead: &mut Ahead,
+        writer: &mut W,
+    ) -> Status
+    where
+        N::Msg: Send + Sync,
+        N::Undo: Send + Sync,
+        requires { can self.now }
+        ensures { does self.now (rules N.laws N.PROBES opened.now.scenario) opened.now.names
+            (ports ahead.old (R.remaining reader.old) (W.contents writer.old))
+            (ports ahead.new (R.remaining reader.new) (W.contents writer.new)) result };
+}
+
+/// A protocol that a program plays: its name in a scenario, its nodes, and the names of their
+/// probes.
+pub trait Subject {
+    /// The nodes.
+    type Node: Node<Msg = Self::Msg, Undo = Self::Undo, Meter = Tally> + Send + Sync;
+
+    /// The messages of the nodes.
+    type Msg: Send + Sync + Drop;
+
+    /// The records of the nodes' reactions.
+    type Undo: Send + Sync + Drop;
+
+    /// The protocol's name in a scenario, and how many servers it needs.
+    ghost protocol: { Protocol };
+
+    /// The names of the probes.
+    ghost probes: { List Text };
+
+    /// The protocol's name in a scenario.
+    fn name() -> &'static str
+        ensures { result.now ≡ protocol.name };
+
+    /// How many servers the protocol needs.
+    fn least_servers() -> usize
+        ensures { result ≡ protocol.least_servers };
+
+    /// The names of the probes, in the order of their numbers: at most 255.
+    fn probe_names() -> &'static [&'static str]
+        ensures names { map (λ name. name.now) result.now ≡ probes }
+        ensures few { length result.now ≤ 255 };
+}
+
+/// The protocols that a program plays: [`NoSubject`], or a [`With`] of one and others.
+pub trait Subjects: Protocols {
+    /// The nodes of the protocol at a place, in a scenario.
+    ghost nodes: { ℕ → ScenarioValue → Nodes };
+
+    /// The names of the probes of the protocol at a place, in the order of their numbers.
+    fn probe_names(alloc: Global, place: usize) -> Result<Vec<String>, AllocError>
+        requires { place < length Self.listed }
+        ensures names { IfOk result (λ probes. (s : ScenarioValue) →
+            map string_bytes probes.items ≡ (nodes place s).probes) }
+        ensures few { IfOk result (λ probes. vec_len probes ≤ 255) };
+
+    /// Carries out a task over nodes of the protocol at a place.
+    fn carry_out<T: Task, R: Read, W: Write>(
+        place: usize,
+        task: &T,
+        opened: &Opened,
+        reader: &mut R,
+        ahead: &mut Ahead,
+        writer: &mut W,
+    ) -> Status
+        requires known { place < length Self.listed }
+        requires can { T.can task.now }
+        ensures { T.does task.now (nodes place opened.now.scenario).rules opened.now.names
+            (ports ahead.old (R.remaining reader.old) (W.contents writer.old))
+            (ports ahead.new (R.remaining reader.new) (W.contents writer.new)) result };
+}
+
+/// A list without a protocol.
+pub struct NoSubject;
+
+/// A list that begins with the subject `S`, and goes on as the list `L`.
+pub struct With<S, L> {
+    of: PhantomData<(S, L)>,
+}
+
+impl Protocols for NoSubject {
+    ghost listed = { [] };
+
+    fn named(_name: &str) -> Option<usize> {
+        None
+    }
+
+    fn least_servers(_place: usize) -> usize {
+        0
+    }
+}
+
+impl Subjects for NoSubject {
+    ghost nodes = { no_nodes };
+
+    fn probe_names(_alloc: Global, _place: usize) -> Result<Vec<String>, AllocError> {
+        unreachable!()
+    }
+
+    fn carry_out<T: Task, R: Read, W: Write>(
+        _place: usize,
+        _task: &T,
+        _opened: &Opened,
+        _reader: &mut R,
+        _ahead: &mut Ahead,
+        _writer: &mut W,
+    ) -> Status {
+        unreachable!()
+    }
+}
+
+impl<S: Subject, L: Subjects> Protocols for With<S, L> {
+    ghost listed = { S.protocol ∷ L.listed };
+
+    fn named(name: &str) -> Option<usize> {
+        if name == S::name() {
+            return Some(0);
+        }
+        match L::named(name) {
+            Some(place) => Some(place + 1),
+            None => None,
+        }
+    }
+
+    fn least_servers(place: usize) -> usize {
+        if place == 0 {
+            S::least_servers()
+        } else {
+            L::least_servers(place - 1)
+        }
+    }
+}
+
+/// The texts as strings of their own.
+fn owned(alloc: Global, texts: &[&str]) -> Result<Vec<String>, AllocError>
+    ensures texts { IfOk result (λ owned. map string_bytes owned.items
+        ≡ map (λ text. text.now) texts.now) }
+    ensures as_many { IfOk result (λ owned. vec_len owned ≡ length texts.now) }
+{
+    let mut owned = Vec::new(alloc);
+    for text in texts {
+        owned.push(String::from_str(alloc, text)?)?;
+    }
+    Ok(owned)
+}
+
+impl<S: Subject, L: Subjects> Subjects for With<S, L> {
+    ghost nodes = { first_or (nodes_with S.Node.laws S.Node.PROBES S.probes) L.nodes };
+
+    fn probe_names(alloc: Global, place: usize) -> Result<Vec<String>, AllocError> {
+        if place == 0 {
+            owned(alloc, S::probe_names())
+        } else {
+            L::probe_names(alloc, place - 1)
+        }
+    }
+
+    fn carry_out<T: Task, R: Read, W: Write>(
+        place: usize,
+        task: &T,
+        opened: &Opened,
+        reader: &mut R,
+        ahead: &mut Ahead,
+        writer: &mut W,
+    ) -> Status {
+        if place == 0 {
+            task.carry_out::<S::Node, R, W>(opened, reader, ahead, writer)
+        } else {
+            L::carry_out(place - 1, task, opened, reader, ahead, writer)
+        }
+    }
+}

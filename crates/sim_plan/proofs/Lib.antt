@@ -1,0 +1,3 @@
+mod Plans
+mod Lengths
+pub mod Runs

@@ -1,0 +1,18 @@
+-- What a forecast has yet to give.
+use Rattle.std.specs.Prelude.{◌+◌, ◌^◌, ◌<◌, ◌≤◌, List}
+use Rattle.rand_chacha.specs.ChaCha.{word_at}
+use Rattle.sim_world.specs.declared.Event.{Event}
+use Rattle.sim_plan.specs.declared.forecast.Forecast.{Forecast}
+use Rattle.sim_plan.specs.Planned.{planned_from}
+use Rattle.sim_plan.specs.Owing.{healings}
+
+abbrev pub yet_planned : Forecast → List Event
+yet_planned f =
+    planned_from (word_at 10 f.rng.key f.rng.stream) f.servers f.hosts f.spacing f.quiet f.rng.word_pos f.left (healings f.owed)
+
+-- its numbers are within the limits, and the generator does not come to its end
+pub record IsForecast (f : Forecast) : Type 0 where
+  pub servers : (1 ≤ f.servers) × (f.servers ≤ f.hosts)
+  pub hosts : (2 ≤ f.hosts) × (f.hosts ≤ 32)
+  pub spacing : 1 ≤ f.spacing
+  pub words : f.rng.word_pos + f.left < 2 ^ 68

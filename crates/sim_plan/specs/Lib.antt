@@ -1,0 +1,4 @@
+pub mod Planned
+pub mod Happening
+pub mod Owing
+pub mod Forecasting

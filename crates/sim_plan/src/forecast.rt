@@ -1,0 +1,109 @@
+//! The events that words plan, and the quiet end.
+ghost use Rattle.std.specs.Prelude.{◌≡◌, ◌∷◌, [], ◌<◌, ◌≤◌, MatchOption};
+ghost use Rattle.sim_plan.specs.Planned.{planned_by, struck};
+ghost use Rattle.sim_plan.specs.Owing.{healings};
+ghost use Rattle.sim_plan.specs.Forecasting.{yet_planned, IsForecast};
+
+use crate::owed::{Owed, new_fault};
+use rand_chacha::ChaCha20Rng;
+use rand_core::utils::NextWord;
+use sim_world::Event;
+
+/// What is planned yet.
+#[derive(Drop)]
+pub struct Forecast {
+    // What gives the words, and stands at the next one.
+    pub rng: ChaCha20Rng,
+    pub servers: u32,
+    pub hosts: u32,
+    pub spacing: u32,
+    // How many events are planned by words yet, and how many quiet steps follow.
+    pub left: u32,
+    pub quiet: u32,
+    pub owed: Owed,
+}
+
+// A fault or a healing, and the healings that are owed then.
+fn struck(servers: u32, hosts: u32, v: u32, owed: Owed) -> (Event, Owed)
+    requires servers { (1 ≤ servers) × (servers ≤ hosts) }
+    requires hosts { (2 ≤ hosts) × (hosts ≤ 32) }
+    ensures event { result.0 ≡ (struck servers hosts v (healings owed)).0 }
+    ensures owed { healings result.1 ≡ (struck servers hosts v (healings owed)).1 }
+{
+    if owed.heals(v) {
+        return owed.taken_out(v / 2);
+    }
+    let (fault, healing) = new_fault(servers, hosts, v / 2);
+    (Event::Fault(fault), owed.then(healing))
+}
+
+// What a word plans, and the healings that are owed then.
+fn planned_by(servers: u32, hosts: u32, spacing: u32, word: u32, owed: Owed) -> (Event, Owed)
+    requires servers { (1 ≤ servers) × (servers ≤ hosts) }
+    requires hosts { (2 ≤ hosts) × (hosts ≤ 32) }
+    requires spacing { 1 ≤ spacing }
+    ensures event { result.0 ≡ (planned_by servers hosts spacing word (healings owed)).0 }
+    ensures owed { healings result.1 ≡ (planned_by servers hosts spacing word (healings owed)).1 }
+{
+    if word % spacing == 0 {
+        struck(servers, hosts, word / spacing, owed)
+    } else {
+        (Event::Step, owed)
+    }
+}
+
+impl Forecast {
+    // The next event that a word plans.
+    fn next_planned(&mut self) -> Event
+        requires fine { IsForecast self.old }
+        requires some { 0 < self.old.left }
+        ensures fine { IsForecast self.new }
+        ensures event { yet_planned self.old ≡ result ∷ yet_planned self.new }
+    {
+        let word = self.rng.next_word();
+        let (event, owed) = planned_by(self.servers, self.hosts, self.spacing, word, self.owed);
+        self.left -= 1;
+        self.owed = owed;
+        event
+    }
+
+    // The next event of the quiet end.
+    fn next_quiet(&mut self) -> Option<Event>
+        requires fine { IsForecast self.old }
+        requires none { self.old.left ≡ 0 }
+        ensures fine { IsForecast self.new }
+        ensures event { MatchOption result ((yet_planned self.old ≡ []) × (self.new ≡ self.old))
+            (λ e. yet_planned self.old ≡ e ∷ yet_planned self.new) }
+    {
+        if self.quiet == 0 {
+            return None;
+        }
+        match self.owed {
+            Owed::Nothing => {
+                self.quiet -= 1;
+                Some(Event::Step)
+            }
+            Owed::One(only) => {
+                self.owed = Owed::Nothing;
+                Some(Event::Fault(only))
+            }
+            Owed::Two(older, newer) => {
+                self.owed = Owed::One(newer);
+                Some(Event::Fault(older))
+            }
+        }
+    }
+
+    /// The next event.
+    pub fn next(&mut self) -> Option<Event>
+        requires fine { IsForecast self.old }
+        ensures fine { IsForecast self.new }
+        ensures event { MatchOption result ((yet_planned self.old ≡ []) × (self.new ≡ self.old))
+            (λ e. yet_planned self.old ≡ e ∷ yet_planned self.new) }
+    {
+        if self.left == 0 {
+            return self.next_quiet();
+        }
+        Some(self.next_planned())
+    }
+}

@@ -1,0 +1,32 @@
+//! Plans faults at random: which events a numbered run has besides its steps.
+//!
+//! A [`Plan`] says how far apart faults lie, how many events are planned, and how many quiet steps
+//! follow. A [`Planner`] gives the planned events of a scenario one by one: steps, and now and then
+//! a fault or the healing of an earlier one. At most two faults wait for their healing. [`run_of`]
+//! gives the run of a scenario as a list: the planned events that can happen.
+//!
+//! The faults follow from the seed, the spacing and the numbers of servers and hosts alone. What
+//! the nodes do does not change which faults are planned.
+//!
+//! Why it is built this way:
+//!
+//! - Contracts see a planner as the list of events that it has yet to give. So a loop over a
+//!   planner is a walk along a list (`specs/Planned.antt`), and a caller needs no list.
+//! - The words come from stream 34 of the seed. The 34 streams of a world have the numbers 0 to 33,
+//!   so a plan takes no word from a run. `sim_streams` has no further stream, so a planner has a
+//!   generator of its own, which computes each word once and in order.
+//! - A scenario does not show its seed. So a planner is passed the seed as well, and its contract
+//!   wants that it is the scenario's.
+//! - The events given before the plan pass through the planner too, so its caller has one loop.
+#![tactic(auto)]
+
+mod forecast;
+mod owed;
+mod plan;
+mod planner;
+mod run;
+
+pub use plan::{MAX_PLANNED, MAX_SPACING, Plan};
+pub use planner::Planner;
+pub use run::run_of;
+pub use std::alloc::AllocError as NoMemory;

@@ -1,0 +1,36 @@
+//! How a run is planned.
+ghost use Rattle.std.specs.Prelude.{◌≡◌, ◌↔◌, IsTrue};
+ghost use Rattle.sim_plan.specs.Happening.{IsPlan};
+
+/// The widest spacing of a plan; the closest is 2.
+pub const MAX_SPACING: u32 = 65_536;
+
+/// The most given events, planned events and quiet steps of a run together.
+pub const MAX_PLANNED: u64 = 65_534;
+
+/// How a run is planned.
+#[derive(Clone, Copy, Debug, PartialEq, Eq)]
+pub struct Plan {
+    /// One event in so many is a fault or a healing, on average: 2 to 65,536.
+    pub spacing: u32,
+    /// How many events are planned before the quiet end.
+    pub events: u32,
+    /// How many steps the quiet end has. With none, the faults that are left are not healed.
+    pub quiet: u32,
+    /// Whether a condition is looked at after the last event alone.
+    pub at_end: bool,
+}
+
+impl Plan {
+    /// Whether the plan, after so many given events, is within the limits: the spacing is 2 to 65,536, and given events, planned
+    /// events and quiet steps are at most 65,534 together.
+    pub fn is_within(&self, given: usize) -> bool
+        ensures { IsTrue result ↔ IsPlan given self.now }
+    {
+        let steps = u64::from(self.events) + u64::from(self.quiet);
+        2 <= self.spacing
+            && self.spacing <= MAX_SPACING
+            && steps <= MAX_PLANNED
+            && given as u64 <= MAX_PLANNED - steps
+    }
+}

@@ -1,0 +1,36 @@
+//! The planned run of a scenario, as a list.
+ghost use Rattle.std.specs.Prelude.{◌≡◌, IfOk, OnErr, length};
+ghost use Rattle.sim_plan.specs.Happening.{IsPlan, planned_run};
+
+use crate::{NoMemory, Plan, Planner};
+use sim_node::Node;
+use sim_world::{Event, Scenario, Undo, World};
+use std::alloc::Global;
+
+/// The run of a scenario: of the given events and then of the planned ones, those that can happen, one after the other. The seed
+/// is the scenario's. The only error is want of memory.
+pub fn run_of<N: Node>(
+    alloc: Global,
+    scenario: &Scenario,
+    seed: [u8; 32],
+    given: &[Event],
+    plan: Plan,
+    meter: &mut N::Meter,
+) -> Result<Vec<Event>, NoMemory>
+    requires seed { seed ≡ scenario.now.seed }
+    requires plan { IsPlan (length given.now) plan }
+    ensures { IfOk result (λ run. run.items ≡ planned_run N.laws N.PROBES scenario.now given.now plan) }
+{
+    let mut world = World::<N>::start(alloc, scenario, meter)?;
+    let mut undo = Undo::empty(alloc);
+    let mut run = Vec::new(alloc);
+    for event in Planner::new(scenario, seed, given, plan) {
+        match world.can(event) {
+            Err(_) => continue,
+            Ok(()) => {}
+        }
+        run.push(event)?;
+        world = world.apply_over(alloc, event, &mut undo, meter)?;
+    }
+    Ok(run)
+}

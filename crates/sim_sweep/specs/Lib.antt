@@ -1,0 +1,3 @@
+pub mod Planned
+pub mod Walking
+pub mod Faults

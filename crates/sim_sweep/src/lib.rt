@@ -1,0 +1,27 @@
+//! Finds the first of many seeds whose run with planned faults fails, with several workers.
+//!
+//! - [`sweep_planned`] runs a scenario under `count` numbered seeds, each with its planned events.
+//!   It returns the least number with a failing place and the first such place of that run.
+//! - [`scan_planned`] does it for one run.
+//!
+//! A place is a number of events that happened: an event of the plan that can't happen is left out
+//! of the run. With [`Plan::at_end`](sim_plan::Plan) the last place of each run is looked at alone.
+//!
+//! The contract gives the same answer for every number of workers and every order in which their
+//! threads run. A bad range is reported before a bad condition, and both before any work. No
+//! contract says that more than one worker runs, or that a call returns.
+//!
+//! Why it is built this way:
+//!
+//! - A run is walked once, forward. Its steps keep no record, its faults share one record, and the
+//!   planner gives the events without a list of them. So no event of a sweep copies a node.
+//! - A step changes one host alone, so the condition is looked at only after a step of a concerned
+//!   host, and after each fault.
+#![tactic(auto)]
+
+mod seeds;
+mod walk;
+
+pub use seeds::{Course, numbered_seed, sweep_planned};
+pub use sim_search::{Gate, OpenGate, SearchFault};
+pub use walk::scan_planned;

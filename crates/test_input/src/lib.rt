@@ -1,0 +1,5 @@
+//! Inputs that are written. There is nothing here but tests.
+#![tactic(auto)]
+
+#[cfg(test)]
+mod tests;

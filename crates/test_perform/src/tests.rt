@@ -1,0 +1,14 @@
+//! Command lines, and the lines that searches and sweeps write.
+//!
+//! What each test catches:
+//! - `command_line::jobs`: words that ask for another job, or for none.
+//! - `command_line::help_and_version`, `command_line::mistakes`: a text of help that leaves a
+//!   command out; a mistake that is told as another, or taken.
+//! - `hunts::searches_of_the_first_run`, `hunts::sweeps_of_the_base_scenario`: a line that is not
+//!   the result of the search in the run that the script leaves; an exit status that does not fit.
+//! - `hunts::faults_come_in_order`: a fault that hides an earlier one.
+//! - `conditions`: a condition of any form that is read as another, or holds elsewhere; one that is
+//!   taken against the rules.
+mod command_line;
+mod conditions;
+mod hunts;

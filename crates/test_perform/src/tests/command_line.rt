@@ -1,0 +1,152 @@
+//! Command lines, and what is told where they ask for no job.
+use sim_job::{Job, LineError, job};
+use std::process::Abort;
+
+// The words ask for this job.
+fn asks(rt: &HostRuntime, words: &[&str], wanted: Job<'_>) -> bool {
+    match job(rt.alloc(), words) {
+        Ok(asked) => asked == wanted,
+        Err(_) => false,
+    }
+}
+
+// Help is told, with all these texts in it.
+fn helps(rt: &HostRuntime, words: &[&str], texts: &[&str]) -> bool {
+    match job(rt.alloc(), words) {
+        Err(LineError::Help(told)) => texts.iter().all(|text| told.as_str().contains(*text)),
+        _ => false,
+    }
+}
+
+// Usage is told, with this mistake.
+fn blames(rt: &HostRuntime, words: &[&str], mistake: &str) -> bool {
+    match job(rt.alloc(), words) {
+        Err(LineError::Usage(told)) => {
+            told.as_str().contains("error: ") && told.as_str().contains(mistake)
+        }
+        _ => false,
+    }
+}
+
+// The exit status of words that ask for no job.
+fn status_of(rt: &HostRuntime, words: &[&str]) -> Option<u8> {
+    let Err(fault) = job(rt.alloc(), words) else {
+        return None;
+    };
+    Some(fault.status())
+}
+
+#[test]
+fn jobs(rt: HostRuntime) {
+    assert!(rt; asks(&rt, &["simback", "play"], Job::Play));
+    let plain = Job::Search {
+        workers: 2,
+        progress: false,
+        lo: 0,
+        hi: 6,
+        cond: "w.next <= 1",
+    };
+    assert!(rt; asks(&rt, &["simback", "search", "0", "6", "w.next <= 1"], plain));
+    let told = Job::Search {
+        workers: 3,
+        progress: true,
+        lo: 1,
+        hi: 7,
+        cond: "up a",
+    };
+    let words = [
+        "simback",
+        "search",
+        "--workers=3",
+        "1",
+        "--progress",
+        "7",
+        "up a",
+    ];
+    assert!(rt; asks(&rt, &words, told));
+    let sweep = Job::Sweep {
+        workers: 16,
+        progress: false,
+        first: 18446744073709551615,
+        count: 2,
+        events: 6,
+        cond: "up a",
+    };
+    let words = [
+        "simback",
+        "sweep",
+        "18446744073709551615",
+        "2",
+        "6",
+        "up a",
+        "--workers",
+        "16",
+    ];
+    assert!(rt; asks(&rt, &words, sweep));
+}
+
+#[test]
+fn help_and_version(rt: HostRuntime) {
+    let commands = [
+        "Usage: simback <COMMAND>",
+        "play",
+        "search",
+        "sweep",
+        "--help",
+        "--version",
+    ];
+    assert!(rt; helps(&rt, &["simback", "--help"], &commands));
+    assert!(rt; helps(&rt, &["simback", "-V"], &["simback 0.1.0"]));
+    assert!(rt; helps(&rt, &["simback", "--version"], &["simback 0.1.0"]));
+    let play = ["Usage: simback play", "Example: simback play <"];
+    assert!(rt; helps(&rt, &["simback", "play", "--help"], &play));
+    let search = [
+        "Usage: simback search [OPTIONS] <LO> <HI> <COND>",
+        "--workers <N>",
+        "[default: 2]",
+        "--progress",
+        "Example: simback search ",
+    ];
+    assert!(rt; helps(&rt, &["simback", "search", "--help"], &search));
+    let sweep = [
+        "Usage: simback sweep [OPTIONS] <FIRST> <COUNT> <EVENTS> <COND>",
+        "--workers <N>",
+        "[default: 2]",
+        "--progress",
+        "Example: simback sweep ",
+    ];
+    assert!(rt; helps(&rt, &["simback", "sweep", "-h"], &sweep));
+    assert_eq!(rt; status_of(&rt, &["simback", "--help"]), Some(0));
+}
+
+#[test]
+fn mistakes(rt: HostRuntime) {
+    assert!(rt; blames(&rt, &["simback"], "Usage: simback <COMMAND>"));
+    assert_eq!(rt; status_of(&rt, &["simback"]), Some(2));
+    assert!(rt; blames(&rt, &["simback", "walk"], "unrecognized subcommand 'walk'"));
+    assert!(rt; blames(&rt, &["simback", "help"], "unrecognized subcommand 'help'"));
+    assert!(rt; blames(&rt, &["simback", "play", "x"], "unexpected argument 'x'"));
+    assert!(rt; blames(&rt, &["simback", "search", "0", "6"], "<COND>"));
+    assert!(rt;
+        blames(
+            &rt,
+            &["simback", "search", "0", "x", "up a"],
+            "invalid value 'x' for '<HI>'"
+        )
+    );
+    let none = ["simback", "search", "--workers", "0", "0", "1", "up a"];
+    assert!(rt; blames(&rt, &none, "invalid value '0' for '--workers <N>'"));
+    let many = ["simback", "search", "--workers", "17", "0", "1", "up a"];
+    assert!(rt; blames(&rt, &many, "invalid value '17' for '--workers <N>'"));
+    let twice = [
+        "simback",
+        "sweep",
+        "--workers=3",
+        "--workers=4",
+        "1",
+        "7",
+        "9",
+        "up a",
+    ];
+    assert!(rt; blames(&rt, &twice, "cannot be used multiple times"));
+}

@@ -1,0 +1,162 @@
+//! Searches and sweeps over texts.
+ghost use Rattle.std.specs.Prelude.{◌≤◌};
+ghost use Rattle.sim_job.specs.CommandLine.{HasFewWorkers};
+
+use sim_perform::{Job, Status, perform};
+use std::alloc::Global;
+use std::process::Abort;
+use std::rt::Clock;
+use std::sync::Wait;
+use std::thread::Threads;
+
+const BASE: &str = r#"format = 1
+seed = "0000000000000000000000000000000000000000000000000000000000000000"
+protocol = "echo"
+tick = 100
+latency_min = 10
+latency_max = 10
+loss = 0
+servers = ["a"]
+checkpoint = 4
+window = 2
+
+[[client]]
+name = "w"
+ops = 2
+---
+step
+step
+step
+step
+step
+step
+step
+look
+"#;
+
+// A search by so many workers.
+fn search(workers: u64, lo: u64, hi: u64, cond: &str) -> Job<'_>
+    requires { (1 ≤ workers) × (workers ≤ 16) }
+    ensures { HasFewWorkers result }
+{
+    Job::Search {
+        workers,
+        progress: false,
+        lo,
+        hi,
+        cond,
+    }
+}
+
+// A sweep by so many workers.
+pub fn sweep(workers: u64, first: u64, count: u64, events: u64, cond: &str) -> Job<'_>
+    requires { (1 ≤ workers) × (workers ≤ 16) }
+    ensures { HasFewWorkers result }
+{
+    Job::Sweep {
+        workers,
+        progress: false,
+        first,
+        count,
+        events,
+        cond,
+    }
+}
+
+// A job over an input ends so, and writes this.
+pub fn ends<R: Threads + Wait + Sync + Clock + Eprint>(
+    rt: &R,
+    alloc: Global,
+    job: Job<'_>,
+    input: &str,
+    status: Status,
+    want: &str,
+) -> bool
+    requires { HasFewWorkers job }
+{
+    let mut reader = input.as_bytes();
+    let mut written = Vec::new(alloc);
+    let ended = perform(rt, alloc, &job, &mut reader, &mut written);
+    ended == status && written.as_slice() == want.as_bytes()
+}
+
+// The job of so many workers over the base scenario ends so, and writes this.
+fn is_answered<R: Threads + Wait + Sync + Clock + Eprint + Abort>(
+    rt: &R,
+    alloc: Global,
+    job: Job<'_>,
+    status: Status,
+    want: &str,
+)
+    requires { HasFewWorkers job }
+{
+    assert!(rt; ends(rt, alloc, job, BASE, status, want), "{want}");
+}
+
+#[test]
+fn searches_of_the_first_run(rt: HostRuntime) {
+    let alloc = rt.alloc();
+    for workers in [1, 2, 16] {
+        let job = search(workers, 0, 6, "w.next <= 1");
+        is_answered(&rt, alloc, job, Status::Well, "first 4\n");
+        let job = search(workers, 0, 6, "w.next <= 3");
+        is_answered(&rt, alloc, job, Status::Well, "none\n");
+        let job = search(workers, 0, 7, "up a");
+        is_answered(&rt, alloc, job, Status::BadRequest, "bad range\n");
+    }
+}
+
+#[test]
+fn sweeps_of_the_base_scenario(rt: HostRuntime) {
+    let alloc = rt.alloc();
+    for workers in [1, 2, 16] {
+        let job = sweep(workers, 0, 3, 6, "w.next <= 1");
+        is_answered(&rt, alloc, job, Status::Well, "seed 0 place 4\n");
+        let job = sweep(workers, 5, 3, 6, "w.next <= 3");
+        is_answered(&rt, alloc, job, Status::Well, "none\n");
+        let job = sweep(workers, 7, 2, 3, "w.next <= 1");
+        is_answered(&rt, alloc, job, Status::Well, "none\n");
+        let job = sweep(workers, u64::MAX, 2, 6, "up a");
+        is_answered(&rt, alloc, job, Status::BadRequest, "bad range\n");
+        let job = sweep(workers, 0, 0, 6, "up a");
+        is_answered(&rt, alloc, job, Status::BadRequest, "bad range\n");
+        let job = sweep(workers, 0, 4_294_967_297, 6, "up a");
+        is_answered(&rt, alloc, job, Status::BadRequest, "bad range\n");
+        let job = sweep(workers, 0, 1, 6, "up z");
+        is_answered(&rt, alloc, job, Status::BadRequest, "bad condition\n");
+    }
+}
+
+// A search up to a place and a sweep over so many seeds are refused for the same fault.
+fn are_refused<R: Threads + Wait + Sync + Clock + Eprint + Abort>(
+    rt: &R,
+    alloc: Global,
+    input: &str,
+    cond: &str,
+    hi: u64,
+    want: &str,
+) {
+    let status = if input.is_empty() {
+        Status::BadScenario
+    } else {
+        Status::BadRequest
+    };
+    let found = ends(rt, alloc, search(2, 0, hi, cond), input, status, want);
+    // Places up to 7 are too many, and so are no seeds too few.
+    let seeds = if hi == 7 { 0 } else { 1 };
+    let swept = ends(rt, alloc, sweep(2, 0, seeds, 6, cond), input, status, want);
+    assert!(rt; found && swept, "{cond}: {want}");
+}
+
+// A scenario's fault is told before words that are no condition, these before a range's, and that before a host or probe that is
+// not there.
+#[test]
+fn faults_come_in_order(rt: HostRuntime) {
+    let alloc = rt.alloc();
+    are_refused(&rt, alloc, "", "up", 7, "scenario fault 4 format\n");
+    are_refused(&rt, alloc, BASE, "up", 7, "bad condition\n");
+    are_refused(&rt, alloc, BASE, "up z", 7, "bad range\n");
+    are_refused(&rt, alloc, BASE, "up z", 6, "bad condition\n");
+    are_refused(&rt, alloc, BASE, "w.first <= 1", 6, "bad condition\n");
+    are_refused(&rt, alloc, BASE, "up a and", 6, "bad condition\n");
+}

@@ -1,0 +1,141 @@
+//! Sweeps with faults over two-phase commit, and the planned run of one seed.
+//!
+//! What each test catches:
+//! - `the_run_of_a_seed`: a word that is read as another event than the definition says.
+//! - `first_seed_that_disagrees`: a sweep that gives up, with one worker or with several.
+//! - `first_seed_that_is_not_done`: a quiet end that heals nothing, or is looked at too early.
+ghost use Rattle.std.specs.Prelude.{◌≡◌, ◌<◌, ◌≤◌, IfOk, replicate, vec_len};
+
+use sim_links::{Way, Ways};
+use sim_node::Setup;
+use sim_plan::{Plan, run_of};
+use sim_sweep::{Course, OpenGate, numbered_seed, sweep_planned};
+use sim_tally::Tally;
+use sim_two_phase::TwoPhase;
+use sim_watch::{Cond, Term};
+use sim_world::Scenario;
+use std::alloc::{AllocError, Global};
+use std::process::Abort;
+use std::sync::Wait;
+use std::test::Fail;
+use std::thread::Threads;
+
+const FAULTS: Plan = Plan {
+    spacing: 8,
+    events: 120,
+    quiet: 0,
+    at_end: false,
+};
+
+// The probe of what a server has decided about the first transaction.
+const FIRST: u8 = 1;
+
+// Servers a and b, and client w with three operations.
+fn scenario() -> Result<Scenario, Fail>
+    ensures { IfOk result (λ s. s.seed ≡ replicate 32 0) }
+{
+    let way = Way {
+        latency_min: 5,
+        latency_max: 45,
+        loss: 0,
+    };
+    let setup = Setup {
+        servers: 2,
+        hosts: 3,
+        ops: [3; 32],
+    };
+    Ok(Scenario::new([0; 32], 100, Ways::all(way), 20, setup, 64, 64)?)
+}
+
+fn tallies(alloc: Global, count: u32) -> Result<Vec<Tally>, AllocError>
+    ensures { IfOk result (λ v. vec_len v ≡ count) }
+{
+    let mut tallies = Vec::new(alloc);
+    for _ in 0..count {
+        tallies.push(Tally::new())?;
+    }
+    Ok(tallies)
+}
+
+// The first of 1,500 seeds with a place at which the condition fails.
+fn first<R: Threads + Wait + Sync + Abort>(
+    rt: &R,
+    alloc: Global,
+    plan: Plan,
+    cond: &Cond,
+    workers: u32,
+) -> Result<Option<(u64, u32)>, Fail>
+    requires { (0 < workers) × (workers ≤ 16) }
+{
+    let scenario = scenario()?;
+    let course = Course {
+        scenario: &scenario,
+        seed: [0; 32],
+        given: &[],
+        plan,
+    };
+    let meters = tallies(alloc, workers)?;
+    Ok(sweep_planned::<TwoPhase<Tally>, OpenGate, R>(
+        rt,
+        alloc,
+        &course,
+        (0, 1_500),
+        cond,
+        meters,
+        &OpenGate,
+    )?)
+}
+
+#[test]
+fn first_seed_that_disagrees(rt: HostRuntime) -> Result<(), Fail> {
+    let alloc = rt.alloc();
+    let cond = Cond::new().and(Term::Agree(FIRST, 0))?;
+    for workers in [1, 2, 16] {
+        let found = first(&rt, alloc, FAULTS, &cond, workers)?;
+        assert_eq!(&rt; found, Some((654, 26)));
+    }
+    Ok(())
+}
+
+#[test]
+fn first_seed_that_is_not_done(rt: HostRuntime) -> Result<(), Fail> {
+    let plan = Plan {
+        quiet: 500,
+        at_end: true,
+        ..FAULTS
+    };
+    let cond = Cond::new().and(Term::Done(2))?;
+    for workers in [1, 2, 16] {
+        let found = first(&rt, rt.alloc(), plan, &cond, workers)?;
+        assert_eq!(&rt; found, Some((6, 622)));
+    }
+    Ok(())
+}
+
+const RUN_654: &str = "Step; Step; Step; Step; Step; Step; Step; Step; Step; Step; Step; Step; \
+    Fault(Bounce(0)); Step; Step; Fault(Crash(1)); Step; Step; Fault(Bounce(0)); Step; Step; Step; \
+    Step; Fault(Bounce(1)); Step; Step; ";
+
+#[test]
+fn the_run_of_a_seed(rt: HostRuntime) -> Result<(), Fail> {
+    let alloc = rt.alloc();
+    let plan = Plan {
+        events: 26,
+        ..FAULTS
+    };
+    let scenario = scenario()?.numbered(654);
+    let run = run_of::<TwoPhase<Tally>>(
+        alloc,
+        &scenario,
+        numbered_seed([0; 32], 654),
+        &[],
+        plan,
+        &mut Tally::new(),
+    )?;
+    let mut text = String::new(alloc);
+    for event in &run {
+        write!(text, "{:?}; ", event)?;
+    }
+    assert_eq!(&rt; text.as_str(), RUN_654);
+    Ok(())
+}

@@ -1,0 +1,29 @@
+//! What is written for what is read. What is expected was worked out by hand from the rules.
+//!
+//! What each test catches:
+//! - `examples`, `rows`: a command that is answered in other words, or by another world, of each
+//!   protocol, in both formats, for checkpoints and windows from the least to the greatest; a play
+//!   that wants memory for no reason. The examples are those of the folder `examples`.
+//! - `full`: a table that is full early, or takes more than its limit.
+//! - `faults`: a scenario that is read as another, or refused for another reason.
+//! - `lines`: a line that is taken, or refused, against the rules of scripts.
+//! - `streams::plays_a_byte_at_a_time`: answers that wait for a later line.
+//! - `streams::answers_whole_lines_up_to_a_failed_read`: a play that blames its reader without
+//!   cause, or not at all, or loses an answer.
+//! - `streams::stops_at_a_failed_write`, `streams::stops_at_a_failed_flush`,
+//!   `streams::a_writer_that_takes_nothing_has_failed`: the same of its writer, and text that is
+//!   written after the failure.
+//! - `streams::reads_no_more_than_a_bad_scenario`, `streams::reads_no_more_than_a_long_scenario`:
+//!   input that is read past the fault.
+//! - `streams::plays_over_nodes_of_a_type`: a play over a user's node that gives up, or that knows
+//!   other probes.
+//! - `probes::probes_have_names`: a name, or a number, that is left out.
+mod examples;
+mod faults;
+mod full;
+mod lines;
+mod ports;
+mod probes;
+mod rows;
+mod scenes;
+mod streams;

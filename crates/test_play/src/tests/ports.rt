@@ -1,0 +1,124 @@
+//! A reader and a writer that own nothing: the one gives two texts, the other compares what it takes with a third.
+use std::io;
+use std::io::{ErrorKind, Read, Write};
+
+/// Gives at most so many bytes a read, of two texts, one after the other. After so many reads it fails once; whoever reads on is
+/// given more.
+#[derive(Clone, Copy)]
+pub struct Pieces<'a> {
+    pub rest: &'a [u8],
+    more: &'a [u8],
+    pub most: usize,
+    pub reads_left: usize,
+}
+
+impl<'a> Pieces<'a> {
+    /// A byte a read, and no failure.
+    pub fn new(rest: &'a [u8], more: &'a [u8]) -> Pieces<'a> {
+        Pieces {
+            rest,
+            more,
+            most: 1,
+            reads_left: 100_000,
+        }
+    }
+}
+
+impl Read for Pieces<'_> {
+    fn read(&mut self, buf: &mut [u8]) -> io::Result<usize> {
+        if self.reads_left == 0 {
+            self.reads_left = usize::MAX;
+            return Err(io::Error::from(ErrorKind::Other));
+        }
+        self.reads_left -= 1;
+        if self.rest.is_empty() {
+            self.rest = self.more;
+            self.more = b"";
+        }
+        let n = buf.len().min(self.most).min(self.rest.len());
+        let (front, rest) = self.rest.split_at(n);
+        buf.split_at_mut(n).0.copy_from_slice(front);
+        self.rest = rest;
+        Ok(n)
+    }
+}
+
+/// Compares what it takes with what is to come, at most so many bytes a write. After so many writes it fails once, as after so many
+/// flushes; whoever writes on has more taken.
+#[derive(Clone, Copy)]
+pub struct Narrow<'a> {
+    pub to_come: &'a [u8],
+    pub is_same: bool,
+    /// How much was still to come at the last flush.
+    pub to_flush: usize,
+    pub most: usize,
+    pub writes_left: usize,
+    pub flushes_left: usize,
+}
+
+impl<'a> Narrow<'a> {
+    pub fn new(answers: &'a [u8]) -> Narrow<'a> {
+        Narrow {
+            to_come: answers,
+            is_same: true,
+            to_flush: answers.len(),
+            most: 1,
+            writes_left: 100_000,
+            flushes_left: 1_000,
+        }
+    }
+
+    /// It took all, and nothing else.
+    pub fn is_done(&self) -> bool {
+        self.is_same && self.to_come.is_empty()
+    }
+
+    /// The beginning of the answers that it took.
+    pub fn told(&self, answers: &'a [u8]) -> &'a [u8] {
+        answers
+            .split_at(answers.len().saturating_sub(self.to_come.len()))
+            .0
+    }
+
+    /// It took just so much of the answers, or all where they are no longer.
+    pub fn took(&self, answers: &[u8], len: usize) -> bool {
+        self.is_same && self.to_come.len() == answers.len().saturating_sub(len)
+    }
+}
+
+impl<'a> Narrow<'a> {
+    /// It takes all that it is given, in one write.
+    pub fn wide(answers: &'a [u8]) -> Narrow<'a> {
+        Narrow {
+            most: usize::MAX,
+            ..Narrow::new(answers)
+        }
+    }
+}
+
+impl Write for Narrow<'_> {
+    fn write(&mut self, buf: &[u8]) -> io::Result<usize> {
+        if self.writes_left == 0 {
+            self.writes_left = usize::MAX;
+            return Err(io::Error::from(ErrorKind::Other));
+        }
+        self.writes_left -= 1;
+        let n = buf.len().min(self.most);
+        let (want, to_come) = self.to_come.split_at(n.min(self.to_come.len()));
+        if buf.split_at(n).0 != want {
+            self.is_same = false;
+        }
+        self.to_come = to_come;
+        Ok(n)
+    }
+
+    fn flush(&mut self) -> io::Result<()> {
+        if self.flushes_left == 0 {
+            self.flushes_left = usize::MAX;
+            return Err(io::Error::from(ErrorKind::Other));
+        }
+        self.flushes_left -= 1;
+        self.to_flush = self.to_come.len();
+        Ok(())
+    }
+}

@@ -1,0 +1,78 @@
+//! A run of 20,000 events and 3,000 seeds, beside plain folds.
+use crate::tests::fold::{first_above, first_seed, nexts};
+use crate::tests::scenes::{crowd, frozen_run, next_at_most, tallies};
+use sim_echo::Echo;
+use sim_search::{OpenGate, search, sweep};
+use sim_tally::Tally;
+use sim_tape::Frozen;
+use std::alloc::Global;
+use std::process::Abort;
+use std::sync::Wait;
+use std::test::Fail;
+use std::thread::Threads;
+
+// A search finds what a walk over these numbers does, by 1, 2 and 4 workers.
+fn finds<R: Threads + Wait + Sync + Abort>(
+    rt: &R,
+    alloc: Global,
+    run: &Frozen<Echo<Tally>>,
+    seen: &[u64],
+    (lo, hi): (u32, u32),
+    most: u64,
+) -> Result<(), Fail> {
+    let cond = next_at_most(5, most)?;
+    let want = first_above(seen, lo, hi, most);
+    for workers in [1, 2, 4] {
+        let meters = tallies(alloc, workers)?;
+        let (lo, hi) = (u64::from(lo), u64::from(hi));
+        let found = search(rt, alloc, run, lo, hi, &cond, meters, &OpenGate);
+        assert!(rt; found == Ok(want), "above {most} from {lo} to {hi}");
+    }
+    Ok(())
+}
+
+// The same over these places, for several numbers.
+fn finds_each<R: Threads + Wait + Sync + Abort>(
+    rt: &R,
+    alloc: Global,
+    run: &Frozen<Echo<Tally>>,
+    seen: &[u64],
+) -> Result<(), Fail> {
+    for most in [0, 1, 100, 200, 300, 1_000] {
+        finds(rt, alloc, run, seen, (0, 20_000), most)?;
+        finds(rt, alloc, run, seen, (10_255, 19_999), most)?;
+    }
+    Ok(())
+}
+
+#[test]
+fn places_of_a_long_run(rt: HostRuntime) -> Result<(), Fail> {
+    let scenario = crowd(32, 0)?;
+    let run = frozen_run(rt.alloc(), &scenario, 20_000, &mut Tally::new())?;
+    let seen = nexts(rt.alloc(), &scenario, 5, 20_000)?;
+    assert_eq!(rt; seen.len(), 20_001);
+    finds_each(&rt, rt.alloc(), &run, seen.as_slice())
+}
+
+// A sweep finds what plain folds of 3,000 runs do, by 1, 2 and 4 workers.
+fn sweeps<R: Threads + Wait + Sync + Abort>(rt: &R, alloc: Global, most: u64) -> Result<(), Fail> {
+    let scenario = crowd(3, 300)?;
+    let cond = next_at_most(2, most)?;
+    let want = first_seed(alloc, &scenario, 2, 3_000, 100, most)?;
+    for workers in [1, 2, 4] {
+        let meters = tallies(alloc, workers)?;
+        let found = sweep::<Echo<Tally>, _, _>(
+            rt, alloc, &scenario, 0, 3_000, 100, &cond, meters, &OpenGate,
+        );
+        assert!(rt; found == Ok(want), "above {most}: {want:?}");
+    }
+    Ok(())
+}
+
+#[test]
+fn three_thousand_seeds(rt: HostRuntime) -> Result<(), Fail> {
+    for most in [1, 9, 10, 40] {
+        sweeps(&rt, rt.alloc(), most)?;
+    }
+    Ok(())
+}

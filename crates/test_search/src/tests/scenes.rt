@@ -1,0 +1,90 @@
+//! Scenarios of echo, conditions on a client's next operation, and frozen runs.
+ghost use Rattle.std.specs.Prelude.{◌≡◌, IfOk, vec_len};
+
+use sim_echo::Echo;
+use sim_links::{Way, Ways};
+use sim_node::{Meter, NoMemory, Setup};
+use sim_tally::Tally;
+use sim_tape::{Frozen, Tape};
+use sim_watch::{Comparison, Cond, Op, Term, Value};
+use sim_world::{Event, Scenario};
+use std::alloc::Global;
+use std::test::Fail;
+
+/// One server and one client of echo, which has two operations; each message takes 10 ms. A checkpoint stands at each fourth event.
+pub fn echoes() -> Result<Scenario, Fail> {
+    let ways = Ways::all(Way {
+        latency_min: 10,
+        latency_max: 10,
+        loss: 0,
+    });
+    let setup = Setup {
+        servers: 1,
+        hosts: 2,
+        ops: [2; 32],
+    };
+    Ok(Scenario::new([0; 32], 100, ways, 0, setup, 4, 2)?)
+}
+
+/// One server of echo and its clients, of a thousand operations each; a message takes 1 to 100 ms, and so many in a thousand are
+/// lost: a client whose message was lost goes no further.
+pub fn crowd(hosts: u16, loss: u32) -> Result<Scenario, Fail> {
+    let ways = Ways::all(Way {
+        latency_min: 1,
+        latency_max: 100,
+        loss,
+    });
+    let setup = Setup {
+        servers: 1,
+        hosts,
+        ops: [1_000; 32],
+    };
+    Ok(Scenario::new([7; 32], 100, ways, 0, setup, 256, 64)?)
+}
+
+/// The client's next operation is at most this.
+pub fn next_at_most(client: u16, n: u64) -> Result<Cond, Fail> {
+    let most = Comparison {
+        op: Op::LessOrEqual,
+        value: Value::Number(n),
+    };
+    Ok(Cond::new().and(Term::Cmp(client, 0, most))?)
+}
+
+/// A meter for each worker.
+pub fn tallies(alloc: Global, workers: u32) -> Result<Vec<Tally>, NoMemory>
+    ensures { IfOk result (λ v. vec_len v ≡ workers) }
+{
+    let mut meters = Vec::new(alloc);
+    for _ in 0..workers {
+        meters.push(Tally::new())?;
+    }
+    Ok(meters)
+}
+
+// Adds a step at the end, where one can happen.
+fn add<M: Meter>(alloc: Global, tape: &mut Tape<Echo<M>>, meter: &mut M) -> Result<bool, NoMemory> {
+    if tape.place() != tape.len() || 65_536 <= tape.len() {
+        return Ok(false);
+    }
+    tape.make_warm(alloc, meter)?;
+    if tape.here().can(Event::Step).is_err() {
+        return Ok(false);
+    }
+    tape.add(alloc, Event::Step, meter)?;
+    Ok(true)
+}
+
+/// The run of so many steps, or of as many as can happen.
+pub fn frozen_run<M: Meter>(
+    alloc: Global,
+    scenario: &Scenario,
+    steps: u32,
+    meter: &mut M,
+) -> Result<Frozen<Echo<M>>, Fail> {
+    let mut tape = Tape::new(alloc, scenario, meter)?;
+    for _step in 0..steps {
+        add(alloc, &mut tape, meter)?;
+    }
+    Ok(tape.freeze(alloc)?)
+}

@@ -1,0 +1,232 @@
+//! Tapes of echo. What each test would catch, where proofs say nothing or definitions may be wrong:
+//!
+//! * `tapes_go_by_their_rows`: a tape that never has memory; places, clocks and views that are other
+//!   than what one works out by hand; more turns, copies or undos than a call may take.
+//! * `branches_and_frozen_runs`: a branch, or a frozen run, that changes with its origin.
+//! * `walks_are_as_plain_runs`, `walks_by_long_intervals_are_as_plain_runs`: any call that leaves another
+//!   world, other events or a shorter reach than steps from the start do, or that works more.
+mod calls;
+mod plain;
+mod scene;
+mod walks;
+
+use scene::{Act, Scene};
+use sim_links::Way;
+use sim_node::Setup;
+use sim_world::{Event, Fault, Scenario};
+use std::alloc::Global;
+use std::test::Fail;
+use test_support::Setting;
+use walks::Walk;
+
+// The first run, which ends after six steps.
+const RUN: [Act; 6] = [
+    Act::Step(0),
+    Act::Step(0),
+    Act::Step(10),
+    Act::Step(20),
+    Act::Step(30),
+    Act::Step(40),
+];
+
+// Two servers and two clients, over ways that lose a message in ten.
+fn large_scenario(interval: u32, window: u32) -> Result<Scenario, Fail> {
+    let setting = Setting {
+        seed: [0; 32],
+        way: Way {
+            latency_min: 10,
+            latency_max: 19,
+            loss: 100,
+        },
+        disk_latency: 0,
+        setup: Setup {
+            servers: 2,
+            hosts: 4,
+            ops: [20; 32],
+        },
+        interval,
+        window,
+    };
+    Ok(setting.scenario()?)
+}
+
+// How many events lie between two checkpoints, how many have records, what happens first, and the
+// acts.
+type Row = (u32, u32, &'static [Act], &'static [Act]);
+
+const ROWS: [Row; 7] = [
+    // A run is walked back.
+    (
+        4,
+        2,
+        &RUN,
+        &[
+            Act::Idle,
+            Act::Back(6),
+            Act::Summary(0, 0, 2, 0, 2, 0),
+            Act::Forward(6),
+            Act::Summary(6, 40, 6, 8, 0, 0),
+        ],
+    ),
+    // A release is taken back.
+    (
+        4,
+        2,
+        &[],
+        &[
+            Act::Add(Event::Fault(Fault::Hold(0, 1))),
+            Act::Step(0),
+            Act::Step(0),
+            Act::Add(Event::Fault(Fault::Release(0, 1))),
+            Act::Message,
+            Act::Back(1),
+            Act::Summary(3, 0, 2, 0, 0, 1),
+            Act::Forward(1),
+            Act::Message,
+        ],
+    ),
+    // A crash is taken back.
+    (
+        4,
+        2,
+        &[],
+        &[
+            Act::Add(Event::Fault(Fault::Crash(0))),
+            Act::Summary(1, 0, 2, 0, 1, 0),
+            Act::Add(Event::Fault(Fault::Crash(0))),
+            Act::Summary(2, 0, 2, 0, 1, 0),
+            Act::Back(1),
+            Act::Summary(1, 0, 2, 0, 1, 0),
+            Act::Forward(1),
+            Act::Add(Event::Fault(Fault::Bounce(0))),
+            Act::Summary(3, 0, 3, 0, 2, 0),
+        ],
+    ),
+    // A tail is cut.
+    (
+        4,
+        2,
+        &RUN,
+        &[
+            Act::Back(2),
+            Act::Place(4, 6, 20),
+            Act::Cut,
+            Act::Place(4, 4, 20),
+            Act::Step(30),
+            Act::Step(40),
+            Act::Place(6, 6, 40),
+        ],
+    ),
+    // Adding counts a turn and each checkpoint.
+    (
+        4,
+        2,
+        &[],
+        &[
+            Act::Counted((2, 2, 0)),
+            Act::Add(Event::Step),
+            Act::Counted((3, 2, 0)),
+            Act::Add(Event::Step),
+            Act::Counted((4, 2, 0)),
+            Act::Add(Event::Step),
+            Act::Counted((5, 2, 0)),
+            Act::Add(Event::Step),
+            Act::Counted((6, 4, 0)),
+            Act::Add(Event::Step),
+            Act::Counted((7, 4, 0)),
+            Act::Add(Event::Step),
+            Act::Counted((8, 4, 0)),
+        ],
+    ),
+    // Jumps take the nearest way.
+    (
+        4,
+        2,
+        &RUN,
+        &[
+            Act::Jump(5, (0, 0, 1), 30),
+            Act::Jump(1, (1, 2, 0), 0),
+            Act::Jump(4, (0, 2, 0), 20),
+        ],
+    ),
+    // Each event has its checkpoint.
+    (1, 1, &RUN, &[Act::Jump(2, (0, 2, 0), 0)]),
+];
+
+fn goes_by(alloc: Global, row: &Row) -> Result<(), Fail> {
+    let (interval, window, first, acts) = *row;
+    let mut scene = Scene::new(alloc, interval, window)?;
+    scene.acts(first)?;
+    scene.acts(acts)
+}
+
+fn all_go_by(alloc: Global, rows: &[Row]) -> Result<(), Fail> {
+    for row in rows {
+        goes_by(alloc, row)?;
+    }
+    Ok(())
+}
+
+#[test]
+fn tapes_go_by_their_rows(rt: HostRuntime) -> Result<(), Fail> {
+    all_go_by(rt.alloc(), &ROWS)
+}
+
+// Host 0 crashes on a branch after three events.
+fn crashes_on_a_branch(origin: &Scene) -> Result<(), Fail> {
+    origin.branch(3, 10)?.acts(&[
+        Act::Add(Event::Fault(Fault::Crash(0))),
+        Act::Step(20),
+        Act::Step(30),
+        Act::Idle,
+        Act::Summary(6, 30, 5, 6, 0, 0),
+    ])
+}
+
+// A branch leaves its origin.
+fn branches(alloc: Global) -> Result<(), Fail> {
+    let mut scene = Scene::new(alloc, 4, 2)?;
+    scene.acts(&[Act::Step(0), Act::Step(0), Act::Step(10)])?;
+    crashes_on_a_branch(&scene)?;
+    scene.acts(&[Act::Step(20), Act::Step(30), Act::Step(40)])?;
+    crashes_on_a_branch(&scene)?;
+    scene.acts(&[Act::Jump(4, (0, 0, 2), 20)])
+}
+
+// A frozen run gives tapes.
+fn freezes(alloc: Global) -> Result<(), Fail> {
+    let mut scene = Scene::new(alloc, 4, 2)?;
+    scene.acts(&RUN)?;
+    scene.gives_tapes()
+}
+
+#[test]
+fn branches_and_frozen_runs(rt: HostRuntime) -> Result<(), Fail> {
+    branches(rt.alloc())?;
+    freezes(rt.alloc())
+}
+
+// A walk at random: first so many events are added, then so many calls are made.
+fn walk(alloc: Global, scenario: &Scenario, first: u32, calls: u32) -> Result<(), Fail> {
+    let mut walk = Walk::new(alloc, scenario)?;
+    walk.adds(first)?;
+    walk.turns(calls)
+}
+
+#[test]
+fn walks_are_as_plain_runs(rt: HostRuntime) -> Result<(), Fail> {
+    for interval in [1, 2, 3, 7] {
+        for window in [1, 2, 64, 4096] {
+            walk(rt.alloc(), &large_scenario(interval, window)?, 0, 300)?;
+        }
+    }
+    Ok(())
+}
+
+#[test]
+fn walks_by_long_intervals_are_as_plain_runs(rt: HostRuntime) -> Result<(), Fail> {
+    for window in [1, 2, 64, 4096] {
+        walk(rt.alloc(), &large_scenario(1024, window)?, 1_020, 100)?;
+    }
+    Ok(())
+}

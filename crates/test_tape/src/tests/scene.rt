@@ -1,0 +1,202 @@
+//! Small runs of echo, by acts.
+use super::calls::{self, same};
+use sim_echo::Echo;
+use sim_node::Node;
+use sim_tape::{EventList, Frozen, Tape};
+use sim_world::{Coming, Event, Kind, Refusal, View};
+use std::alloc::Global;
+use std::test::Fail;
+use test_support::{Counts, TWO_ECHOES};
+
+/// An act on a tape, or what is seen of it.
+#[derive(Clone, Copy)]
+pub enum Act {
+    /// An event is added.
+    Add(Event),
+    /// A step is added, which leads to this time of the clock.
+    Step(u64),
+    /// So many events back.
+    Back(u32),
+    /// So many events forward.
+    Forward(u32),
+    /// The events past the place are dropped.
+    Cut,
+    /// The place is a number of events, of so many, at this time of the clock.
+    Place(u32, u32, u64),
+    /// The view of the whole world at a place: clock, serial, net, pending, held.
+    Summary(u32, u64, u64, u64, u32, u32),
+    /// A message to host 0 comes next, due at 0.
+    Message,
+    /// No step can happen.
+    Idle,
+    /// So many turns, copies and undos were counted.
+    Counted((u64, u64, u64)),
+    /// A jump to a place takes so many turns, copies and undos, and ends at this time of the clock.
+    Jump(u32, (u64, u64, u64), u64),
+}
+
+/// A tape of echo and its meter.
+#[derive(Drop)]
+pub struct Scene {
+    alloc: Global,
+    tape: Tape<Echo<Counts>>,
+    meter: Counts,
+}
+
+// Six events, the last of which is a step.
+fn are_six_steps(events: &EventList) -> Result<(), Fail> {
+    same(&events.len(), &6, "events")?;
+    same(&events.get(5), &Some(Event::Step), "the last event")?;
+    same(&events.get(6), &None, "past the last event")
+}
+
+// A frozen run has the limits of a scene at intervals of four events, and the events of the first run.
+fn is_the_first_run<N: Node>(alloc: Global, frozen: &Frozen<N>) -> Result<(), Fail> {
+    same(&frozen.interval(), &4, "interval")?;
+    same(&frozen.hosts(), &2, "hosts")?;
+    are_six_steps(&frozen.events().share(alloc)?)
+}
+
+impl Scene {
+    /// A tape of no events.
+    pub fn new(alloc: Global, interval: u32, window: u32) -> Result<Scene, Fail> {
+        let mut meter = Counts::new();
+        let mut setting = TWO_ECHOES;
+        setting.interval = interval;
+        setting.window = window;
+        let tape = Tape::new(alloc, &setting.scenario()?, &mut meter)?;
+        Ok(Scene { alloc, tape, meter })
+    }
+
+    /// A branch of the first events, which is cold, with a meter of its own.
+    pub fn branch(&self, to: u32, clock: u64) -> Result<Scene, Fail> {
+        let tape = calls::split(self.alloc, &self.tape, to)?;
+        same(&tape.warm(), &false, "warm")?;
+        let branch = Scene {
+            alloc: self.alloc,
+            tape,
+            meter: Counts::new(),
+        };
+        branch.is_at(to, to, clock)?;
+        Ok(branch)
+    }
+
+    /// The first run, frozen, gives tapes, also once the tape that it came from has no events.
+    pub fn gives_tapes(&mut self) -> Result<(), Fail> {
+        let frozen = self.tape.freeze(self.alloc)?;
+        self.takes_tapes(&frozen)
+    }
+
+    // The frozen first run gives tapes.
+    fn takes_tapes(&mut self, frozen: &Frozen<Echo<Counts>>) -> Result<(), Fail> {
+        is_the_first_run(self.alloc, frozen)?;
+        calls::truncate(&mut self.tape, 0)?;
+        self.thaws(frozen, 3, (3, 2, 0), 10)?;
+        self.thaws(frozen, 4, (0, 2, 0), 20)?;
+        self.thaws(frozen, 6, (2, 2, 0), 40)
+    }
+
+    // A frozen run gives a warm tape at a place, which takes so many turns and copies.
+    fn thaws(
+        &mut self,
+        frozen: &Frozen<Echo<Counts>>,
+        place: u32,
+        work: (u64, u64, u64),
+        clock: u64,
+    ) -> Result<(), Fail> {
+        let before = self.meter.counted();
+        self.tape = calls::tape_at(self.alloc, frozen, place, &mut self.meter)?;
+        same(&self.meter.since(before), &work, "the work of a frozen run")?;
+        same(&self.tape.warm(), &true, "warm")?;
+        self.is_at(place, 6, clock)
+    }
+
+    // The place, the length and the clock.
+    fn is_at(&self, place: u32, len: u32, clock: u64) -> Result<(), Fail> {
+        same(&self.tape.place(), &place, "place")?;
+        same(&self.tape.len(), &len, "length")?;
+        same(&self.tape.clock(), &clock, "clock")
+    }
+
+    fn add(&mut self, event: Event) -> Result<(), Fail> {
+        calls::add(self.alloc, &mut self.tape, event, &mut self.meter)
+    }
+
+    fn step(&mut self, clock: u64) -> Result<(), Fail> {
+        self.add(Event::Step)?;
+        same(&self.tape.clock(), &clock, "clock after a step")
+    }
+
+    fn shows(&mut self, place: u32, view: View) -> Result<(), Fail> {
+        same(&self.tape.place(), &place, "place")?;
+        let seen = calls::summary(self.alloc, &mut self.tape, &mut self.meter)?;
+        same(&seen, &view, "summary")
+    }
+
+    fn has_message(&mut self) -> Result<(), Fail> {
+        let coming = Coming {
+            due: 0,
+            serial: 2,
+            host: 0,
+            kind: Kind::Message,
+        };
+        let seen = calls::next(self.alloc, &mut self.tape, &mut self.meter)?;
+        same(&seen, &View::Next(Some(coming)), "next")
+    }
+
+    fn is_idle(&mut self) -> Result<(), Fail> {
+        let answer = calls::can(self.alloc, &mut self.tape, Event::Step, &mut self.meter)?;
+        same(&answer, &Err(Refusal::Idle), "answer")
+    }
+
+    fn jump(&mut self, to: u32, work: (u64, u64, u64), clock: u64) -> Result<(), Fail> {
+        let before = self.meter.counted();
+        calls::goto(self.alloc, &mut self.tape, to, &mut self.meter)?;
+        same(&self.meter.since(before), &work, "the work of a jump")?;
+        self.is_at(to, 6, clock)
+    }
+
+    // Does an act.
+    fn act(&mut self, act: Act) -> Result<(), Fail> {
+        match act {
+            Act::Add(event) => self.add(event),
+            Act::Step(clock) => self.step(clock),
+            Act::Back(count) => calls::back(self.alloc, &mut self.tape, count, &mut self.meter),
+            Act::Forward(count) => calls::forward(
+                self.alloc,
+                &mut self.tape,
+                count,
+                &mut self.meter,
+            ),
+            Act::Cut => {
+                self.tape.cut();
+                Ok(())
+            }
+            Act::Place(place, len, clock) => self.is_at(place, len, clock),
+            Act::Summary(place, clock, serial, net, pending, held) => {
+                let torn = 0;
+                let view = View::Summary {
+                    clock,
+                    serial,
+                    net,
+                    torn,
+                    pending,
+                    held,
+                };
+                self.shows(place, view)
+            }
+            Act::Message => self.has_message(),
+            Act::Idle => self.is_idle(),
+            Act::Counted(work) => same(&self.meter.counted(), &work, "counted"),
+            Act::Jump(to, work, clock) => self.jump(to, work, clock),
+        }
+    }
+
+    /// Does acts in turn.
+    pub fn acts(&mut self, acts: &[Act]) -> Result<(), Fail> {
+        for act in acts {
+            self.act(*act)?;
+        }
+        Ok(())
+    }
+}

@@ -1,0 +1,120 @@
+//! The scenario, the script, and the names of both.
+use crate::Trouble;
+use sim_book::{Command, Entry, NotTaken, Refusal, Reply};
+use sim_cli::{Shipped, Subjects, Tally, WasRead, read_scenario, set_up};
+use sim_protocols::PrimaryBackup;
+use sim_replies::tell_turn;
+use sim_script::{Names, ScriptLine, line_of};
+use sim_world::Scenario;
+use std::alloc::Global;
+
+/// The nodes of the run.
+pub type Nodes = PrimaryBackup<Tally>;
+
+/// A primary, a backup and a client, on disks that take 5 ms.
+pub const SCENARIO: &str = r#"format = 2
+seed = "000102030405060708090a0b0c0d0e0f101112131415161718191a1b1c1d1e1f"
+protocol = "primary_backup"
+tick = 40
+latency_min = 5
+latency_max = 15
+loss = 0
+disk_latency = 5
+servers = ["p", "b"]
+checkpoint = 3
+window = 2
+
+[[client]]
+name = "c"
+ops = 2
+"#;
+
+/// A script with each command, and what can be asked of the three branches that there are in the end.
+pub const SCRIPT: &str = "step
+run 4
+tick
+watch up p and c.next <= 1
+watch up b
+back 3
+forward 2
+goto 1
+branch 4
+@1 crash b
+@1 hold p c
+@1 run 6
+@1 release p c
+@1 partition p b
+@1 bounce b
+@1 watch agree applied unless 0
+@1 run 3
+@1 rewind 5
+unwatch 1
+goto 5
+cut
+run 2
+@1 branch 2
+@2 tick
+@2 look host p
+forward 1
+rewind 4
+forward 9
+goto 7
+run 20
+rewind 9
+trace
+@1 repair p b
+@1 trace
+";
+
+/// What is asked of each branch to see whether it is as it was.
+pub const LOOKS: &str = "look
+look next
+trace
+@1 look
+@1 look next
+@1 trace
+@2 look
+@2 look next
+@2 trace
+";
+
+/// The scenario and the names.
+pub fn opening(alloc: Global) -> Result<(Scenario, Names), Trouble> {
+    match read_scenario::<Shipped>(alloc, SCENARIO.as_bytes()) {
+        WasRead::Scenario(text) => {
+            let probes = Shipped::probe_names(alloc, text.protocol)?;
+            Ok(set_up(text, probes))
+        }
+        WasRead::Fault(_) => Err(Trouble::Wrong),
+        WasRead::NoMemory => Err(Trouble::NoMemory),
+    }
+}
+
+/// The command of a line.
+pub fn command(alloc: Global, names: &Names, line: &str) -> Result<Command, Trouble> {
+    match line_of(names, line.as_bytes()) {
+        ScriptLine::Asked(ask) => Ok(ask.into_command(alloc)?),
+        ScriptLine::Nothing | ScriptLine::Bad => Err(Trouble::Wrong),
+    }
+}
+
+/// Whether a turn tells of want of memory.
+pub fn wants_memory(turn: &Result<Entry, NotTaken>) -> bool {
+    match turn {
+        Ok(entry) => matches!(entry.reply, Reply::Refused(Refusal::NoMemory)),
+        Err(why) => *why == NotTaken::NoMemory,
+    }
+}
+
+/// Adds the line of a turn to a text.
+pub fn tell(
+    alloc: Global,
+    text: &mut String,
+    names: &Names,
+    turn: &Result<Entry, NotTaken>,
+) -> Result<(), Trouble> {
+    let mut line = String::new(alloc);
+    tell_turn(alloc, &mut line, names, turn)?;
+    text.push_str(line.as_str())?;
+    Ok(())
+}
