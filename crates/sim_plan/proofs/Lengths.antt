@@ -1,5 +1,5 @@
 -- How many events are planned.
-use Rattle.std.proofs.Common.{◌≡◌, ℕ, zero, suc, ◌+◌, ◌/◌, ◌%◌, ◌==◌, ◌≤◌, Bool, true, false, ◌&&◌, List, [], ◌∷◌, ◌++◌, length, map, replicate, refl, ap, arith, inl, inr, length-append}
+use Rattle.std.proofs.Common.{◌≡◌, ℕ, zero, suc, ◌+◌, ◌/◌, ◌%◌, ◌==◌, ◌≤◌, Bool, true, false, ◌&&◌, Option, None, Some, List, [], ◌∷◌, ◌++◌, length, map, replicate, refl, ap, arith, inl, inr, length-append}
 use Rattle.std.specs.Prelude.{if◌then◌else◌}
 use Rattle.std.proofs.Math.Nat.{eq-or-lt_of_le}
 use Rattle.std.proofs.lemmas.Bool.{eq-eqb, or_parts}
@@ -44,8 +44,9 @@ struck_few servers hosts v owed le = go (heals v owed) refl
         let sum = length-append owed (new_fault servers hosts (v / 2)).1 in
         omega (arith, one, new, sum)
 
-by_few : (servers hosts spacing w : ℕ) (owed : List Fault) → length owed ≤ 2 → length (planned_by servers hosts spacing w owed).1 ≤ 2
-by_few servers hosts spacing w owed le = if_few (w % spacing == 0) 2 (struck servers hosts (w / spacing) owed) (event.Step, owed) (struck_few servers hosts (w / spacing) owed le) le
+by_few : (servers hosts : ℕ) (spacing : Option ℕ) (w : ℕ) (owed : List Fault) → length owed ≤ 2 → length (planned_by servers hosts spacing w owed).1 ≤ 2
+by_few servers hosts None w owed le = le
+by_few servers hosts (Some spacing) w owed le = if_few (w % spacing == 0) 2 (struck servers hosts (w / spacing) owed) (event.Step, owed) (struck_few servers hosts (w / spacing) owed le) le
 
 end_few : (q : ℕ) (owed : List Fault) → length owed ≤ 2 → length (quiet_end q owed) ≤ 2 + q
 end_few zero owed le = omega arith
@@ -57,7 +58,7 @@ end_few (suc q) owed le =
     let b : length steps ≡ suc q = length-replicate (suc q) event.Step in
     omega (arith, sum, a, b, le)
 
-from_few : (words : ℕ → ℕ) (servers hosts spacing quiet p n : ℕ) (owed : List Fault) → length owed ≤ 2
+from_few : (words : ℕ → ℕ) (servers hosts : ℕ) (spacing : Option ℕ) (quiet p n : ℕ) (owed : List Fault) → length owed ≤ 2
     → length (planned_from words servers hosts spacing quiet p n owed) ≤ n + (2 + quiet)
 from_few words servers hosts spacing quiet p zero owed le = let h = end_few quiet owed le in omega (arith, h)
 from_few words servers hosts spacing quiet p (suc n) owed le =

@@ -1,5 +1,6 @@
 -- What a forecast has yet to give.
 use Rattle.std.specs.Prelude.{◌+◌, ◌^◌, ◌<◌, ◌≤◌, List}
+use Rattle.std.specs.Option.{ForSome}
 use Rattle.rand_chacha.specs.ChaCha.{word_at}
 use Rattle.sim_world.specs.declared.Event.{Event}
 use Rattle.sim_plan.specs.declared.forecast.Forecast.{Forecast}
@@ -14,5 +15,5 @@ yet_planned f =
 pub record IsForecast (f : Forecast) : Type 0 where
   pub servers : (1 ≤ f.servers) × (f.servers ≤ f.hosts)
   pub hosts : (2 ≤ f.hosts) × (f.hosts ≤ 32)
-  pub spacing : 1 ≤ f.spacing
+  pub spacing : ForSome f.spacing (λ s. 1 ≤ s)
   pub words : f.rng.word_pos + f.left < 2 ^ 68

@@ -1,5 +1,6 @@
 -- The run that events make where those are left out that can't happen.
 use Rattle.std.specs.Prelude.{ℕ, ◌+◌, ◌≤◌, List, [], ◌∷◌, ◌++◌, None, Some}
+use Rattle.std.specs.Option.{ForSome}
 use Rattle.sim_node.specs.Node.{NodeLaws}
 use Rattle.sim_world.specs.declared.Event.{Event}
 use Rattle.sim_world.specs.World.{World, Scenario}
@@ -18,7 +19,7 @@ abbrev pub planned_run : {State Msg : Type 0} → NodeLaws State Msg → ℕ →
 planned_run node probes s given plan =
     happening (rules node probes s) (start (rules node probes s)) (given ++ planned s plan)
 
--- A plan with the events given before it is within the limits: a spacing of 2 to 65,536, and room for two healings.
+-- A plan with the events given before it is within the limits: a spacing, if it has one, of 2 to 65,536, and room for two healings.
 pub record IsPlan (given : ℕ) (plan : Plan) : Type 0 where
-  pub spacing : (2 ≤ plan.spacing) × (plan.spacing ≤ 65536)
+  pub spacing : ForSome plan.spacing (λ f. (2 ≤ f) × (f ≤ 65536))
   pub events : given + plan.events + plan.quiet ≤ 65534

@@ -1,5 +1,5 @@
 -- The planned events of a numbered run: steps, and at random places faults and what heals them.
-use Rattle.std.specs.Prelude.{◌≡◌, ℕ, zero, suc, ◌+◌, ◌-◌, ◌/◌, ◌%◌, ◌==◌, Bool, ◌&&◌, ◌||◌, List, [], ◌∷◌, ◌++◌, length, map, replicate, if◌then◌else◌}
+use Rattle.std.specs.Prelude.{◌≡◌, ℕ, zero, suc, ◌+◌, ◌-◌, ◌/◌, ◌%◌, ◌==◌, Bool, ◌&&◌, ◌||◌, Option, None, Some, List, [], ◌∷◌, ◌++◌, length, map, replicate, if◌then◌else◌}
 use Rattle.sim_streams.specs.Word.{word}
 use Rattle.sim_world.specs.declared.Event.{Event}
 use Rattle.sim_world.specs.declared.Event.TheVariants as event
@@ -44,9 +44,10 @@ struck servers hosts v owed =
     if heals v owed then healing (v / 2) owed
     else (event.Fault (new_fault servers hosts (v / 2)).0, owed ++ (new_fault servers hosts (v / 2)).1)
 
--- what a word plans: a step, but for each word that the spacing divides
-abbrev pub planned_by : ℕ → ℕ → ℕ → ℕ → List Fault → Event × List Fault
-planned_by servers hosts spacing w owed =
+-- What a word plans: a step, but for each word that the spacing divides. Without a spacing each plans a step.
+abbrev pub planned_by : ℕ → ℕ → Option ℕ → ℕ → List Fault → Event × List Fault
+planned_by servers hosts None w owed = (event.Step, owed)
+planned_by servers hosts (Some spacing) w owed =
     if w % spacing == 0 then struck servers hosts (w / spacing) owed else (event.Step, owed)
 
 -- A quiet end begins with the healings that are owed, oldest first. Without one they are not made.
@@ -55,14 +56,15 @@ quiet_end zero owed = []
 quiet_end (suc q) owed = map event.Fault owed ++ replicate (suc q) event.Step
 
 -- n planned events from a place of the stream on, and the quiet end
-module _ (words : ℕ → ℕ) (servers hosts spacing quiet : ℕ) where
+module _ (words : ℕ → ℕ) (servers hosts : ℕ) (spacing : Option ℕ) (quiet : ℕ) where
   abbrev pub planned_from : ℕ → ℕ → List Fault → List Event
   planned_from place zero owed = quiet_end quiet owed
   planned_from place (suc n) owed =
       (planned_by servers hosts spacing (words place) owed).0
       ∷ planned_from (place + 1) n (planned_by servers hosts spacing (words place) owed).1
 
--- The planned events: by the seed, the numbers of servers and hosts, the spacing, the number of events and the quiet end alone.
+-- The planned events: by the seed, the numbers of servers and hosts, the spacing if there is one, the number of events and the
+-- quiet end alone.
 unfoldable pub planned_events : List ℕ → ℕ → ℕ → Plan → List Event
 planned_events seed servers hosts plan =
     planned_from (word seed planning) servers hosts plan.spacing plan.quiet 0 plan.events []
@@ -71,7 +73,8 @@ planned_events seed servers hosts plan =
 abbrev pub planned : Scenario → Plan → List Event
 planned s plan = planned_events s.seed s.setup.servers s.setup.hosts plan
 
--- The law of planning: one seed, equally many servers and hosts, and the same numbers of the plan give the same events.
+-- The law of planning: one seed, equally many servers and hosts, one spacing or none in both, and the same numbers of events and
+-- quiet steps give the same events.
 abbrev pub PlansAlike : Scenario → Plan → Type 0
 PlansAlike s plan =
     (t : Scenario) (other : Plan) → t.seed ≡ s.seed → t.setup.servers ≡ s.setup.servers → t.setup.hosts ≡ s.setup.hosts

@@ -1,5 +1,5 @@
 //! The events that words plan, and the quiet end.
-ghost use Rattle.std.specs.Prelude.{◌≡◌, ◌∷◌, [], ◌<◌, ◌≤◌, MatchOption};
+ghost use Rattle.std.specs.Prelude.{◌≡◌, ◌∷◌, [], ◌<◌, ◌≤◌, MatchOption, Some};
 ghost use Rattle.sim_plan.specs.Planned.{planned_by, struck};
 ghost use Rattle.sim_plan.specs.Owing.{healings};
 ghost use Rattle.sim_plan.specs.Forecasting.{yet_planned, IsForecast};
@@ -16,7 +16,8 @@ pub struct Forecast {
     pub rng: ChaCha20Rng,
     pub servers: u32,
     pub hosts: u32,
-    pub spacing: u32,
+    // One event in so many is a fault or a healing. With none, no word is drawn.
+    pub spacing: Option<u32>,
     // How many events are planned by words yet, and how many quiet steps follow.
     pub left: u32,
     pub quiet: u32,
@@ -37,13 +38,13 @@ fn struck(servers: u32, hosts: u32, v: u32, owed: Owed) -> (Event, Owed)
     (Event::Fault(fault), owed.then(healing))
 }
 
-// What a word plans, and the healings that are owed then.
+// What a word plans with a spacing, and the healings that are owed then.
 fn planned_by(servers: u32, hosts: u32, spacing: u32, word: u32, owed: Owed) -> (Event, Owed)
     requires servers { (1 ≤ servers) × (servers ≤ hosts) }
     requires hosts { (2 ≤ hosts) × (hosts ≤ 32) }
     requires spacing { 1 ≤ spacing }
-    ensures event { result.0 ≡ (planned_by servers hosts spacing word (healings owed)).0 }
-    ensures owed { healings result.1 ≡ (planned_by servers hosts spacing word (healings owed)).1 }
+    ensures event { result.0 ≡ (planned_by servers hosts (Some spacing) word (healings owed)).0 }
+    ensures owed { healings result.1 ≡ (planned_by servers hosts (Some spacing) word (healings owed)).1 }
 {
     if word % spacing == 0 {
         struck(servers, hosts, word / spacing, owed)
@@ -53,16 +54,19 @@ fn planned_by(servers: u32, hosts: u32, spacing: u32, word: u32, owed: Owed) -> 
 }
 
 impl Forecast {
-    // The next event that a word plans.
+    // The next event before the quiet end.
     fn next_planned(&mut self) -> Event
         requires fine { IsForecast self.old }
         requires some { 0 < self.old.left }
         ensures fine { IsForecast self.new }
         ensures event { yet_planned self.old ≡ result ∷ yet_planned self.new }
     {
-        let word = self.rng.next_word();
-        let (event, owed) = planned_by(self.servers, self.hosts, self.spacing, word, self.owed);
         self.left -= 1;
+        let Some(spacing) = self.spacing else {
+            return Event::Step;
+        };
+        let word = self.rng.next_word();
+        let (event, owed) = planned_by(self.servers, self.hosts, spacing, word, self.owed);
         self.owed = owed;
         event
     }

@@ -1,9 +1,10 @@
 //! Plans faults at random: which events a numbered run has besides its steps.
 //!
-//! A [`Plan`] says how far apart faults lie, how many events are planned, and how many quiet steps
-//! follow. A [`Planner`] gives the planned events of a scenario one by one: steps, and now and then
-//! a fault or the healing of an earlier one. At most two faults wait for their healing. [`run_of`]
-//! gives the run of a scenario as a list: the planned events that can happen.
+//! A [`Plan`] says how far apart faults lie, if there are to be any, how many events are planned,
+//! and how many quiet steps follow. A [`Planner`] gives the planned events of a scenario one by
+//! one: steps, and now and then a fault or the healing of an earlier one. At most two faults wait
+//! for their healing. [`run_of`] gives the run of a scenario as a list: the planned events that can
+//! happen. [`run_of_planner`] does it for any planner, such as one that gives the events of a slice.
 //!
 //! The faults follow from the seed, the spacing and the numbers of servers and hosts alone. What
 //! the nodes do does not change which faults are planned.
@@ -15,6 +16,8 @@
 //! - The words come from stream 34 of the seed. The 34 streams of a world have the numbers 0 to 33,
 //!   so a plan takes no word from a run. `sim_streams` has no further stream, so a planner has a
 //!   generator of its own, which computes each word once and in order.
+//! - A plan without faults draws no word, which saves their time. Its definition names the words as
+//!   ever, but each of them plans a step.
 //! - A scenario does not show its seed. So a planner is passed the seed as well, and its contract
 //!   wants that it is the scenario's.
 //! - The events given before the plan pass through the planner too, so its caller has one loop.
@@ -28,5 +31,5 @@ mod run;
 
 pub use plan::{MAX_PLANNED, MAX_SPACING, Plan};
 pub use planner::Planner;
-pub use run::run_of;
+pub use run::{run_of, run_of_planner};
 pub use std::alloc::AllocError as NoMemory;

@@ -1,5 +1,6 @@
 //! How a run is planned.
-ghost use Rattle.std.specs.Prelude.{◌≡◌, ◌↔◌, IsTrue};
+ghost use Rattle.std.specs.Prelude.{◌≡◌, ◌↔◌, ◌≤◌, IsTrue};
+ghost use Rattle.std.specs.Option.{ForSome};
 ghost use Rattle.sim_plan.specs.Happening.{IsPlan};
 
 /// The widest spacing of a plan; the closest is 2.
@@ -11,8 +12,9 @@ pub const MAX_PLANNED: u64 = 65_534;
 /// How a run is planned.
 #[derive(Clone, Copy, Debug, PartialEq, Eq)]
 pub struct Plan {
-    /// One event in so many is a fault or a healing, on average: 2 to 65,536.
-    pub spacing: u32,
+    /// One event in so many is a fault or a healing, on average: 2 to 65,536. With none, each planned
+    /// event is a step.
+    pub spacing: Option<u32>,
     /// How many events are planned before the quiet end.
     pub events: u32,
     /// How many steps the quiet end has. With none, the faults that are left are not healed.
@@ -22,15 +24,23 @@ pub struct Plan {
 }
 
 impl Plan {
-    /// Whether the plan, after so many given events, is within the limits: the spacing is 2 to 65,536, and given events, planned
-    /// events and quiet steps are at most 65,534 together.
+    /// Whether the plan, after so many given events, is within the limits: the spacing, if there is
+    /// one, is 2 to 65,536, and given events, planned events and quiet steps are at most 65,534
+    /// together.
     pub fn is_within(&self, given: usize) -> bool
         ensures { IsTrue result ↔ IsPlan given self.now }
     {
         let steps = u64::from(self.events) + u64::from(self.quiet);
-        2 <= self.spacing
-            && self.spacing <= MAX_SPACING
-            && steps <= MAX_PLANNED
-            && given as u64 <= MAX_PLANNED - steps
+        self.is_spaced() && steps <= MAX_PLANNED && given as u64 <= MAX_PLANNED - steps
+    }
+
+    // Whether the spacing, if there is one, is within the limits.
+    fn is_spaced(&self) -> bool
+        ensures { IsTrue result ↔ ForSome self.now.spacing (λ f. (2 ≤ f) × (f ≤ 65536)) }
+    {
+        match self.spacing {
+            None => true,
+            Some(spacing) => 2 <= spacing && spacing <= MAX_SPACING,
+        }
     }
 }

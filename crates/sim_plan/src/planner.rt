@@ -1,5 +1,5 @@
 //! The planned events of a scenario, one by one.
-ghost use Rattle.std.specs.Prelude.{◌≡◌, ◌++◌, length, ◌≤◌};
+ghost use Rattle.std.specs.Prelude.{◌≡◌, [], ◌++◌, length, ◌≤◌};
 ghost use Rattle.std.specs.Iterator.{YieldsFirst, item_count};
 ghost use Rattle.sim_plan.specs.Planned.{planned, PlansAlike};
 ghost use Rattle.sim_plan.specs.Happening.{IsPlan};
@@ -58,6 +58,22 @@ fn forecast(scenario: &Scenario, seed: [u8; 32], plan: Plan) -> Forecast
     }
 }
 
+// A forecast that plans nothing.
+fn nothing() -> Forecast
+    ensures fine { IsForecast result }
+    ensures events { yet_planned result ≡ [] }
+{
+    Forecast {
+        rng: ChaCha20Rng::from_seed([0; 32]),
+        servers: 1,
+        hosts: 2,
+        spacing: None,
+        left: 0,
+        quiet: 0,
+        owed: Owed::Nothing,
+    }
+}
+
 impl<'a> Planner<'a> {
     /// The given events, and then the planned events of a scenario of this seed.
     pub fn new(scenario: &Scenario, seed: [u8; 32], given: &'a [Event], plan: Plan) -> Planner<'a>
@@ -69,6 +85,16 @@ impl<'a> Planner<'a> {
     {
         let forecast = forecast(scenario, seed, plan);
         Planner { given, forecast }
+    }
+
+    /// These events alone.
+    pub fn of_events(events: &'a [Event]) -> Planner<'a>
+        ensures { result ≡ events.now }
+    {
+        Planner {
+            given: events,
+            forecast: nothing(),
+        }
     }
 }
 

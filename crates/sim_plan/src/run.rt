@@ -1,6 +1,7 @@
-//! The planned run of a scenario, as a list.
-ghost use Rattle.std.specs.Prelude.{◌≡◌, IfOk, OnErr, length};
-ghost use Rattle.sim_plan.specs.Happening.{IsPlan, planned_run};
+//! The run that planned events make, as a list.
+ghost use Rattle.std.specs.Prelude.{◌≡◌, ◌≤◌, IfOk, length};
+ghost use Rattle.sim_world.specs.Events.{rules, start};
+ghost use Rattle.sim_plan.specs.Happening.{IsPlan, happening, planned_run};
 
 use crate::{NoMemory, Plan, Planner};
 use sim_node::Node;
@@ -21,10 +22,25 @@ pub fn run_of<N: Node>(
     requires plan { IsPlan (length given.now) plan }
     ensures { IfOk result (λ run. run.items ≡ planned_run N.laws N.PROBES scenario.now given.now plan) }
 {
+    let planner = Planner::new(scenario, seed, given, plan);
+    run_of_planner::<N>(alloc, scenario, planner, meter)
+}
+
+/// The run that the events of a planner make: those that can happen, one after the other. The only error is want of memory.
+pub fn run_of_planner<N: Node>(
+    alloc: Global,
+    scenario: &Scenario,
+    planner: Planner<'_>,
+    meter: &mut N::Meter,
+) -> Result<Vec<Event>, NoMemory>
+    requires few { length planner ≤ 65536 }
+    ensures { IfOk result (λ run. run.items ≡ happening (rules N.laws N.PROBES scenario.now)
+        (start (rules N.laws N.PROBES scenario.now)) planner.entry) }
+{
     let mut world = World::<N>::start(alloc, scenario, meter)?;
     let mut undo = Undo::empty(alloc);
     let mut run = Vec::new(alloc);
-    for event in Planner::new(scenario, seed, given, plan) {
+    for event in planner {
         match world.can(event) {
             Err(_) => continue,
             Ok(()) => {}

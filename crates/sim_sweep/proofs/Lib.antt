@@ -1,2 +1,3 @@
 mod Walks
 mod Scanning
+mod Refusals

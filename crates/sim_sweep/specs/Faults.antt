@@ -1,13 +1,18 @@
 -- When a sweep with faults is refused.
-use Rattle.std.specs.Prelude.{ℕ, ◌+◌, ◌^◌, ◌==◌, ◌||◌, nat_lt, Bool, Option}
+use Rattle.std.specs.Prelude.{ℕ, ◌+◌, ◌^◌, ◌==◌, ◌||◌, nat_lt, Bool, false, Option, None, Some}
 use Rattle.sim_watch.specs.Condition.{Cond}
 use Rattle.sim_search.specs.declared.SearchFault.{SearchFault}
 use Rattle.sim_search.specs.Faults.{fault_after}
 use Rattle.sim_plan.specs.declared.plan.Plan.{Plan}
 
--- The spacing is 2 to 65,536, and the given events, the planned ones and the quiet steps are at most 65,534.
+-- A spacing, if there is one, is 2 to 65,536.
+abbrev pub is_bad_spacing : Option ℕ → Bool
+is_bad_spacing None = false
+is_bad_spacing (Some f) = nat_lt f 2 || nat_lt 65536 f
+
+-- The given events, the planned ones and the quiet steps are at most 65,534.
 abbrev pub is_bad_plan : ℕ → Plan → Bool
-is_bad_plan given plan = nat_lt plan.spacing 2 || (nat_lt 65536 plan.spacing || nat_lt 65534 (given + plan.events + plan.quiet))
+is_bad_plan given plan = is_bad_spacing plan.spacing || nat_lt 65534 (given + plan.events + plan.quiet)
 
 -- There are 1 to 2 ^ 32 seeds, and each seed number is below 2 ^ 64.
 abbrev pub are_bad_seeds : ℕ → ℕ → Bool

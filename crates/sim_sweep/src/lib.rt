@@ -1,7 +1,8 @@
-//! Finds the first of many seeds whose run with planned faults fails, with several workers.
+//! Finds the first of many seeds whose planned run fails, with several workers.
 //!
-//! - [`sweep_planned`] runs a scenario under `count` numbered seeds, each with its planned events.
-//!   It returns the least number with a failing place and the first such place of that run.
+//! - [`sweep_planned`] runs a scenario under `count` numbered seeds, each with its planned events,
+//!   which are steps and, if the plan has a spacing, faults. It returns the least number with a
+//!   failing place and the first such place of that run.
 //! - [`scan_planned`] does it for one run.
 //!
 //! A place is a number of events that happened: an event of the plan that can't happen is left out

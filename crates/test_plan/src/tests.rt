@@ -2,9 +2,11 @@
 //!
 //! What each test catches:
 //! - `the_run_of_a_seed`: a word that is read as another event than the definition says.
+//! - `the_run_of_a_seed_without_faults`: no spacing that is read as no events.
 //! - `first_seed_that_disagrees`: a sweep that gives up, with one worker or with several.
 //! - `first_seed_that_is_not_done`: a quiet end that heals nothing, or is looked at too early.
 ghost use Rattle.std.specs.Prelude.{◌≡◌, ◌<◌, ◌≤◌, IfOk, replicate, vec_len};
+ghost use Rattle.sim_plan.specs.Happening.{IsPlan};
 
 use sim_links::{Way, Ways};
 use sim_node::Setup;
@@ -21,7 +23,7 @@ use std::test::Fail;
 use std::thread::Threads;
 
 const FAULTS: Plan = Plan {
-    spacing: 8,
+    spacing: Some(8),
     events: 120,
     quiet: 0,
     at_end: false,
@@ -116,13 +118,10 @@ const RUN_654: &str = "Step; Step; Step; Step; Step; Step; Step; Step; Step; Ste
     Fault(Bounce(0)); Step; Step; Fault(Crash(1)); Step; Step; Fault(Bounce(0)); Step; Step; Step; \
     Step; Fault(Bounce(1)); Step; Step; ";
 
-#[test]
-fn the_run_of_a_seed(rt: HostRuntime) -> Result<(), Fail> {
-    let alloc = rt.alloc();
-    let plan = Plan {
-        events: 26,
-        ..FAULTS
-    };
+// The planned run of seed number 654, as text.
+fn run_654(alloc: Global, plan: Plan) -> Result<String, Fail>
+    requires { IsPlan 0 plan }
+{
     let scenario = scenario()?.numbered(654);
     let run = run_of::<TwoPhase<Tally>>(
         alloc,
@@ -136,6 +135,29 @@ fn the_run_of_a_seed(rt: HostRuntime) -> Result<(), Fail> {
     for event in &run {
         write!(text, "{:?}; ", event)?;
     }
+    Ok(text)
+}
+
+#[test]
+fn the_run_of_a_seed(rt: HostRuntime) -> Result<(), Fail> {
+    let plan = Plan {
+        events: 26,
+        ..FAULTS
+    };
+    let text = run_654(rt.alloc(), plan)?;
     assert_eq!(&rt; text.as_str(), RUN_654);
+    Ok(())
+}
+
+#[test]
+fn the_run_of_a_seed_without_faults(rt: HostRuntime) -> Result<(), Fail> {
+    let plan = Plan {
+        spacing: None,
+        events: 2,
+        quiet: 3,
+        ..FAULTS
+    };
+    let text = run_654(rt.alloc(), plan)?;
+    assert_eq!(&rt; text.as_str(), "Step; Step; Step; Step; Step; ");
     Ok(())
 }

@@ -1,16 +1,10 @@
-use Rattle.std.proofs.Common.{length, ap, ◌∙◌, arith}
-use Rattle.sim_plan.proofs.Runs.{run_none}
+use Rattle.std.proofs.Common.{◌≡◌, IfOk, List, subst}
+use Rattle.sim_world.specs.declared.Event.{Event}
+use Rattle.sim_world.specs.Events.{rules, start}
+use Rattle.sim_plan.specs.Happening.{happening}
 use Rattle.sim_plan.proofs.run.run_of.Goals as goal
 
-pub loop-event-init : goal.loop-event-init
-loop-event-init g c =
-    let all = c.into_iter-event-iterator.ensures.into_iter_gives in
-    let world = c.in_ok-world.ensures.value in
-    let few = c.new-event-items.ensures.few in
-    let long = ap length all in
-    let age = ap (λ w. w.age) world in (
-      run_none g.N.Node.laws g.N.Node.PROBES c.args.scenario.now c.args.given.now c.args.plan c.in_ok-world.world c.new-run.result.items
-          c.into_iter-event-iterator.result world c.new-run.ensures.items (all ∙ c.new-event-items.ensures.events),
-      ap (λ w. w.scenario) world,
-      omega (arith, age, long, few),
-    )
+pub returns : goal.returns
+returns g c =
+    let r = rules g.N.Node.laws g.N.Node.PROBES c.args.scenario.now in
+    subst (λ (es : List Event). IfOk c.run_of_planner.result (λ run. run.items ≡ happening r (start r) es)) c.new-planner.ensures.events c.run_of_planner.ensures
