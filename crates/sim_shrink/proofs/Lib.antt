@@ -1,0 +1,4 @@
+mod Kept
+mod Failing
+mod Choices
+mod Trying
