@@ -1,2 +1,4 @@
 pub mod Reading
 mod Scripts
+mod Joined
+mod Spelled

@@ -1,6 +1,6 @@
 -- The line of an event is read as the command that makes the event.
-use Rattle.std.proofs.Common.{◌≡◌, ◌∙◌, refl, sym, ap, arith, ℕ, ◌+◌, ◌<◌, ◌≤◌, List, [], ◌∷◌, ◌++◌, length, Bool, true, false, ◌&&◌, ◌||◌, Option, Some, None, append_assoc, length-append, option_map, option_and_then, ◌⊎◌, inl, inr, cond}
-use Rattle.std.specs.Prelude.{◌==◌, nat_le, nat_lt, codes, slice_index}
+use Rattle.std.proofs.Common.{◌≡◌, ◌∙◌, refl, sym, ap, arith, ℕ, ◌<◌, ◌≤◌, List, [], ◌∷◌, ◌++◌, length, Bool, true, false, ◌&&◌, ◌||◌, Some, None, length-append, option_map, option_and_then, inl, inr}
+use Rattle.std.specs.Prelude.{◌==◌, nat_le, nat_lt, codes}
 use Rattle.std.specs.List.{list_all, position}
 use Rattle.std.specs.Option.{unwrap_or}
 use Rattle.std.specs.Str.{bytes_eq}
@@ -16,9 +16,8 @@ use Rattle.sim_world.specs.declared.Event.{Event}
 use Rattle.sim_world.specs.declared.Event.TheVariants as event
 use Rattle.sim_book.specs.declared.Command.{Command}
 use Rattle.sim_book.specs.declared.Command.TheVariants as command
-use Rattle.sim_script.specs.Words.{Text, Names, named, host, host_name, words, is_word, HasNoSpace}
+use Rattle.sim_script.specs.Words.{Text, Names, named, name_at, host, host_name, words, is_word, HasNoSpace}
 use Rattle.sim_script.specs.Script.{script_line, command_of, command_by, numbered_of, fault_of, a_host, two_hosts}
-use Rattle.sim_script.specs.declared.script.ScriptLine.{ScriptLine}
 use Rattle.sim_script.specs.declared.script.ScriptLine.TheVariants.{Asked}
 use Rattle.sim_script.proofs.FirstWords.{words-word, words-last}
 use Rattle.sim_script.proofs.Picking.{of_if}
@@ -36,10 +35,10 @@ plain_has_none (c ∷ name) h =
     let parts = and_parts (is_letter c || is_digit c) (list_all (λ x. is_letter x || is_digit x) name) h in
     All-cons (λ byte. (byte == 32) ≡ false) c name (no_space_in c parts.0) (plain_has_none name parts.1)
 
--- what is read as a host is a name
-is_named : (names : Names) (word : Text) (h : ℕ) → host names word ≡ Some h → is_name word ≡ true
+-- what is read as one of the names is a name
+pub is_named : (names : List Text) (absent : ℕ) (word : Text) (n : ℕ) → named names absent word ≡ Some n → is_name word ≡ true
 unfolding named
-is_named names word h e = elim (of_if (is_name word) (Some (unwrap_or (position (bytes_eq word) names.hosts) 65535)) None h e) [
+is_named names absent word n e = elim (of_if (is_name word) (Some (unwrap_or (position (bytes_eq word) names) absent)) None n e) [
   | inl w ↦ w.0
   | inr w ↦ absurd (let x = w.1 in cc)
 ]
@@ -50,30 +49,30 @@ pub record IsPlain (name : Text) : Type 0 where
   pub spaceless : HasNoSpace name
   pub short : length name ≤ 16
 
-plain : (name : Text) → is_name name ≡ true → IsPlain name
+pub plain : (name : Text) → is_name name ≡ true → IsPlain name
 plain name h =
     let parts = and_parts (nat_le (length name) 16 && begins_with_letter name) (list_all (λ c. is_letter c || is_digit c) name) h in
     let first = and_parts (nat_le (length name) 16) (begins_with_letter name) parts.0 in
     record { bytes = parts.1; spaceless = plain_has_none name parts.1; short = grind (arith, nat_tests, first.0) }
 
--- a host with a name is there, and its name is read as it
-there_by : (names : Names) (h : ℕ) (b : Bool) → nat_lt h (length names.hosts) ≡ b → is_word (host_name names h) ≡ true → h < length names.hosts
-there_by names h true e w = grind (arith, nat_tests)
-there_by names h false e w =
-    let past : length names.hosts ≤ h = grind (arith, nat_tests) in
-    let none : host_name names h ≡ [] = get_or_past names.hosts h [] past in
+there_by : (names : List Text) (n : ℕ) (b : Bool) → nat_lt n (length names) ≡ b → is_word (name_at names n) ≡ true → n < length names
+there_by names n true e w = grind (arith, nat_tests)
+there_by names n false e w =
+    let past : length names ≤ n = grind (arith, nat_tests) in
+    let none : name_at names n ≡ [] = get_or_past names n [] past in
     absurd (let f = ap is_word none in cc)
 
--- a host with a name is there
-there : (names : Names) (h : ℕ) → is_word (host_name names h) ≡ true → h < length names.hosts
-there names h w = there_by names h (nat_lt h (length names.hosts)) refl w
+-- what has a name is there
+pub there : (names : List Text) (n : ℕ) → is_word (name_at names n) ≡ true → n < length names
+there names n w = there_by names n (nat_lt n (length names)) refl w
 
+-- a host's name is read as the host
 read : (names : Names) (h : ℕ) → AreRead names → is_word (host_name names h) ≡ true → host names (host_name names h) ≡ Some h
 unfolding AreRead
-read names h are w = are h (there names h w)
+read names h are w = are h (there names.hosts h w)
 
 plain_host : (names : Names) (h : ℕ) → AreRead names → is_word (host_name names h) ≡ true → IsPlain (host_name names h)
-plain_host names h are w = plain (host_name names h) (is_named names (host_name names h) h (read names h are w))
+plain_host names h are w = plain (host_name names h) (is_named names.hosts 65535 (host_name names h) h (read names h are w))
 
 -- ---- lines
 

@@ -1,7 +1,7 @@
 -- The lines of a script, one after the other, and how they are read.
-use Rattle.std.proofs.Common.{◌≡◌, ◌∙◌, refl, sym, ap, arith, ℕ, zero, suc, ◌+◌, ◌-◌, ◌<◌, ◌≤◌, List, [], ◌∷◌, ◌++◌, length, map, Bool, true, false, ◌&&◌, ◌||◌, Option, Some, None, append_assoc, length-append, option_map, option_and_then, cond, get_or, take}
-use Rattle.std.specs.Prelude.{◌==◌, codes, slice_index, All}
-use Rattle.std.specs.List.{list_all, slice_split, count_by}
+use Rattle.std.proofs.Common.{◌≡◌, ◌∙◌, refl, sym, ap, arith, ℕ, zero, suc, ◌+◌, ◌-◌, ◌<◌, List, [], ◌∷◌, ◌++◌, length, map, true, false, Option, Some, None, append_assoc, option_map, option_and_then, cond, get_or, take}
+use Rattle.std.specs.Prelude.{◌==◌, slice_index, All}
+use Rattle.std.specs.List.{list_all, slice_split}
 use Rattle.std.specs.Str.Lines.{lines, lines_of_parts, strip_carriage_return}
 use Rattle.std.proofs.lemmas.Bool.Decides.{nat_tests}
 use Rattle.std.proofs.lemmas.List.Splits.{slice_split_at, length-slice_split}

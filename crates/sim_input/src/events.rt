@@ -11,11 +11,11 @@ use sim_script::Names;
 use sim_world::{Event, Fault};
 use std::alloc::{AllocError, Global};
 
-/// Why an event has no line.
+/// Why an event or a condition is not written.
 #[derive(Clone, Copy, Debug, PartialEq, Eq)]
 pub enum LineError {
-    /// No line of a script makes this event: it moves the clock alone, or names a host that has
-    /// no name.
+    /// No words are read as it: an event that moves the clock alone, a condition with no term or
+    /// with a number of 20 digits, or what names a host or a probe that has no name.
     NoLine,
     NoMemory,
 }

@@ -10,10 +10,16 @@
 //! events. No word of the grammar is repeated here as a rule: the line of an event is defined once,
 //! and the proof reads it.
 //!
+//! [`push_condition`] writes a condition as the words that are read as that condition, where each
+//! name is also read as its probe. So a condition that a program made can be looked for by the
+//! command line.
+//!
 //! An advance of the clock alone has no line, since no command of a script makes it: `tick` takes
 //! what is due on the way. A fault of a host without a name has none either.
 #![tactic(auto)]
 
+mod condition;
 mod events;
 
+pub use condition::push_condition;
 pub use events::{LineError, push_event, script};

@@ -2,9 +2,13 @@
 //!
 //! * `scripts`: a line that reads back as its event, but is not what the page of scripts says, and
 //!   an event that is refused though it has a line.
+//! * `conditions`: a condition that is written otherwise than the page of scripts says, as with two
+//!   spaces, or is refused though it can be written.
+ghost use Rattle.std.specs.Prelude.{◌≡◌, codes, [], ◌∷◌, vec_len, IfOk};
 
-use sim_input::{LineError, script};
-use sim_script::Names;
+use sim_input::{LineError, push_condition, script};
+use sim_scenario::Protocols;
+use sim_script::{Names, condition_of};
 use sim_world::{Event, Fault};
 use std::alloc::{AllocError, Global};
 use std::test::Fail;
@@ -23,6 +27,34 @@ window = 4
 name = \"w\"
 ops = 1
 ";
+
+/// Conditions with each kind of term, and each sign.
+const CONDITIONS: [&str; 3] = [
+    "w.next <= 2 and any num < 3 or not up w or agree val by num unless 0",
+    "count num >= a.num = 3 and all val != 9999999999999999999 or differ val unless 1",
+    "up a and b1.val > 0 or done w and not done b1 or agree num unless 12",
+];
+
+/// The protocol that the scenario names.
+struct Echo;
+
+impl Protocols for Echo {
+    ghost listed = { record { name = codes "echo"; least_servers = 1 } ∷ [] };
+
+    fn named(name: &str) -> Option<usize> {
+        match name {
+            "echo" => Some(0),
+            _ => None,
+        }
+    }
+
+    fn least_servers(place: usize) -> usize {
+        match place {
+            0 => 1,
+            _ => 0,
+        }
+    }
+}
 
 /// What the events below are written as.
 const SCRIPT: &str = "step
@@ -52,9 +84,20 @@ fn events() -> [Event; 10] {
     ]
 }
 
+fn probes(alloc: Global) -> Result<Vec<String>, AllocError>
+    ensures { IfOk result (λ probes. vec_len probes ≡ 3) }
+{
+    let mut probes = Vec::new(alloc);
+    probes.push(String::from_str(alloc, "next")?)?;
+    probes.push(String::from_str(alloc, "num")?)?;
+    probes.push(String::from_str(alloc, "val")?)?;
+    Ok(probes)
+}
+
 fn names(alloc: Global) -> Result<Names, AllocError> {
-    match sim_scenario::read(alloc, SCENARIO) {
-        Ok(text) => Ok(Names::new(text.names, Vec::new(alloc))),
+    let probes = probes(alloc)?;
+    match sim_scenario::read::<Echo>(alloc, SCENARIO) {
+        Ok(text) => Ok(Names::new(text.names, probes)),
         Err(_) => Err(AllocError),
     }
 }
@@ -73,6 +116,38 @@ fn written(alloc: Global, names: &Names) -> Result<String, AllocError> {
         Ok(text) => Ok(text),
         Err(_) => Err(AllocError),
     }
+}
+
+/// The condition that a text writes, written.
+fn rewritten(alloc: Global, names: &Names, text: &str) -> Result<String, Fail> {
+    let cond = condition_of(names, text.as_bytes()).ok_or("no condition")?;
+    let mut written = String::new(alloc);
+    push_condition(&mut written, names, &cond)?;
+    Ok(written)
+}
+
+/// Whether the condition that a text writes cannot be written.
+fn is_lost(alloc: Global, names: &Names, text: &str) -> bool {
+    let Some(cond) = condition_of(names, text.as_bytes()) else {
+        return false;
+    };
+    let mut written = String::new(alloc);
+    matches!(
+        push_condition(&mut written, names, &cond),
+        Err(LineError::NoLine)
+    )
+}
+
+#[test]
+fn conditions(rt: HostRuntime) -> Result<(), Fail> {
+    let alloc = rt.alloc();
+    let names = names(alloc)?;
+    for text in CONDITIONS {
+        assert_eq!(rt; rewritten(alloc, &names, text)?.as_str(), text);
+    }
+    assert!(rt; is_lost(alloc, &names, "up a or up nobody"));
+    assert!(rt; is_lost(alloc, &names, "any nothing = 0"));
+    Ok(())
 }
 
 #[test]
