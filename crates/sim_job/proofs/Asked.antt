@@ -1,11 +1,15 @@
 -- What the getters say of the rows.
 use Rattle.std.proofs.Common.{◌≡◌, ◌∙◌, ap, ◌≤◌, arith, sym, refl, ℕ, Bool, true, false, List, Option, Some, None, codes}
 use Rattle.std.specs.Prelude.{MatchOption, Result, Ok, Err, unwrap_or}
+use Rattle.std.specs.Result.{result_ok}
+use Rattle.std.specs.Str.{bytes_eq}
 use Rattle.std.specs.Str.Parse.{ParsesUnsigned, digits_value, without_leading_plus}
-use Rattle.clap.specs.Words.{Row, Text, ReadsOne, one_of, one_text, rows_of}
+use Rattle.clap.specs.Words.{Row, Text, ReadsOne, TriesOne, one_of, one_text, rows_of}
 use Rattle.clap.specs.declared.parser.matches.Found.{Found}
 use Rattle.clap.proofs.WalkLemmas.{one_text-rows}
-use Rattle.sim_job.specs.CommandLine.{Asks, HasFewWorkers, HasFlag, HasNumber, HasWorkers}
+use Rattle.sim_job.specs.CommandLine.{Asks, HasFewWorkers, HasFlag, HasNumber, HasOption, HasTeam, HasFaultPlan, HasWorkers}
+use Rattle.sim_job.specs.declared.wanted.Team.{Team}
+use Rattle.sim_job.specs.declared.wanted.FaultPlan.{FaultPlan}
 use Rattle.sim_job.specs.declared.wanted.Job.{Job}
 use Rattle.sim_job.specs.declared.wanted.Job.TheVariants as job
 
@@ -26,6 +30,28 @@ module _ {E : Type 0} (G : Text → Result ℕ E → Type 0) (only : (t : Text) 
       go None e = rw (none (one_text-rows f id ∙ e)) (λ n x. let bad : None ≡ Some x.0 = sym e ∙ x.1 in cc)
       go (Some t) e = read_at id (rows_of f) t e r (value t (one_text-rows f id ∙ e))
 
+  tried_at : (id : Text) (rows : List Row) (t : Text) → one_of id rows ≡ Some t → (r : Result (Option ℕ) E) → TriesOne G t r
+      → MatchOption (result_ok r) ((n : Option ℕ) → ¬ HasOption id rows n) (HasOption id rows)
+  tried_at id rows t there (Ok (Some v)) h = (t, there, only t (Ok v) h)
+  tried_at id rows t there (Ok None) h = absurd h
+  tried_at id rows t there (Err why) h = λ o. not_read o
+    where
+      not_read : (o : Option ℕ) → ¬ HasOption id rows o
+      not_read None x = let bad : Some t ≡ None = sym there ∙ x in cc
+      not_read (Some n) x =
+          let same : Some t ≡ Some x.0 = sym there ∙ x.1 in
+          let is : t ≡ x.0 = ap (λ (o : Option Text). unwrap_or o t) same in
+          only t (Err why) h (rw is x.2.0)
+
+  -- the option that a try to read it gives, and none where the try failed
+  pub option_read : (f : Found) (id : Text) (r : Result (Option ℕ) E) → (one_text f id ≡ None → r ≡ Ok None)
+      → ((t : Text) → one_text f id ≡ Some t → TriesOne G t r) → MatchOption (result_ok r) ((n : Option ℕ) → ¬ HasOption id (rows_of f) n) (HasOption id (rows_of f))
+  option_read f id r none value = go (one_of id (rows_of f)) refl
+    where
+      go : (o : Option Text) → one_of id (rows_of f) ≡ o → MatchOption (result_ok r) ((n : Option ℕ) → ¬ HasOption id (rows_of f) n) (HasOption id (rows_of f))
+      go None e = rw (none (one_text-rows f id ∙ e)) e
+      go (Some t) e = tried_at id (rows_of f) t e r (value t (one_text-rows f id ∙ e))
+
 -- a value is read as one number
 same_number : (id : Text) (rows : List Row) (n m : ℕ) → HasNumber id rows n → HasNumber id rows m → n ≡ m
 same_number id rows n m x y =
@@ -42,6 +68,10 @@ flag_read f id b absent set unset = record {
   none = λ h. absent (one_text-rows f id ∙ h);
 }
 
+-- two names differ
+apart : (a b : Text) → a ≡ b → bytes_eq a b ≡ false → bytes_eq b b ≡ true → ⊥
+apart a b same off on = let bad : false ≡ true = sym off ∙ ap (λ (t : Text). bytes_eq t b) same ∙ on in cc
+
 module _ (rows : List Row) where
   -- without a number of workers, or with another than 1 to 16, there are no workers
   pub no_number : ((n : ℕ) → ¬ HasNumber (codes "workers") rows n) → (n : ℕ) → ¬ HasWorkers rows n
@@ -54,44 +84,76 @@ module _ (rows : List Row) where
       let high = h.2 in
       outside (omega arith) (omega arith)
 
-  -- without one of its numbers a subcommand asks for nothing
-  pub no_workers_to_search : ((n : ℕ) → ¬ HasWorkers rows n) → (asked : Job) → ¬ Asks (codes "search") rows asked
-  no_workers_to_search none job.Play h = cc
-  no_workers_to_search none (job.Search n p lo hi cond) h = none n h.1
-  no_workers_to_search none (job.Sweep n p first count events cond) h = cc
+  -- without their number there is no team, and without one of theirs no plan
+  pub no_team : ((n : ℕ) → ¬ HasWorkers rows n) → (team : Team) → ¬ HasTeam rows team
+  no_team none team h = none team.workers h.workers
+
+  pub no_faults : ((n : Option ℕ) → ¬ HasOption (codes "faults") rows n) → (plan : FaultPlan) → ¬ HasFaultPlan rows plan
+  no_faults none plan h = none plan.faults h.faults
+
+  pub no_quiet : ((n : ℕ) → ¬ HasNumber (codes "quiet") rows n) → (plan : FaultPlan) → ¬ HasFaultPlan rows plan
+  no_quiet none plan h = none plan.quiet h.quiet
+
+  -- a subcommand asks for no job where there can be no values for it
+  not_search : ((team : Team) (lo hi : ℕ) → HasTeam rows team → HasNumber (codes "lo") rows lo → HasNumber (codes "hi") rows hi → ⊥) → (asked : Job) → ¬ Asks (codes "search") rows asked
+  not_search none job.Play h = apart (codes "search") (codes "play") h refl refl
+  not_search none (job.Search team lo hi cond) h = none team lo hi h.1 h.2 h.3
+  not_search none (job.Sweep team plan at_end script first count events cond) h = apart (codes "search") (codes "sweep") h.0 refl refl
+  not_search none (job.Script plan seed events) h = apart (codes "search") (codes "script") h.0 refl refl
+  not_search none (job.Shrink progress cond) h = apart (codes "search") (codes "shrink") h.0 refl refl
+
+  not_sweep : ((team : Team) (plan : FaultPlan) (first count events : ℕ) → HasTeam rows team → HasFaultPlan rows plan → HasNumber (codes "first") rows first → HasNumber (codes "count") rows count → HasNumber (codes "events") rows events → ⊥) → (asked : Job) → ¬ Asks (codes "sweep") rows asked
+  not_sweep none job.Play h = apart (codes "sweep") (codes "play") h refl refl
+  not_sweep none (job.Search team lo hi cond) h = apart (codes "sweep") (codes "search") h.0 refl refl
+  not_sweep none (job.Sweep team plan at_end script first count events cond) h = none team plan first count events h.1 h.2 h.5 h.6 h.7
+  not_sweep none (job.Script plan seed events) h = apart (codes "sweep") (codes "script") h.0 refl refl
+  not_sweep none (job.Shrink progress cond) h = apart (codes "sweep") (codes "shrink") h.0 refl refl
+
+  not_script : ((plan : FaultPlan) (seed events : ℕ) → HasFaultPlan rows plan → HasNumber (codes "seed") rows seed → HasNumber (codes "events") rows events → ⊥) → (asked : Job) → ¬ Asks (codes "script") rows asked
+  not_script none job.Play h = apart (codes "script") (codes "play") h refl refl
+  not_script none (job.Search team lo hi cond) h = apart (codes "script") (codes "search") h.0 refl refl
+  not_script none (job.Sweep team plan at_end script first count events cond) h = apart (codes "script") (codes "sweep") h.0 refl refl
+  not_script none (job.Script plan seed events) h = none plan seed events h.1 h.2 h.3
+  not_script none (job.Shrink progress cond) h = apart (codes "script") (codes "shrink") h.0 refl refl
+
+  -- so where one of them is missing
+  pub no_team_to_search : ((team : Team) → ¬ HasTeam rows team) → (asked : Job) → ¬ Asks (codes "search") rows asked
+  no_team_to_search none = not_search (λ team lo hi a b d. none team a)
 
   pub no_lo : ((n : ℕ) → ¬ HasNumber (codes "lo") rows n) → (asked : Job) → ¬ Asks (codes "search") rows asked
-  no_lo none job.Play h = cc
-  no_lo none (job.Search n p lo hi cond) h = none lo h.3
-  no_lo none (job.Sweep n p first count events cond) h = cc
+  no_lo none = not_search (λ team lo hi a b d. none lo b)
 
   pub no_hi : ((n : ℕ) → ¬ HasNumber (codes "hi") rows n) → (asked : Job) → ¬ Asks (codes "search") rows asked
-  no_hi none job.Play h = cc
-  no_hi none (job.Search n p lo hi cond) h = none hi h.4
-  no_hi none (job.Sweep n p first count events cond) h = cc
+  no_hi none = not_search (λ team lo hi a b d. none hi d)
 
-  pub no_workers_to_sweep : ((n : ℕ) → ¬ HasWorkers rows n) → (asked : Job) → ¬ Asks (codes "sweep") rows asked
-  no_workers_to_sweep none job.Play h = cc
-  no_workers_to_sweep none (job.Search n p lo hi cond) h = cc
-  no_workers_to_sweep none (job.Sweep n p first count events cond) h = none n h.1
+  pub no_team_to_sweep : ((team : Team) → ¬ HasTeam rows team) → (asked : Job) → ¬ Asks (codes "sweep") rows asked
+  no_team_to_sweep none = not_sweep (λ team plan first count events a b d e f. none team a)
+
+  pub no_fault_plan_to_sweep : ((plan : FaultPlan) → ¬ HasFaultPlan rows plan) → (asked : Job) → ¬ Asks (codes "sweep") rows asked
+  no_fault_plan_to_sweep none = not_sweep (λ team plan first count events a b d e f. none plan b)
 
   pub no_first : ((n : ℕ) → ¬ HasNumber (codes "first") rows n) → (asked : Job) → ¬ Asks (codes "sweep") rows asked
-  no_first none job.Play h = cc
-  no_first none (job.Search n p lo hi cond) h = cc
-  no_first none (job.Sweep n p first count events cond) h = none first h.3
+  no_first none = not_sweep (λ team plan first count events a b d e f. none first d)
 
   pub no_count : ((n : ℕ) → ¬ HasNumber (codes "count") rows n) → (asked : Job) → ¬ Asks (codes "sweep") rows asked
-  no_count none job.Play h = cc
-  no_count none (job.Search n p lo hi cond) h = cc
-  no_count none (job.Sweep n p first count events cond) h = none count h.4
+  no_count none = not_sweep (λ team plan first count events a b d e f. none count e)
 
-  pub no_events : ((n : ℕ) → ¬ HasNumber (codes "events") rows n) → (asked : Job) → ¬ Asks (codes "sweep") rows asked
-  no_events none job.Play h = cc
-  no_events none (job.Search n p lo hi cond) h = cc
-  no_events none (job.Sweep n p first count events cond) h = none events h.5
+  pub no_events_to_sweep : ((n : ℕ) → ¬ HasNumber (codes "events") rows n) → (asked : Job) → ¬ Asks (codes "sweep") rows asked
+  no_events_to_sweep none = not_sweep (λ team plan first count events a b d e f. none events f)
+
+  pub no_fault_plan_to_script : ((plan : FaultPlan) → ¬ HasFaultPlan rows plan) → (asked : Job) → ¬ Asks (codes "script") rows asked
+  no_fault_plan_to_script none = not_script (λ plan seed events a b d. none plan a)
+
+  pub no_seed : ((n : ℕ) → ¬ HasNumber (codes "seed") rows n) → (asked : Job) → ¬ Asks (codes "script") rows asked
+  no_seed none = not_script (λ plan seed events a b d. none seed b)
+
+  pub no_events_to_script : ((n : ℕ) → ¬ HasNumber (codes "events") rows n) → (asked : Job) → ¬ Asks (codes "script") rows asked
+  no_events_to_script none = not_script (λ plan seed events a b d. none events d)
 
 -- the workers of a job that is asked are few
 pub asks_few : (name : Text) (rows : List Row) (asked : Job) → Asks name rows asked → HasFewWorkers asked
 asks_few name rows job.Play h = tt
-asks_few name rows (job.Search n p lo hi cond) h = (h.1.1, h.1.2)
-asks_few name rows (job.Sweep n p first count events cond) h = (h.1.1, h.1.2)
+asks_few name rows (job.Search team lo hi cond) h = (h.1.workers.1, h.1.workers.2)
+asks_few name rows (job.Sweep team plan at_end script first count events cond) h = (h.1.workers.1, h.1.workers.2)
+asks_few name rows (job.Script plan seed events) h = tt
+asks_few name rows (job.Shrink progress cond) h = tt

@@ -1,13 +1,19 @@
 -- The command line of the program, as clap reads it, and the job that the matches ask for.
-use Rattle.std.specs.Prelude.{◌≡◌, ◌≢◌, ◌⊎◌, ◌<◌, ◌≤◌, ◌^◌, ℕ, Bool, true, false, codes, List, [], ◌∷◌, None, Some, ⊤}
+use Rattle.std.specs.Prelude.{◌≡◌, ◌≢◌, ◌⊎◌, ◌<◌, ◌≤◌, ◌^◌, ℕ, Bool, true, false, codes, List, [], ◌∷◌, Option, None, Some, ⊤}
 use Rattle.std.specs.Str.Parse.{IsNumeral, digits_value, without_leading_plus}
-use Rattle.clap.specs.Words.{App, Row, Rule, Text, IsAmong, Kinds, fault_of, first_of, new_app, new_rule, one_of, subcommand_of, with_rule, with_subcommand}
+use Rattle.clap.specs.Words.{App, Row, Rule, Shape, Text, IsAmong, Kinds, fault_of, first_of, new_rule, one_of, rule_of, shape_of, subcommand_of}
+use Rattle.clap.specs.Simple.{new_shape}
+use Rattle.clap.specs.declared.builder.arg.Arg.{Arg}
+use Rattle.clap.specs.declared.builder.command.Command.{Command}
+use Rattle.clap.specs.declared.builder.command.Command.TheViews.{out-Command as fields_of}
 use Rattle.clap.specs.declared.builder.value_parser.ValueParser.TheVariants as parser
 use Rattle.clap.specs.declared.builder.action.ArgAction.TheVariants as action
 use Rattle.clap.specs.declared.error.kind.ErrorKind.{ErrorKind}
 use Rattle.clap.specs.declared.error.kind.ErrorKind.TheVariants as kind
 use Rattle.sim_job.specs.declared.line.LineError.{LineError}
 use Rattle.sim_job.specs.declared.line.LineError.TheVariants as line_fault
+use Rattle.sim_job.specs.declared.wanted.Team.{Team}
+use Rattle.sim_job.specs.declared.wanted.FaultPlan.{FaultPlan}
 use Rattle.sim_job.specs.declared.wanted.Job.{Job}
 use Rattle.sim_job.specs.declared.wanted.Job.TheVariants as job
 
@@ -22,9 +28,35 @@ workers = record (new_rule (codes "workers")) {
   parser = Some (parser.Unsigned 1 16);
 }
 
--- `--progress`, a flag
+-- a flag, whose long name is its id
+abbrev pub flag : Text → Rule
+flag id = record (new_rule id) { long = Some id; action = Some action.SetTrue }
+
 abbrev pub progress : Rule
-progress = record (new_rule (codes "progress")) { long = Some (codes "progress"); action = Some action.SetTrue }
+progress = flag (codes "progress")
+
+abbrev pub with_script : Rule
+with_script = flag (codes "script")
+
+abbrev pub at_end : Rule
+at_end = flag (codes "at-end")
+
+-- `--faults F`, a number of 64 bits or none
+abbrev pub faults : Rule
+faults = record (new_rule (codes "faults")) {
+  long = Some (codes "faults");
+  value_names = 1;
+  parser = Some (parser.Unsigned 0 18446744073709551615);
+}
+
+-- `--quiet Q`, a number of 64 bits, by default 0
+abbrev pub quiet : Rule
+quiet = record (new_rule (codes "quiet")) {
+  long = Some (codes "quiet");
+  value_names = 1;
+  defaults = codes "0" ∷ [];
+  parser = Some (parser.Unsigned 0 18446744073709551615);
+}
 
 -- a required number of 64 bits
 abbrev pub number : Text → Rule
@@ -38,30 +70,49 @@ number id = record (new_rule id) {
 abbrev pub word : Text → Rule
 word id = record (new_rule id) { value_names = 1; required = true }
 
-abbrev pub play : App
-play = new_app (codes "play")
+-- a subcommand, by its name and its arguments
+abbrev pub command : Text → List Rule → Shape
+command name rules = record (new_shape name) { rules = rules }
 
-abbrev pub search : App
-search = with_rule (with_rule (with_rule (with_rule (with_rule (new_app (codes "search"))
-    workers) progress) (number (codes "lo"))) (number (codes "hi"))) (word (codes "cond"))
+abbrev pub play : Shape
+play = command (codes "play") []
 
-abbrev pub sweep : App
-sweep = with_rule (with_rule (with_rule (with_rule (with_rule (with_rule (new_app (codes "sweep"))
-    workers) progress) (number (codes "first"))) (number (codes "count"))) (number (codes "events"))) (word (codes "cond"))
+abbrev pub search : Shape
+search = command (codes "search")
+    (workers ∷ progress ∷ number (codes "lo") ∷ number (codes "hi") ∷ word (codes "cond") ∷ [])
+
+abbrev pub sweep : Shape
+sweep = command (codes "sweep")
+    (workers ∷ progress ∷ with_script ∷ faults ∷ quiet ∷ at_end
+    ∷ number (codes "first") ∷ number (codes "count") ∷ number (codes "events") ∷ word (codes "cond") ∷ [])
+
+abbrev pub script : Shape
+script = command (codes "script") (faults ∷ quiet ∷ number (codes "seed") ∷ number (codes "events") ∷ [])
+
+abbrev pub shrink : Shape
+shrink = command (codes "shrink") (progress ∷ word (codes "cond") ∷ [])
 
 -- the program, with its version, which wants a subcommand and has none named `help`
-abbrev pub empty_program : App
-empty_program = record {
-  top = record (new_app (codes "simback")).top {
+abbrev pub program : App
+program = record {
+  top = record (new_shape (codes "simback")) {
+    is_leaf = false;
     has_version = true;
     subcommand_required = true;
     disable_help_subcommand = true;
   };
-  subs = [];
+  subs = play ∷ search ∷ sweep ∷ script ∷ shrink ∷ [];
 }
 
-abbrev pub program : App
-program = with_subcommand (with_subcommand (with_subcommand empty_program play.top) search.top) sweep.top
+-- a value of clap's is this argument, which is its own command's alone
+pub record IsArgument (rule : Rule) (arg : Arg) : Type 0 where
+  pub is : rule_of arg ≡ rule
+  pub own : arg.global ≡ false
+
+-- a value of clap's is this subcommand, and each argument is its own
+pub record IsCommand (shape : Shape) (made : Command) : Type 0 where
+  pub is : shape_of made ≡ shape
+  pub own : (fields_of made).has_globals ≡ false
 
 -- ---- the job
 
@@ -72,6 +123,11 @@ IsRead text n = (IsNumeral 10 (without_leading_plus text) × (digits_value 10 (w
 
 abbrev pub HasNumber : Text → List Row → ℕ → Type 0
 HasNumber id rows n = (text : Text) × (one_of id rows ≡ Some text) × IsRead text n
+
+-- an option that may be left out: it has no value, or one that is read as the number
+abbrev pub HasOption : Text → List Row → Option ℕ → Type 0
+HasOption id rows None = one_of id rows ≡ None
+HasOption id rows (Some n) = HasNumber id rows n
 
 abbrev pub HasWord : Text → List Row → Text → Type 0
 HasWord id rows text = first_of id rows ≡ Some text
@@ -86,22 +142,35 @@ pub record HasFlag (id : Text) (rows : List Row) (is_set : Bool) : Type 0 where
 abbrev pub HasWorkers : List Row → ℕ → Type 0
 HasWorkers rows n = HasNumber (codes "workers") rows n × (1 ≤ n) × (n ≤ 16)
 
+pub record HasTeam (rows : List Row) (team : Team) : Type 0 where
+  pub workers : HasWorkers rows team.workers
+  pub progress : HasFlag (codes "progress") rows team.progress
+
+pub record HasFaultPlan (rows : List Row) (plan : FaultPlan) : Type 0 where
+  pub faults : HasOption (codes "faults") rows plan.faults
+  pub quiet : HasNumber (codes "quiet") rows plan.quiet
+
 -- the subcommand with its matches asks for the job
 abbrev pub Asks : Text → List Row → Job → Type 0
 Asks name rows job.Play = name ≡ codes "play"
-Asks name rows (job.Search n p lo hi cond) = (name ≡ codes "search")
-    × HasWorkers rows n × HasFlag (codes "progress") rows p × HasNumber (codes "lo") rows lo × HasNumber (codes "hi") rows hi
+Asks name rows (job.Search team lo hi cond) = (name ≡ codes "search") × HasTeam rows team
+    × HasNumber (codes "lo") rows lo × HasNumber (codes "hi") rows hi × HasWord (codes "cond") rows cond.now
+Asks name rows (job.Sweep team plan at_end script first count events cond) = (name ≡ codes "sweep") × HasTeam rows team
+    × HasFaultPlan rows plan × HasFlag (codes "at-end") rows at_end × HasFlag (codes "script") rows script
+    × HasNumber (codes "first") rows first × HasNumber (codes "count") rows count × HasNumber (codes "events") rows events
     × HasWord (codes "cond") rows cond.now
-Asks name rows (job.Sweep n p first count events cond) = (name ≡ codes "sweep")
-    × HasWorkers rows n × HasFlag (codes "progress") rows p × HasNumber (codes "first") rows first
-    × HasNumber (codes "count") rows count × HasNumber (codes "events") rows events
-    × HasWord (codes "cond") rows cond.now
+Asks name rows (job.Script plan seed events) = (name ≡ codes "script") × HasFaultPlan rows plan
+    × HasNumber (codes "seed") rows seed × HasNumber (codes "events") rows events
+Asks name rows (job.Shrink progress cond) = (name ≡ codes "shrink")
+    × HasFlag (codes "progress") rows progress × HasWord (codes "cond") rows cond.now
 
 -- the job's workers, if it has any, are 1 to 16
 abbrev pub HasFewWorkers : Job → Type 0
 HasFewWorkers job.Play = ⊤
-HasFewWorkers (job.Search n p lo hi cond) = (1 ≤ n) × (n ≤ 16)
-HasFewWorkers (job.Sweep n p first count events cond) = (1 ≤ n) × (n ≤ 16)
+HasFewWorkers (job.Search team _ _ _) = (1 ≤ team.workers) × (team.workers ≤ 16)
+HasFewWorkers (job.Sweep team _ _ _ _ _ _ _) = (1 ≤ team.workers) × (team.workers ≤ 16)
+HasFewWorkers (job.Script _ _ _) = ⊤
+HasFewWorkers (job.Shrink _ _) = ⊤
 
 -- the words ask for the job: clap finds no fault in them, and its matches are the job's
 pub record IsJobOf (words : List Text) (asked : Job) : Type 0 where

@@ -1,16 +1,19 @@
 //! The definition of the command line.
-ghost use Rattle.std.specs.Prelude.{◌≡◌, codes, false, IfOk};
-ghost use Rattle.clap.specs.Words.{app_of, rule_of, shape_of};
-ghost use Rattle.clap.specs.declared.builder.command.Command.TheViews.{out-Command as fields_of};
+ghost use Rattle.std.specs.Prelude.{codes, IfOk, ◌≡◌};
+ghost use Rattle.clap.specs.Words.{app_of};
 ghost use Rattle.sim_job.specs.CommandLine as line;
+ghost use Rattle.sim_job.specs.CommandLine.{IsArgument, IsCommand};
 
 use clap::{Arg, ArgAction, Command, value_parser};
 use std::alloc::{AllocError, Global};
 
+const SWEEP_EXAMPLES: &str = "\
+Example: simback sweep --progress 0 1000 500 \"a.first != 2\" < examples/torn-commit.play
+Example: simback sweep --faults 8 0 1500 120 \"agree first unless 0\" < examples/torn-commit.play";
+
 /// `--workers N`.
 fn workers<'a>(alloc: Global) -> Arg<'a>
-    ensures rule { rule_of result ≡ line.workers }
-    ensures local { result.global ≡ false }
+    ensures { IsArgument line.workers result }
 {
     Arg::new(alloc, "workers")
         .long("workers")
@@ -20,21 +23,71 @@ fn workers<'a>(alloc: Global) -> Arg<'a>
         .help("How many workers share the work, 1 to 16")
 }
 
+/// A flag, whose long name is its id.
+fn flag<'a>(alloc: Global, id: &'a str, help: &'a str) -> Arg<'a>
+    ensures { IsArgument (line.flag id.entry.now) result }
+{
+    Arg::new(alloc, id)
+        .long(id)
+        .action(ArgAction::SetTrue)
+        .help(help)
+}
+
 /// `--progress`.
 fn progress<'a>(alloc: Global) -> Arg<'a>
-    ensures rule { rule_of result ≡ line.progress }
-    ensures local { result.global ≡ false }
+    ensures { IsArgument line.progress result }
 {
-    Arg::new(alloc, "progress")
-        .long("progress")
-        .action(ArgAction::SetTrue)
-        .help("Tell on standard error how far the work is")
+    flag(
+        alloc,
+        "progress",
+        "Tell on standard error how far the work is",
+    )
+}
+
+/// `--faults F`.
+fn faults<'a>(alloc: Global) -> Arg<'a>
+    ensures { IsArgument line.faults result }
+{
+    Arg::new(alloc, "faults")
+        .long("faults")
+        .value_name("F")
+        .value_parser(value_parser!(u64))
+        .help("Make one event in F a fault or a healing, 2 to 65536; without it there is none")
+}
+
+/// `--quiet Q`.
+fn quiet<'a>(alloc: Global) -> Arg<'a>
+    ensures { IsArgument line.quiet result }
+{
+    Arg::new(alloc, "quiet")
+        .long("quiet")
+        .value_name("Q")
+        .value_parser(value_parser!(u64))
+        .default_value("0")
+        .help("End each run with its healings and Q steps")
+}
+
+/// `--at-end`.
+fn at_end<'a>(alloc: Global) -> Arg<'a>
+    ensures { IsArgument line.at_end result }
+{
+    flag(alloc, "at-end", "Look at the last place of each run alone")
+}
+
+/// `--script`.
+fn with_script<'a>(alloc: Global) -> Arg<'a>
+    ensures { IsArgument line.with_script result }
+{
+    flag(
+        alloc,
+        "script",
+        "Begin each run with the events that the script leaves",
+    )
 }
 
 /// A number that has to be given.
 fn number<'a>(alloc: Global, id: &'a str, name: &'a str, help: &'a str) -> Arg<'a>
-    ensures rule { rule_of result ≡ line.number id.entry.now }
-    ensures local { result.global ≡ false }
+    ensures { IsArgument (line.number id.entry.now) result }
 {
     Arg::new(alloc, id)
         .value_name(name)
@@ -45,8 +98,7 @@ fn number<'a>(alloc: Global, id: &'a str, name: &'a str, help: &'a str) -> Arg<'
 
 /// The condition, which has to be given.
 fn cond<'a>(alloc: Global) -> Arg<'a>
-    ensures rule { rule_of result ≡ line.word (codes "cond") }
-    ensures local { result.global ≡ false }
+    ensures { IsArgument (line.word (codes "cond")) result }
 {
     Arg::new(alloc, "cond")
         .value_name("COND")
@@ -55,8 +107,7 @@ fn cond<'a>(alloc: Global) -> Arg<'a>
 }
 
 fn play<'a>(alloc: Global) -> Command<'a>
-    ensures shape { shape_of result ≡ (line.play).top }
-    ensures local { (fields_of result).has_globals ≡ false }
+    ensures { IsCommand line.play result }
 {
     Command::new(alloc, "play")
         .about("Play the script on standard input, and write one line for each command")
@@ -64,8 +115,7 @@ fn play<'a>(alloc: Global) -> Command<'a>
 }
 
 fn search<'a>(alloc: Global) -> Result<Command<'a>, AllocError>
-    ensures shape { IfOk result (λ c. app_of c ≡ line.search) }
-    ensures local { IfOk result (λ c. (fields_of c).has_globals ≡ false) }
+    ensures { IfOk result (IsCommand line.search) }
 {
     Command::new(alloc, "search")
         .about("Play the script, and find the first place where a condition fails")
@@ -80,16 +130,17 @@ fn search<'a>(alloc: Global) -> Result<Command<'a>, AllocError>
 }
 
 fn sweep<'a>(alloc: Global) -> Result<Command<'a>, AllocError>
-    ensures shape { IfOk result (λ c. app_of c ≡ line.sweep) }
-    ensures local { IfOk result (λ c. (fields_of c).has_globals ≡ false) }
+    ensures { IfOk result (IsCommand line.sweep) }
 {
     Command::new(alloc, "sweep")
         .about("Run the scenario with other seeds, and find the first that fails a condition")
-        .after_help(
-            "Example: simback sweep --progress 0 1000 500 \"a.first != 2\" < examples/torn-commit.play",
-        )
+        .after_help(SWEEP_EXAMPLES)
         .arg(workers(alloc))?
         .arg(progress(alloc))?
+        .arg(with_script(alloc))?
+        .arg(faults(alloc))?
+        .arg(quiet(alloc))?
+        .arg(at_end(alloc))?
         .arg(number(alloc, "first", "FIRST", "The number of the first seed"))?
         .arg(number(alloc, "count", "COUNT", "How many seeds to run"))?
         .arg(number(
@@ -98,6 +149,28 @@ fn sweep<'a>(alloc: Global) -> Result<Command<'a>, AllocError>
             "EVENTS",
             "How many steps to run with each seed, at most",
         ))?
+        .arg(cond(alloc))
+}
+
+fn script<'a>(alloc: Global) -> Result<Command<'a>, AllocError>
+    ensures { IfOk result (IsCommand line.script) }
+{
+    Command::new(alloc, "script")
+        .about("Write the run of a seed, as a sweep makes it, as an input for a play")
+        .after_help("Example: simback script --faults 8 654 120 < examples/torn-commit.play")
+        .arg(faults(alloc))?
+        .arg(quiet(alloc))?
+        .arg(number(alloc, "seed", "I", "The number of the seed"))?
+        .arg(number(alloc, "events", "EVENTS", "How many steps to run, at most"))
+}
+
+fn shrink<'a>(alloc: Global) -> Result<Command<'a>, AllocError>
+    ensures { IfOk result (IsCommand line.shrink) }
+{
+    Command::new(alloc, "shrink")
+        .about("Make the run that the script leaves as small as a condition still fails in it")
+        .after_help("Example: simback shrink \"agree first unless 0\" < run.play")
+        .arg(progress(alloc))?
         .arg(cond(alloc))
 }
 
@@ -112,5 +185,7 @@ pub(crate) fn program<'a>(alloc: Global) -> Result<Command<'a>, AllocError>
         .disable_help_subcommand(true)
         .subcommand(play(alloc))?
         .subcommand(search(alloc)?)?
-        .subcommand(sweep(alloc)?)
+        .subcommand(sweep(alloc)?)?
+        .subcommand(script(alloc)?)?
+        .subcommand(shrink(alloc)?)
 }

@@ -1,10 +1,11 @@
 //! The job that the words of a command line ask for.
-ghost use Rattle.std.specs.Prelude.{◌≡◌, ◌≢◌, ◌⊎◌, ℕ, codes, map, IfOk, MatchOption, MatchResult, Some, option_map};
+ghost use Rattle.std.specs.Prelude.{◌≡◌, ◌≢◌, ◌⊎◌, ℕ, codes, map, IfOk, MatchOption, MatchResult, Option, Some, option_map};
 ghost use Rattle.clap.specs.Words.{first_of, found_of, kind_of, rows_of, subcommand_rows_of};
-ghost use Rattle.sim_job.specs.CommandLine.{Asks, HasFewWorkers, HasFlag, HasNumber, HasWorkers, IsFault, IsHelp, IsJobOf, IsUsage};
+ghost use Rattle.sim_job.specs.CommandLine.{Asks, HasFewWorkers, HasFlag, HasNumber, HasOption, HasTeam, HasFaultPlan, HasWorkers};
+ghost use Rattle.sim_job.specs.CommandLine.{IsFault, IsHelp, IsJobOf, IsUsage};
 
-use crate::Job;
 use crate::definition::program;
+use crate::{FaultPlan, Job, Team};
 use clap::error::ErrorKind;
 use clap::{ArgMatches, Error};
 use std::alloc::Global;
@@ -43,11 +44,26 @@ fn number_of(matches: &ArgMatches<'_>, id: &str) -> Option<u64>
     matches.get_one::<u64>(id)
 }
 
+/// The number that an option has, or that it was not given; none where its value is no number.
+fn option_of(matches: &ArgMatches<'_>, id: &str) -> Option<Option<u64>>
+    ensures { MatchOption result ((n : Option ℕ) → ¬ HasOption id.now (rows_of (found_of matches.now)) n)
+        (HasOption id.now (rows_of (found_of matches.now))) }
+{
+    matches.try_get_one::<u64>(id).ok()
+}
+
 /// The word that an argument has, or none.
 fn word_of<'a>(matches: &ArgMatches<'a>, id: &str) -> Option<&'a str>
     ensures { option_map (λ s. s.now) result ≡ first_of id.now (rows_of (found_of matches.now)) }
 {
     matches.get_str(id)
+}
+
+/// Whether a flag is set.
+fn flag_of(matches: &ArgMatches<'_>, id: &str) -> bool
+    ensures { HasFlag id.now (rows_of (found_of matches.now)) result }
+{
+    matches.get_flag(id)
 }
 
 /// How many workers there are to be, from 1 to 16, or none.
@@ -63,11 +79,26 @@ fn workers_of(matches: &ArgMatches<'_>) -> Option<u64>
     }
 }
 
-/// Whether the work is to tell how far it is.
-fn progress_of(matches: &ArgMatches<'_>) -> bool
-    ensures { HasFlag (codes "progress") (rows_of (found_of matches.now)) result }
+/// The workers that are asked for, or none where their number is missing.
+fn team_of(matches: &ArgMatches<'_>) -> Option<Team>
+    ensures { MatchOption result ((team : Team) → ¬ HasTeam (rows_of (found_of matches.now)) team)
+        (HasTeam (rows_of (found_of matches.now))) }
 {
-    matches.get_flag("progress")
+    Some(Team {
+        workers: workers_of(matches)?,
+        progress: flag_of(matches, "progress"),
+    })
+}
+
+/// The faults that are asked for, or none where a value is missing.
+fn fault_plan_of(matches: &ArgMatches<'_>) -> Option<FaultPlan>
+    ensures { MatchOption result ((plan : FaultPlan) → ¬ HasFaultPlan (rows_of (found_of matches.now)) plan)
+        (HasFaultPlan (rows_of (found_of matches.now))) }
+{
+    Some(FaultPlan {
+        faults: option_of(matches, "faults")?,
+        quiet: number_of(matches, "quiet")?,
+    })
 }
 
 /// The search that is asked for, or none where a value is missing.
@@ -76,8 +107,7 @@ fn search_of<'a>(matches: &ArgMatches<'a>) -> Option<Job<'a>>
         (Asks (codes "search") (rows_of (found_of matches.now))) }
 {
     Some(Job::Search {
-        workers: workers_of(matches)?,
-        progress: progress_of(matches),
+        team: team_of(matches)?,
         lo: number_of(matches, "lo")?,
         hi: number_of(matches, "hi")?,
         cond: word_of(matches, "cond")?,
@@ -90,11 +120,36 @@ fn sweep_of<'a>(matches: &ArgMatches<'a>) -> Option<Job<'a>>
         (Asks (codes "sweep") (rows_of (found_of matches.now))) }
 {
     Some(Job::Sweep {
-        workers: workers_of(matches)?,
-        progress: progress_of(matches),
+        team: team_of(matches)?,
+        plan: fault_plan_of(matches)?,
+        at_end: flag_of(matches, "at-end"),
+        script: flag_of(matches, "script"),
         first: number_of(matches, "first")?,
         count: number_of(matches, "count")?,
         events: number_of(matches, "events")?,
+        cond: word_of(matches, "cond")?,
+    })
+}
+
+/// The script that is asked for, or none where a value is missing.
+fn script_of<'a>(matches: &ArgMatches<'a>) -> Option<Job<'a>>
+    ensures { MatchOption result ((asked : Job) → ¬ Asks (codes "script") (rows_of (found_of matches.now)) asked)
+        (Asks (codes "script") (rows_of (found_of matches.now))) }
+{
+    Some(Job::Script {
+        plan: fault_plan_of(matches)?,
+        seed: number_of(matches, "seed")?,
+        events: number_of(matches, "events")?,
+    })
+}
+
+/// The shrinking that is asked for, or none where a value is missing.
+fn shrink_of<'a>(matches: &ArgMatches<'a>) -> Option<Job<'a>>
+    ensures { MatchOption result ((asked : Job) → ¬ Asks (codes "shrink") (rows_of (found_of matches.now)) asked)
+        (Asks (codes "shrink") (rows_of (found_of matches.now))) }
+{
+    Some(Job::Shrink {
+        progress: flag_of(matches, "progress"),
         cond: word_of(matches, "cond")?,
     })
 }
@@ -108,6 +163,8 @@ fn asked_by<'a>(name: &str, matches: &ArgMatches<'a>) -> Option<Job<'a>>
         "play" => Some(Job::Play),
         "search" => search_of(matches),
         "sweep" => sweep_of(matches),
+        "script" => script_of(matches),
+        "shrink" => shrink_of(matches),
         _ => None,
     }
 }

@@ -1,5 +1,21 @@
 //! What a command line can ask for.
 
+/// How many workers share the work, 1 to 16, and whether they report their progress.
+#[derive(Clone, Copy, Debug, PartialEq, Eq)]
+pub struct Team {
+    pub workers: u64,
+    pub progress: bool,
+}
+
+/// How faults are planned for a run.
+#[derive(Clone, Copy, Debug, PartialEq, Eq)]
+pub struct FaultPlan {
+    /// One event in so many is a fault or a healing; with none, no fault is planned.
+    pub faults: Option<u64>,
+    /// How many steps the quiet end has, 0 where the words give no number.
+    pub quiet: u64,
+}
+
 /// What the program is to do.
 #[derive(Clone, Copy, Debug, PartialEq, Eq)]
 pub enum Job<'a> {
@@ -7,19 +23,33 @@ pub enum Job<'a> {
     Play,
     /// Plays a script, and looks for the first place from `lo` to `hi` where the condition fails.
     Search {
-        workers: u64,
-        progress: bool,
+        team: Team,
         lo: u64,
         hi: u64,
         cond: &'a str,
     },
-    /// Looks for the first of `count` seeds from `first` on with a place within `events` steps where the condition fails.
+    /// Looks for the first of `count` seeds from `first` on whose run fails the condition: at a
+    /// place of its first `events` events and its quiet end, or with `at_end` at its last place.
+    /// With `script` each run begins with the events that the script leaves.
     Sweep {
-        workers: u64,
-        progress: bool,
+        team: Team,
+        plan: FaultPlan,
+        at_end: bool,
+        script: bool,
         first: u64,
         count: u64,
         events: u64,
+        cond: &'a str,
+    },
+    /// Writes the run of a numbered seed as an input for a play.
+    Script {
+        plan: FaultPlan,
+        seed: u64,
+        events: u64,
+    },
+    /// Makes the run that a script leaves as small as the condition still fails in it.
+    Shrink {
+        progress: bool,
         cond: &'a str,
     },
 }

@@ -1,7 +1,0 @@
-use Rattle.std.proofs.Common.{codes}
-use Rattle.clap.specs.Words.{found_of}
-use Rattle.sim_job.proofs.Asked.{flag_read}
-use Rattle.sim_job.proofs.line.progress_of.Goals as goal
-
-pub returns : goal.returns
-returns c = flag_read (found_of c.args.matches.now) (codes "progress") c.get_flag.result c.get_flag.ensures.none c.get_flag.ensures.value c.get_flag.ensures.other
