@@ -6,7 +6,7 @@ use Rattle.sim_lines.specs.Waiting.{Waiting}
 use Rattle.sim_world.specs.World.{Scenario}
 use Rattle.sim_scenario.specs.Scenario.{Protocol, ScenarioText}
 use Rattle.sim_script.specs.Script.{Text}
-use Rattle.sim_cli.specs.declared.opening.Opened.{Opened}
+use Rattle.sim_cli.specs.declared.opened.Opened.{Opened}
 use Rattle.sim_cli.specs.declared.status.Status.{Status}
 use Rattle.sim_cli.specs.declared.status.Status.TheVariants.{Well, BadScenario, BadRequest, ReaderFailed, WriterFailed, MemoryWanted}
 use Rattle.sim_cli.specs.Answers.{Faults}
@@ -21,9 +21,9 @@ always_ok (Err e) p = tt
 pub opened_as : (protocols : List Protocol) (nodes : ℕ → Scenario → Nodes) (given text : Text) (left : Option Text) (s : ScenarioText)
     → HeadIs given left text → read_scenario protocols text ≡ Ok s → (r : Result Opened Status)
     → IfOk r (λ o. o.protocol ≡ s.protocol) → IfOk r (λ o. o.scenario ≡ scenario s) → IfOk r (λ o. o.names ≡ names_of (nodes_by nodes) s)
-    → IfOk r (IsOpened protocols (nodes_by nodes) given left)
-opened_as protocols nodes given text left s head read (Ok o) a b c = record { text = text; said = s; head = head; read = read; protocol = a; scenario = b; names = c }
-opened_as protocols nodes given text left s head read (Err e) a b c = tt
+    → IfOk r (λ o. o.text.items ≡ text) → IfOk r (IsOpened protocols (nodes_by nodes) given left)
+opened_as protocols nodes given text left s head read (Ok o) a b c d = record { text = text; said = s; head = head; read = read; protocol = a; scenario = b; names = c; kept = d }
+opened_as protocols nodes given text left s head read (Err e) a b c d = tt
 
 module _ (protocols : List Protocol) (given : Text) (ahead : Waiting) (left held : Option Text) where
   pub wants_opened : (r : Result Opened Status) → IfErr r (λ status. status ≡ MemoryWanted) → IfErr r (IsNotOpened protocols given ahead left held held)

@@ -21,7 +21,7 @@ use Rattle.sim_cli.specs.Play.{Nodes, Tells, TellsLines, Ended, Plays, PlaysOn, 
 use Rattle.sim_cli.specs.Answers.{Writes, Faults}
 use Rattle.sim_cli.specs.Opens.{HeadIs, IsNotOpened, IsOpened}
 use Rattle.sim_cli.specs.Subjects.{Ports, PlaysScript, nodes_by}
-use Rattle.sim_cli.specs.declared.opening.Opened.{Opened}
+use Rattle.sim_cli.specs.declared.opened.Opened.{Opened}
 use Rattle.sim_cli.proofs.Readings.{too_long}
 use Rattle.sim_cli.proofs.Runs.{known, at_end_of, rest_of, tells_lines}
 

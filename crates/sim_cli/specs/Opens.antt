@@ -9,7 +9,7 @@ use Rattle.sim_scenario.specs.Scenario.{Protocol, ScenarioText, Fault as Scenari
 use Rattle.sim_scenario.specs.Hosts.{IsNumbered}
 use Rattle.sim_scenario.specs.Limits.{IsWithinLimits}
 use Rattle.sim_scenario.specs.Seen.{seen}
-use Rattle.sim_cli.specs.declared.opening.Opened.{Opened}
+use Rattle.sim_cli.specs.declared.opened.Opened.{Opened}
 use Rattle.sim_cli.specs.declared.scenario.WasRead.{WasRead}
 use Rattle.sim_cli.specs.declared.scenario.WasRead.TheVariants as was
 use Rattle.sim_cli.specs.declared.status.Status.{Status}
@@ -46,8 +46,8 @@ pub record HeadIs (given : Text) (new : Option Text) (text : Text) : Type 0 wher
   pub front : given ≡ taken ++ script
   pub cut : (read rest : Text) → script ≡ read ++ rest → head_of (taken ++ read) ≡ (text, read)
 
--- A scenario was read of what was given: its values, the names of its hosts and probes, and what is
--- left for the script.
+-- A scenario was read of what was given: its values, the names of its hosts and probes, its text,
+-- and what is left for the script.
 pub record IsOpened (protocols : List Protocol) (nodes_of : ScenarioText → Nodes) (given : Text)
     (left : Option Text) (opened : Opened) : Type 0 where
   pub text : Text
@@ -57,6 +57,7 @@ pub record IsOpened (protocols : List Protocol) (nodes_of : ScenarioText → Nod
   pub protocol : opened.protocol ≡ said.protocol
   pub scenario : opened.scenario ≡ scenario said
   pub names : opened.names ≡ names_of nodes_of said
+  pub kept : opened.text.items ≡ text
 
 -- the line of a fault was written, or a part of it
 abbrev pub WritesFault : Option Text → Option Text → Text → Status → Type 0

@@ -1,5 +1,5 @@
 -- The nodes of the protocols that a program plays, and what is done with a run over them.
-use Rattle.std.specs.Prelude.{◌≡◌, ℕ, zero, suc, List, [], Option, Some}
+use Rattle.std.specs.Prelude.{◌≡◌, ℕ, zero, suc, List, Option, Some}
 use Rattle.std.specs.Io.KnownBytes.{prepend_known}
 use Rattle.sim_lines.specs.Waiting.{Waiting, CountsReads}
 use Rattle.sim_node.specs.Node.{NodeLaws}
@@ -16,22 +16,10 @@ abbrev pub nodes_with : {State Msg : Type 0} → NodeLaws State Msg → ℕ → 
 nodes_with {State} {Msg} laws probes names s =
     record { State = State; Msg = Msg; rules = rules laws probes s; probes = names }
 
--- nodes that do nothing
-abbrev pub idle : NodeLaws ℕ ℕ
-idle = record {
-  boot = λ setup me disk. 0;
-  react = λ state now input word. (state, []);
-  probe = λ state k. 0;
-}
-
 -- the nodes of the first protocol of a list, or of those after it, by their places
 abbrev pub first_or : (Scenario → Nodes) → (ℕ → Scenario → Nodes) → ℕ → Scenario → Nodes
 first_or first later zero = first
 first_or first later (suc place) = later place
-
--- where there is no protocol
-abbrev pub no_nodes : ℕ → Scenario → Nodes
-no_nodes place = nodes_with idle 0 []
 
 -- the nodes that a scenario stands for, by the place of its protocol
 abbrev pub nodes_by : (ℕ → Scenario → Nodes) → ScenarioText → Nodes

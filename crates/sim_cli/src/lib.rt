@@ -4,7 +4,7 @@
 //!   writes one line for each. It is all that `simback play` does with its input and output.
 //! - A [`Subject`] is a protocol with its name, its type of nodes and the names of their probes. A
 //!   program plays a list of subjects: [`Shipped`], or a list of its own, made by [`With`] and
-//!   [`NoSubject`].
+//!   [`Only`].
 //! - A [`Task`] is what is done over nodes of any type, as [`Playing`]. [`Subjects`] carries it out
 //!   over the nodes of the protocol that a scenario names, and [`open`] reads that scenario.
 //! - [`answer_lines`] is the loop over the lines of a script, on a book of the caller's.
@@ -34,6 +34,7 @@
 #![tactic(auto)]
 
 mod answering;
+mod opened;
 mod opening;
 mod playing;
 mod scenario;
@@ -42,10 +43,11 @@ mod status;
 mod subjects;
 
 pub use answering::{answer_lines, turn_of};
-pub use opening::{Opened, open, set_up, write_text};
+pub use opened::Opened;
+pub use opening::{open, set_up, write_text};
 pub use playing::{Playing, play};
 pub use scenario::{WasRead, read_scenario};
 pub use shipped::{AbdSubject, BackupSubject, CommitSubject, EchoSubject, Shipped};
 pub use sim_tally::Tally;
 pub use status::{Answered, Status};
-pub use subjects::{NoSubject, Subject, Subjects, Task, With};
+pub use subjects::{Only, Subject, Subjects, Task, With};

@@ -11,6 +11,7 @@ ghost use Rattle.sim_cli.specs.Opens.{IsNotOpened, IsOpened, WritesFault};
 ghost use Rattle.sim_cli.specs.Play.{names_of, scenario};
 ghost use Rattle.sim_cli.specs.Subjects.{nodes_by};
 
+use crate::opened::Opened;
 use crate::scenario::{WasRead, read_scenario};
 use crate::status::{Answered, Status};
 use crate::subjects::Subjects;
@@ -21,15 +22,6 @@ use sim_script::Names;
 use sim_world::Scenario;
 use std::alloc::Global;
 use std::io::{Read, Write};
-
-/// A scenario that was read: the place of its protocol, its values, and the names of its hosts and
-/// probes.
-#[derive(Drop)]
-pub struct Opened {
-    pub protocol: usize,
-    pub scenario: Scenario,
-    pub names: Names,
-}
 
 /// The scenario of a run and the names, by what was read and the names of the probes, in the order
 /// of their numbers.
@@ -85,25 +77,30 @@ fn write_fault<W: Write>(writer: &mut W, line: &[u8]) -> Status
     }
 }
 
-// What a scenario that was read says, for nodes of its protocol. The only error is want of memory.
-fn ready<L: Subjects>(alloc: Global, text: ScenarioText) -> Result<Opened, Status>
-    requires numbered { IsNumbered text.names }
-    requires within { IsWithinLimits (seen text) }
-    requires known { text.protocol < length L.listed }
-    ensures protocol { IfOk result (λ o. o.protocol ≡ text.protocol) }
-    ensures scenario { IfOk result (λ o. o.scenario ≡ scenario (seen text)) }
-    ensures names { IfOk result (λ o. o.names ≡ names_of (nodes_by L.nodes) (seen text)) }
+// What a scenario that was read from this text says, for nodes of its protocol. The only error is
+// want of memory.
+fn ready<L: Subjects>(alloc: Global, said: ScenarioText, text: Vec<u8>) -> Result<Opened, Status>
+    requires numbered { IsNumbered said.names }
+    requires within { IsWithinLimits (seen said) }
+    requires known { said.protocol < length L.listed }
+    ensures protocol { IfOk result (λ o. o.protocol ≡ said.protocol) }
+    ensures scenario { IfOk result (λ o. o.scenario ≡ scenario (seen said)) }
+    ensures names { IfOk result (λ o. o.names ≡ names_of (nodes_by L.nodes) (seen said)) }
+    ensures text { IfOk result (λ o. o.text.items ≡ text.items) }
     ensures wants { IfErr result (λ status. status ≡ Status.MemoryWanted) }
 {
-    let protocol = text.protocol;
+    let protocol = said.protocol;
+    let seed = said.seed;
     let Ok(probes) = L::probe_names(alloc, protocol) else {
         return Err(Status::MemoryWanted);
     };
-    let (scenario, names) = set_up(text, probes);
+    let (scenario, names) = set_up(said, probes);
     Ok(Opened {
         protocol,
         scenario,
         names,
+        seed,
+        text,
     })
 }
 
@@ -137,7 +134,7 @@ pub fn open<L: Subjects, R: Read, W: Write>(
         Err(HeadError::NoMemory) => return Err(Status::MemoryWanted),
     };
     match read_scenario::<L>(alloc, text.as_slice()) {
-        WasRead::Scenario(text) => ready::<L>(alloc, text),
+        WasRead::Scenario(said) => ready::<L>(alloc, said, text),
         WasRead::Fault(line) => Err(write_fault(writer, line.as_bytes())),
         WasRead::NoMemory => Err(Status::MemoryWanted),
     }

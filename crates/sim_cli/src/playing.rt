@@ -5,7 +5,8 @@ ghost use Rattle.sim_cli.specs.Subjects.{PlaysScript, nodes_by};
 ghost use Rattle.sim_cli.specs.Plain.{IsDone, IsPlain};
 
 use crate::answering::answer_lines;
-use crate::opening::{Opened, open};
+use crate::opened::Opened;
+use crate::opening::open;
 use crate::status::Status;
 use crate::subjects::{Subjects, Task};
 use sim_book::Book;

@@ -3,16 +3,13 @@ ghost use Rattle.std.specs.Prelude.{codes};
 ghost use Rattle.sim_protocols.specs.Probes.{probe_names};
 ghost use Rattle.sim_protocols.specs.declared.Protocol.TheVariants as shipped;
 
-use crate::subjects::{NoSubject, Subject, With};
+use crate::subjects::{Only, Subject, With};
 use sim_node::Node;
 use sim_protocols::{AbdRegister, Echo, PrimaryBackup, TwoPhase};
 use sim_tally::Tally;
 
 /// The protocols that ship, in the order of their places.
-pub type Shipped = With<
-    EchoSubject,
-    With<BackupSubject, With<AbdSubject, With<CommitSubject, NoSubject>>>,
->;
+pub type Shipped = With<EchoSubject, With<BackupSubject, With<AbdSubject, Only<CommitSubject>>>>;
 
 /// Echo: a server answers pings.
 pub struct EchoSubject;

@@ -6,9 +6,9 @@ ghost use Rattle.sim_world.specs.Events.{Rules, rules};
 ghost use Rattle.sim_scenario.specs.Scenario.{Protocol};
 ghost use Rattle.sim_script.specs.Script.{Text, Names as NamesValue};
 ghost use Rattle.sim_cli.specs.Play.{Nodes};
-ghost use Rattle.sim_cli.specs.Subjects.{Ports, first_or, no_nodes, nodes_with, ports};
+ghost use Rattle.sim_cli.specs.Subjects.{Ports, first_or, nodes_with, ports};
 
-use crate::opening::Opened;
+use crate::opened::Opened;
 use crate::status::Status;
 use sim_lines::Ahead;
 use sim_node::Node;
@@ -79,7 +79,7 @@ pub trait Subject {
         ensures few { length result.now ≤ 255 };
 }
 
-/// The protocols that a program plays: [`NoSubject`], or a [`With`] of one and others.
+/// The protocols that a program plays: [`Only`] one, or a [`With`] of one and others.
 pub trait Subjects: Protocols {
     /// The nodes of the protocol at a place, in a scenario.
     ghost nodes: { ℕ → ScenarioValue → Nodes };
@@ -107,42 +107,25 @@ pub trait Subjects: Protocols {
             (ports ahead.new (R.remaining reader.new) (W.contents writer.new)) result };
 }
 
-/// A list without a protocol.
-pub struct NoSubject;
+/// A list of the subject `S` alone.
+pub struct Only<S> {
+    of: PhantomData<S>,
+}
 
 /// A list that begins with the subject `S`, and goes on as the list `L`.
 pub struct With<S, L> {
     of: PhantomData<(S, L)>,
 }
 
-impl Protocols for NoSubject {
-    ghost listed = { [] };
+impl<S: Subject> Protocols for Only<S> {
+    ghost listed = { S.protocol ∷ [] };
 
-    fn named(_name: &str) -> Option<usize> {
-        None
+    fn named(name: &str) -> Option<usize> {
+        if name == S::name() { Some(0) } else { None }
     }
 
-    fn least_servers(_place: usize) -> usize {
-        0
-    }
-}
-
-impl Subjects for NoSubject {
-    ghost nodes = { no_nodes };
-
-    fn probe_names(_alloc: Global, _place: usize) -> Result<Vec<String>, AllocError> {
-        unreachable!()
-    }
-
-    fn carry_out<T: Task, R: Read, W: Write>(
-        _place: usize,
-        _task: &T,
-        _opened: &Opened,
-        _reader: &mut R,
-        _ahead: &mut Ahead,
-        _writer: &mut W,
-    ) -> Status {
-        unreachable!()
+    fn least_servers(place: usize) -> usize {
+        if place == 0 { S::least_servers() } else { 0 }
     }
 }
 
@@ -179,6 +162,25 @@ fn owned(alloc: Global, texts: &[&str]) -> Result<Vec<String>, AllocError>
         owned.push(String::from_str(alloc, text)?)?;
     }
     Ok(owned)
+}
+
+impl<S: Subject> Subjects for Only<S> {
+    ghost nodes = { λ place. nodes_with S.Node.laws S.Node.PROBES S.probes };
+
+    fn probe_names(alloc: Global, _place: usize) -> Result<Vec<String>, AllocError> {
+        owned(alloc, S::probe_names())
+    }
+
+    fn carry_out<T: Task, R: Read, W: Write>(
+        _place: usize,
+        task: &T,
+        opened: &Opened,
+        reader: &mut R,
+        ahead: &mut Ahead,
+        writer: &mut W,
+    ) -> Status {
+        task.carry_out::<S::Node, R, W>(opened, reader, ahead, writer)
+    }
 }
 
 impl<S: Subject, L: Subjects> Subjects for With<S, L> {

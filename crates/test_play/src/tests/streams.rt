@@ -2,7 +2,7 @@
 ghost use Rattle.std.specs.Prelude.{codes, [], ◌∷◌};
 
 use super::ports::{Narrow, Pieces};
-use sim_cli::{EchoSubject, NoSubject, Shipped, Status, Subject, Tally, With, play};
+use sim_cli::{EchoSubject, Only, Shipped, Status, Subject, Tally, With, play};
 use sim_node::Node;
 use sim_protocols::Echo;
 use std::alloc::Global;
@@ -410,11 +410,7 @@ const PINGS_HEAD: &[u8] =
 fn plays_two<A: Abort + Drop>(rt: &A, alloc: Global, head: &[u8], want: &[u8], status: Status) {
     let mut reader = Pieces::new(head, b"step\nlook probe w pings\n");
     let mut writer = Narrow::new(want);
-    let ended = play::<With<EchoSubject, With<Pings, NoSubject>>, _, _>(
-        alloc,
-        &mut reader,
-        &mut writer,
-    );
+    let ended = play::<With<EchoSubject, Only<Pings>>, _, _>(alloc, &mut reader, &mut writer);
     assert_eq!(rt; ended, status);
     assert!(rt; writer.took(want, want.len()));
 }

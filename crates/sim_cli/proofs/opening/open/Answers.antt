@@ -14,10 +14,10 @@ returns-in-Err-Failed-clause-not g c = λ given e.
 pub returns-in-Scenario-clause-opened : goal.returns-in-Scenario-clause-opened
 returns-in-Scenario-clause-opened g c = λ given e.
     let head : HasHead (Some given) _ c.in-Ok.text.items = rw e at c.in-Ok.ensures.takes in
-    let s = seen c.in-Scenario.text in
+    let s = seen c.in-Scenario.said in
     let text : read_scenario g.L.Protocols.listed c.in-Ok.text.items ≡ Ok s = ap (read_scenario g.L.Protocols.listed) (sym c.as_slice.ensures.value) ∙ c.in-Scenario.ensures.reads in
     let h = not_too_long g.L.Protocols.listed given c.in-Ok.text.items _ s (head_is given c.in-Ok.text.items _ head) text in
-    opened_as g.L.Protocols.listed g.L.Subjects.nodes given c.in-Ok.text.items _ s h text c.ready.result c.ready.ensures.protocol c.ready.ensures.scenario c.ready.ensures.names
+    opened_as g.L.Protocols.listed g.L.Subjects.nodes given c.in-Ok.text.items _ s h text c.ready.result c.ready.ensures.protocol c.ready.ensures.scenario c.ready.ensures.names c.ready.ensures.text
 
 pub returns-in-Scenario-clause-same : goal.returns-in-Scenario-clause-same
 returns-in-Scenario-clause-same g c = always_ok c.ready.result refl
