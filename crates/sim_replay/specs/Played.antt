@@ -1,0 +1,18 @@
+-- The run that a script leaves on the first branch.
+use Rattle.std.specs.Prelude.{Bool, List, [], if◌then◌else◌}
+use Rattle.std.specs.Str.Lines.{lines}
+use Rattle.sim_world.specs.declared.Event.{Event}
+use Rattle.sim_world.specs.Events.{Rules}
+use Rattle.sim_book.specs.Book.{branch}
+use Rattle.sim_script.specs.Script.{Text, Names}
+use Rattle.sim_cli.specs.Turns.{beginning}
+use Rattle.sim_cli.specs.Play.{end_from}
+
+module _ {State Msg : Type 0} (r : Rules State Msg) where
+  -- all kept events of the first branch that a script leaves
+  abbrev pub first_events : Names → Text → List Event
+  first_events names script = (branch 0 (end_from r names beginning (lines script)).branches).events
+
+  -- the events that begin each planned run: those that the script leaves, if it is asked for
+  abbrev pub given_events : Bool → Names → Text → List Event
+  given_events with_script names script = if with_script then first_events names script else []

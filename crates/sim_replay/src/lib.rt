@@ -1,0 +1,21 @@
+//! Carries out a script whose answers nobody reads, and gives the run that it leaves.
+//!
+//! - [`follow`] carries out the commands of a script on a book and writes nothing.
+//! - [`played`] does it on a new book, and gives all kept events of its first branch.
+//! - [`given_events`] gives these events as a list if they are asked for, and else none.
+//!
+//! What it leaves is the course that the definitions of a play give for the script's lines
+//! (`end_from` in `sim_cli`). Commands that are refused and lines that are no command are skipped,
+//! as a play skips them.
+//!
+//! Why it is built this way: if a command wants memory, the script ends with an error. With the loop
+//! of a play and a writer that drops its text, a search would go on over a run that the script does
+//! not describe.
+#![tactic(auto)]
+
+mod following;
+mod script_run;
+
+pub use following::follow;
+pub use script_run::{given_events, played};
+pub use sim_cli::Status;

@@ -1,0 +1,92 @@
+//! The run that a script leaves on the first branch.
+ghost use Rattle.std.specs.Prelude.{◌≡◌, ◌<◌, ℕ, List, IfOk, IfErr, Some, length, slice_index_or};
+ghost use Rattle.std.specs.Io.KnownBytes.{prepend_known};
+ghost use Rattle.sim_world.specs.Events.{rules};
+ghost use Rattle.sim_replay.specs.Following.{Stops};
+ghost use Rattle.sim_replay.specs.Played.{first_events, given_events};
+ghost use Rattle.sim_book.specs.Kept.{Kept as KeptValue};
+
+use crate::Status;
+use crate::following::follow;
+use sim_book::Book;
+use sim_cli::Opened;
+use sim_lines::Ahead;
+use sim_node::{NoMemory, Node};
+use sim_script::Names;
+use sim_tally::Tally;
+use sim_tape::{EventList, Frozen};
+use sim_world::{Event, Scenario};
+use std::alloc::Global;
+use std::io::Read;
+
+/// All kept events of the first branch, once a script was carried out.
+pub fn played<N: Node<Meter = Tally>, R: Read>(
+    alloc: Global,
+    scenario: &Scenario,
+    names: &Names,
+    reader: &mut R,
+    ahead: &mut Ahead,
+) -> Result<Frozen<N>, Status>
+    ensures run { (script : List ℕ) →
+        prepend_known ahead.old.bytes (R.remaining reader.old) ≡ Some script →
+        IfOk result (λ f. (f.scenario ≡ scenario.now)
+        × (f.events ≡ first_events (rules N.laws N.PROBES scenario.now) names.now script)) }
+    ensures stops { IfErr result Stops }
+{
+    let Ok(mut book) = Book::<N>::new(alloc, scenario, Tally::new()) else {
+        return Err(Status::MemoryWanted);
+    };
+    follow(alloc, &mut book, names, reader, ahead)?;
+    first_run(alloc, &book)
+}
+
+// All kept events of the first branch.
+fn first_run<N: Node>(alloc: Global, book: &Book<N>) -> Result<Frozen<N>, Status>
+    requires { 0 < length book.now.kept }
+    ensures run { IfOk result (λ f. (f.scenario ≡ book.now.scenario)
+        × ((d : KeptValue) → f.events ≡ (slice_index_or book.now.kept 0 d).tape.events)) }
+    ensures stops { IfErr result Stops }
+{
+    match book.frozen(alloc, 0) {
+        Ok(frozen) => Ok(frozen),
+        Err(_) => Err(Status::MemoryWanted),
+    }
+}
+
+// The events of a list. The only error is want of memory.
+fn listed(alloc: Global, list: &EventList) -> Result<Vec<Event>, NoMemory>
+    ensures { IfOk result (λ v. v.items ≡ list.now) }
+{
+    let mut events = Vec::new(alloc);
+    for i in 0..list.len() {
+        if let Some(event) = list.get(i) {
+            events.push(event)?;
+        }
+    }
+    Ok(events)
+}
+
+/// The events that begin each run of a sweep: those that the script leaves if it is asked for, and
+/// else none. Without a script nothing is read.
+pub fn given_events<N: Node<Meter = Tally>, R: Read>(
+    alloc: Global,
+    opened: &Opened,
+    with_script: bool,
+    reader: &mut R,
+    ahead: &mut Ahead,
+) -> Result<Vec<Event>, Status>
+    ensures given { (script : List ℕ) →
+        prepend_known ahead.old.bytes (R.remaining reader.old) ≡ Some script →
+        IfOk result (λ v. v.items ≡ given_events (rules N.laws N.PROBES opened.now.scenario)
+        with_script opened.now.names script) }
+    ensures stops { IfErr result Stops }
+{
+    if !with_script {
+        return Ok(Vec::new(alloc));
+    }
+    let frozen = played::<N, R>(alloc, &opened.scenario, &opened.names, reader, ahead)?;
+    match listed(alloc, frozen.events()) {
+        Ok(events) => Ok(events),
+        Err(_) => Err(Status::MemoryWanted),
+    }
+}
