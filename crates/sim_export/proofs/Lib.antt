@@ -1,0 +1,4 @@
+-- Lemmas on what is written of a run.
+mod Telling
+mod Opening
+mod Rereading

@@ -1,0 +1,3 @@
+pub mod Exports
+pub mod SeedRuns
+pub mod Shrinks

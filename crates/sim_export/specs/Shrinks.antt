@@ -1,0 +1,39 @@
+-- The smallest failing run of a script as an input for a play.
+use Rattle.std.specs.Prelude.{◌≡◌, List, length, Option, None, Some, Ok, string_bytes}
+use Rattle.sim_world.specs.declared.Event.{Event}
+use Rattle.sim_world.specs.Events.{Rules}
+use Rattle.sim_watch.specs.Condition.{Cond}
+use Rattle.sim_search.specs.declared.SearchFault.TheVariants as fault
+use Rattle.sim_shrink.specs.Shrunk.{IsShrunk, failing, shrink_fault}
+use Rattle.sim_scenario.specs.Scenario.{Protocol, ScenarioText}
+use Rattle.sim_script.specs.Script.{Text, Names, words}
+use Rattle.sim_script.specs.Conditions.{condition}
+use Rattle.sim_cli.specs.Play.{read_scenario}
+use Rattle.sim_replay.specs.Played.{first_events}
+use Rattle.sim_export.specs.declared.export.Export.{Export}
+use Rattle.sim_export.specs.declared.export.Export.TheVariants.{Input, Nowhere, BadRange, BadCondition, NoInput}
+use Rattle.sim_export.specs.Exports.{IsInput, Right}
+
+module _ {State Msg : Type 0} (r : Rules State Msg) (names : Names) (scenario : Text) (events : List Event) where
+  -- The export is right for a condition: an input that makes the run without the faults that it does
+  -- not need, in the same scenario.
+  abbrev pub IsShrinkOf : Cond → Export → Type 0
+  IsShrinkOf c (Input input) = (run : List Event) × IsShrunk r c events run
+      × ((protocols : List Protocol) (said : ScenarioText) → read_scenario protocols scenario ≡ Ok said
+      → IsInput protocols said names run (string_bytes input))
+  IsShrinkOf c Nowhere = failing r c events ≡ None
+  IsShrinkOf c BadRange =
+      shrink_fault (length events) r.scenario.setup.hosts r.probes c ≡ Some fault.BadRange
+  IsShrinkOf c BadCondition =
+      shrink_fault (length events) r.scenario.setup.hosts r.probes c ≡ Some fault.BadCondition
+  IsShrinkOf c NoInput = (run : List Event) × IsShrunk r c events run
+
+  -- the same, where words are read as a condition or as none
+  abbrev pub IsShrinkFor : Option Cond → Export → Type 0
+  IsShrinkFor None e = e ≡ BadCondition
+  IsShrinkFor (Some c) e = IsShrinkOf c e
+
+-- the exports of the run that a script leaves, for the words of a condition
+abbrev pub shrink_right : Text → Right
+shrink_right cond State Msg r names scenario script e =
+    IsShrinkFor r names scenario (first_events r names script) (condition names (words cond)) e

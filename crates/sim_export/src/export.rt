@@ -1,0 +1,58 @@
+//! What is written of a run.
+ghost use Rattle.std.specs.Prelude.{◌≡◌, string_bytes};
+ghost use Rattle.sim_cli.specs.Answers.{Writes};
+ghost use Rattle.sim_export.specs.Exports.{export_status, export_text, WritesExport};
+
+use sim_cli::{Answered, Status, write_text};
+use std::io::Write;
+
+/// What is written of a run: an input for a play, or why there is none.
+#[derive(Drop)]
+pub enum Export {
+    Input(String),
+    /// The condition fails nowhere in the run.
+    Nowhere,
+    /// A number of the request is not within its limits.
+    BadRange,
+    /// The words are no condition, or the scenario has no such host or probe.
+    BadCondition,
+    /// The run has no input: no line of a script makes one of its events, or the scenario's text
+    /// cannot stand before a script.
+    NoInput,
+}
+
+impl Export {
+    /// What is written.
+    pub fn text(&self) -> &[u8]
+        ensures { result.now ≡ export_text self.now }
+    {
+        match self {
+            Export::Input(text) => text.as_bytes(),
+            Export::Nowhere => b"none\n",
+            Export::BadRange => b"bad range\n",
+            Export::BadCondition => b"bad condition\n",
+            Export::NoInput => b"no input\n",
+        }
+    }
+
+    /// The status with which the program ends once that is written.
+    pub fn status(&self) -> Status
+        ensures { result ≡ export_status self.now }
+    {
+        match self {
+            Export::Input(_) | Export::Nowhere => Status::Well,
+            Export::BadRange | Export::BadCondition | Export::NoInput => Status::BadRequest,
+        }
+    }
+}
+
+/// Writes an export and flushes the writer. Returns its status, unless the writer fails.
+pub fn write_export<W: Write>(writer: &mut W, export: &Export) -> Status
+    ensures { WritesExport (W.contents writer.old) (W.contents writer.new) export.now result }
+{
+    match write_text(writer, export.text()) {
+        Answered::Well => export.status(),
+        Answered::WriterFailed => Status::WriterFailed,
+        Answered::MemoryWanted => Status::MemoryWanted,
+    }
+}

@@ -1,0 +1,190 @@
+//! The smallest failing run of a script as an input for a play.
+ghost use Rattle.std.specs.Prelude.{◌≡◌, ◌≤◌, ℕ, List, Some, Ok, IfOk, length, string_bytes};
+ghost use Rattle.sim_world.specs.declared.Event.{Event as EventValue};
+ghost use Rattle.sim_world.specs.Events.{rules};
+ghost use Rattle.sim_scenario.specs.Scenario.{Protocol, ScenarioText};
+ghost use Rattle.sim_cli.specs.Play.{Ended, read_scenario};
+ghost use Rattle.sim_cli.specs.Subjects.{nodes_by};
+ghost use Rattle.sim_export.specs.Exports.{IsInput, WritesFor, Written};
+ghost use Rattle.sim_export.specs.Shrinks.{IsShrinkOf, shrink_right};
+
+use crate::export::{Export, write_export};
+use crate::input::{InputError, input_of};
+use sim_cli::{Opened, Status, Subjects, Tally, Task, open};
+use sim_lines::Ahead;
+use sim_node::{NoMemory, Node};
+use sim_replay::given_events;
+use sim_reseed::ends_its_lines;
+use sim_script::{Names, condition_of};
+use sim_search::SearchFault;
+use sim_shrink::{Listener, shrink};
+use sim_watch::Cond;
+use sim_world::Event;
+use std::alloc::Global;
+use std::io::{Read, Write};
+
+// Reports on standard error how far the search for a smaller run has come, if it is asked to.
+#[derive(Drop)]
+struct Reporter<'a, H: Eprint> {
+    host: &'a H,
+    reports: bool,
+}
+
+impl<'a, H: Eprint> Listener for Reporter<'a, H> {
+    fn tried(&mut self, faults: u64, trials: u64) {
+        if self.reports {
+            // If standard error takes nothing, the search goes on.
+            let _told = eprintln!(self.host; "{faults} faults left after {trials} trials");
+        }
+    }
+}
+
+// The input that makes the events in the scenario with this text.
+fn input_with(
+    alloc: Global,
+    text: &[u8],
+    names: &Names,
+    events: &[Event],
+) -> Result<String, InputError>
+    ensures { IfOk result (λ t. (protocols : List Protocol) (said : ScenarioText) →
+        read_scenario protocols text.now ≡ Ok said →
+        IsInput protocols said names.now events.now (string_bytes t)) }
+{
+    let Ok(text) = str::from_utf8(text) else {
+        return Err(InputError::NoInput);
+    };
+    if !ends_its_lines(text) {
+        return Err(InputError::NoInput);
+    }
+    input_of(alloc, text, names, events)
+}
+
+// What is written of the run of these events in a scenario that was read. The only error is want of
+// memory.
+fn export_of<N: Node<Meter = Tally>, P: Listener>(
+    alloc: Global,
+    opened: &Opened,
+    text: &[u8],
+    cond: &Cond,
+    events: &[Event],
+    listener: &mut P,
+) -> Result<Export, NoMemory>
+    ensures { IfOk result (IsShrinkOf (rules N.laws N.PROBES opened.now.scenario)
+        opened.now.names text.now events.now cond.now) }
+{
+    let run = match shrink::<N, P>(
+        alloc,
+        &opened.scenario,
+        events,
+        cond,
+        &mut Tally::new(),
+        listener,
+    ) {
+        Ok(Some(run)) => run,
+        Ok(None) => return Ok(Export::Nowhere),
+        Err(SearchFault::BadRange) => return Ok(Export::BadRange),
+        Err(SearchFault::BadCondition) => return Ok(Export::BadCondition),
+        Err(SearchFault::NoMemory) => return Err(NoMemory),
+    };
+    match input_with(alloc, text, &opened.names, run.as_slice()) {
+        Ok(input) => Ok(Export::Input(input)),
+        Err(InputError::NoInput) => Ok(Export::NoInput),
+        Err(InputError::NoMemory) => Err(NoMemory),
+    }
+}
+
+/// What is asked: the words of a condition, and whether progress is reported.
+#[derive(Clone, Copy)]
+pub struct Shrink<'a> {
+    pub cond: &'a str,
+    pub progress: bool,
+}
+
+// The task to make the run of a script smaller, in the scenario with this text.
+#[derive(Drop)]
+struct Shrinking<'a, H: Eprint> {
+    alloc: Global,
+    host: &'a H,
+    text: &'a [u8],
+    asked: Shrink<'a>,
+}
+
+impl<'a, H: Eprint> Task for Shrinking<'a, H> {
+    ghost can = { λ _. Unit {0} };
+
+    ghost does = { λ task r names old new ended.
+        WritesFor (shrink_right task.asked.cond.now) task.text.now r names old new ended };
+
+    fn carry_out<N: Node<Meter = Tally> + Send + Sync, R: Read, W: Write>(
+        &self,
+        opened: &Opened,
+        reader: &mut R,
+        ahead: &mut Ahead,
+        writer: &mut W,
+    ) -> Status
+    where
+        N::Msg: Send + Sync,
+        N::Undo: Send + Sync,
+    {
+        let Some(cond) = condition_of(&opened.names, self.asked.cond.as_bytes()) else {
+            return write_export(writer, &Export::BadCondition);
+        };
+        let events = match given_events::<N, R>(self.alloc, opened, true, reader, ahead) {
+            Ok(events) => events,
+            Err(status) => return status,
+        };
+        let mut listener = Reporter {
+            host: self.host,
+            reports: self.asked.progress,
+        };
+        let text = self.text;
+        let events = events.as_slice();
+        match export_of::<N, Reporter<'_, H>>(
+            self.alloc,
+            opened,
+            text,
+            &cond,
+            events,
+            &mut listener,
+        ) {
+            Ok(export) => write_export(writer, &export),
+            Err(_) => Status::MemoryWanted,
+        }
+    }
+}
+
+/// Plays a script without writing its answers, and writes the kept events of its first branch as an
+/// input for a play, up to the first place at which a condition fails and without the faults that it
+/// does not need to fail.
+///
+/// It writes `none` if the condition fails nowhere, `bad condition` with status 2 if the words are
+/// none or the scenario has no such host or probe, and `no input` with status 2 if no line of a
+/// script makes some event of the run. If the reader fails or memory is wanted, it writes nothing.
+/// There are at most 255 subjects.
+pub fn write_shrunk<L: Subjects, H: Eprint, R: Read, W: Write>(
+    host: &H,
+    alloc: Global,
+    asked: Shrink<'_>,
+    reader: &mut R,
+    writer: &mut W,
+) -> Status
+    requires few { length L.listed ≤ 255 }
+    ensures { (given : List ℕ) → R.remaining reader.old ≡ Some given →
+        Ended (W.contents writer.old) (W.contents writer.new)
+        (Written (shrink_right asked.entry.cond.now) L.listed (nodes_by L.nodes) given result) }
+{
+    let mut ahead = Ahead::new();
+    match open::<L, R, W>(alloc, reader, &mut ahead, writer) {
+        Ok(opened) => {
+            let text = opened.text.as_slice();
+            let task = Shrinking {
+                alloc,
+                host,
+                text,
+                asked,
+            };
+            L::carry_out(opened.protocol, &task, &opened, reader, &mut ahead, writer)
+        }
+        Err(status) => status,
+    }
+}
