@@ -13,7 +13,7 @@ use Rattle.sim_cli.specs.declared.status.Status.TheVariants.{Well, BadScenario, 
 use Rattle.sim_cli.specs.Answers.{Faults}
 use Rattle.sim_cli.specs.Lines.{fault_line}
 use Rattle.sim_cli.specs.Play.{Nodes, Ended, names_of, read_scenario, scenario}
-use Rattle.sim_cli.specs.declared.opening.Opened.{Opened}
+use Rattle.sim_cli.specs.declared.opened.Opened.{Opened}
 use Rattle.sim_cli.specs.Opens.{HeadIs, IsNotOpened, IsOpened}
 use Rattle.sim_cli.specs.Subjects.{nodes_by}
 use Rattle.sim_cli.proofs.Whole.{whole_cut}
@@ -21,7 +21,7 @@ use Rattle.sim_perform.specs.declared.answer.Answer.{Answer}
 use Rattle.sim_perform.specs.declared.answer.Answer.TheVariants as answer
 use Rattle.sim_perform.specs.declared.hunting.Area.{Area}
 use Rattle.sim_perform.specs.Answers.{status_of}
-use Rattle.sim_perform.specs.Following.{Stops}
+use Rattle.sim_replay.specs.Following.{Stops}
 use Rattle.sim_perform.specs.Hunts.{hunt_answer}
 use Rattle.sim_perform.specs.Outcomes.{Outcome, EndsBy, WritesOutcome, WritesAnswer, Hunted, Performed, answered, faulty, outcome, outcome_of}
 

@@ -1,5 +1,5 @@
 -- What a hunt finds is its answer by the definitions.
-use Rattle.std.proofs.Common.{◌≡◌, ℕ, List, Option, Some, None, refl, sym, subst, Result, Ok, Err, IfOk}
+use Rattle.std.proofs.Common.{◌≡◌, ◌<◌, ℕ, zero, suc, List, [], ◌∷◌, length, arith, Option, Some, None, refl, sym, subst, Result, Ok, Err, IfOk}
 use Rattle.sim_node.specs.Node.{NodeLaws}
 use Rattle.sim_world.specs.declared.Event.{Event}
 use Rattle.sim_world.specs.World.{Scenario}
@@ -12,7 +12,9 @@ use Rattle.sim_perform.specs.declared.answer.Answer.{Answer}
 use Rattle.sim_perform.specs.declared.answer.Answer.TheVariants.{BadCondition}
 use Rattle.sim_perform.specs.declared.hunting.Area.{Area}
 use Rattle.sim_perform.specs.declared.hunting.Area.TheVariants.{Places}
-use Rattle.sim_perform.specs.Hunts.{first_events, search_answer, found_on, found_for, hunt_answer}
+use Rattle.sim_scenario.specs.Scenario.{Protocol}
+use Rattle.sim_replay.specs.Played.{first_events}
+use Rattle.sim_perform.specs.Hunts.{Has, Serves, search_answer, found_on, found_for, hunt_answer}
 
 -- a result that is passed on
 pub passed_on : {A E F : Type 0} (P : A → Type 0) (r : Result A E) (t : Result A F) → IfOk r P → IfOk t (λ a. r ≡ Ok a) → IfOk t P
@@ -45,7 +47,18 @@ module _ {State Msg : Type 0} (r : Rules State Msg) (names : Names) (script : Te
       (subst (λ (x : Option Cond). BadCondition ≡ found_for r names o script x) read refl)
 
 module _ (script : Text) (o : Area) where
-  -- over the nodes of a protocol
-  pub found_by : {F : Type 0} (nodes : ℕ → Scenario → Nodes) (t : Result Answer F) (k place : ℕ) (s : Scenario) (names : Names) (c : Cond) → place ≡ k
-      → IfOk t (λ a. a ≡ found_on (nodes k s).rules names o script c) → IfOk t (λ a. a ≡ found_on (nodes place s).rules names o script c)
-  found_by nodes t k place s names c same is = subst (λ (x : ℕ). IfOk t (λ a. a ≡ found_on (nodes x s).rules names o script c)) (sym same) is
+  -- over the nodes at a place of a list
+  pub found_at : {State Msg F : Type 0} (nodes : ℕ → Scenario → Nodes) (node : NodeLaws State Msg) (probes k place : ℕ)
+      (protocols : List Protocol) (t : Result Answer F) (s : Scenario) (names : Names) (c : Cond) → place ≡ k → Has k protocols
+      → (Has k protocols → Serves (nodes k) node probes)
+      → IfOk t (λ a. a ≡ found_on (rules node probes s) names o script c)
+      → IfOk t (λ a. a ≡ found_on (nodes place s).rules names o script c)
+  found_at nodes node probes k place protocols t s names c same has serves is =
+      subst (λ (x : ℕ). IfOk t (λ a. a ≡ found_on (nodes x s).rules names o script c)) (sym same)
+      (subst (λ (x : Answer). IfOk t (λ a. a ≡ x)) (sym (serves has s names o script c)) is)
+
+-- a list that is longer than a number has that place
+pub has_place : (protocols : List Protocol) (k : ℕ) → k < length protocols → Has k protocols
+has_place [] k less = absurd (omega (arith, less))
+has_place (p ∷ ps) zero less = tt
+has_place (p ∷ ps) (suc k) less = has_place ps k (omega (arith, less))

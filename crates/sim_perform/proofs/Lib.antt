@@ -1,5 +1,3 @@
--- Lemmas on scripts that are carried out, on what is found, and on what is written of it.
-pub mod Follows
-mod FirstRun
+-- Lemmas on what is found, and on what is written of it.
 mod Finds
 mod Ends

@@ -1,22 +1,29 @@
 -- What a search and a sweep find, by the definitions of a first failing place and of their faults.
-use Rattle.std.specs.Prelude.{ℕ, ◌≤◌, List, length, Option, None, Some}
-use Rattle.std.specs.Str.Lines.{lines}
+use Rattle.std.specs.Prelude.{◌≡◌, ℕ, zero, suc, ◌≤◌, ◌==◌, ◌&&◌, Bool, not, is_none, List, [], ◌∷◌, length, Option, None, Some, ⊤, if◌then◌else◌}
 use Rattle.sim_world.specs.declared.Event.{Event}
-use Rattle.sim_world.specs.Events.{Rules}
+use Rattle.sim_node.specs.Node.{NodeLaws}
+use Rattle.sim_world.specs.World.{Scenario}
+use Rattle.sim_world.specs.Events.{Rules, rules}
 use Rattle.sim_watch.specs.Condition.{Cond}
 use Rattle.sim_watch.specs.Search.{first_failing, first_failing_seed}
 use Rattle.sim_search.specs.declared.SearchFault.{SearchFault}
 use Rattle.sim_search.specs.declared.SearchFault.TheVariants as fault
 use Rattle.sim_search.specs.Faults.{search_fault, sweep_fault}
+use Rattle.sim_plan.specs.declared.plan.Plan.{Plan}
+use Rattle.sim_sweep.specs.Faults.{planned_sweep_fault}
+use Rattle.sim_sweep.specs.Planned.{first_failing_planned_seed}
+use Rattle.sim_scenario.specs.Scenario.{Protocol}
 use Rattle.sim_script.specs.Script.{Text, Names, words}
 use Rattle.sim_script.specs.Conditions.{condition}
-use Rattle.sim_book.specs.Book.{branch}
-use Rattle.sim_cli.specs.Turns.{beginning}
-use Rattle.sim_cli.specs.Play.{end_from}
+use Rattle.sim_export.specs.SeedRuns.{plan_with}
+use Rattle.sim_replay.specs.Played.{first_events, given_events}
+use Rattle.sim_cli.specs.Play.{Nodes}
+use Rattle.sim_job.specs.declared.wanted.FaultPlan.{FaultPlan}
 use Rattle.sim_perform.specs.declared.answer.Answer.{Answer}
 use Rattle.sim_perform.specs.declared.answer.Answer.TheVariants.{BadRange, BadCondition}
 use Rattle.sim_perform.specs.declared.hunting.Area.{Area}
-use Rattle.sim_perform.specs.declared.hunting.Area.TheVariants.{Places, Seeds}
+use Rattle.sim_perform.specs.declared.hunting.Area.TheVariants.{Places, Seeds, Planned}
+use Rattle.sim_perform.specs.declared.hunting.PlannedRuns.{PlannedRuns}
 use Rattle.sim_perform.specs.Answers.{at_place, at_seed}
 
 -- so many workers can share a hunt
@@ -30,6 +37,28 @@ answer_by (Some fault.BadRange) found = BadRange
 answer_by (Some fault.BadCondition) found = BadCondition
 answer_by (Some fault.NoMemory) found = found
 
+abbrev pub planned_runs : FaultPlan → Bool → Bool → ℕ → ℕ → ℕ → PlannedRuns
+planned_runs plan at_end script first count events = record {
+  first = first;
+  count = count;
+  events = events;
+  plan = plan;
+  at_end = at_end;
+  script = script;
+}
+
+-- how the runs of a sweep are planned
+abbrev pub plan_of : PlannedRuns → Plan
+plan_of runs = plan_with runs.plan.faults runs.events runs.plan.quiet runs.at_end
+
+-- A sweep is of steps alone where nothing else is asked.
+abbrev pub is_plain : PlannedRuns → Bool
+is_plain runs =
+    is_none runs.plan.faults && ((runs.plan.quiet == 0) && (not runs.at_end && not runs.script))
+
+abbrev pub area_of : PlannedRuns → Area
+area_of runs = if is_plain runs then Seeds runs.first runs.count runs.events else Planned runs
+
 module _ {State Msg : Type 0} (r : Rules State Msg) where
   abbrev pub search_answer : Cond → List Event → ℕ → ℕ → Answer
   search_answer c events lo hi =
@@ -41,14 +70,20 @@ module _ {State Msg : Type 0} (r : Rules State Msg) where
       answer_by (sweep_fault first count events r.scenario.setup.hosts r.probes c)
       (at_seed (first_failing_seed r.node r.probes r.scenario c events first count))
 
-  -- all kept events of the first branch that a script leaves
-  abbrev pub first_events : Names → Text → List Event
-  first_events names script = (branch 0 (end_from r names beginning (lines script)).branches).events
+  -- of runs that are planned, each after the same given events
+  abbrev pub planned_answer : Cond → List Event → PlannedRuns → Answer
+  planned_answer c given runs =
+      answer_by (planned_sweep_fault runs.first runs.count (length given) (plan_of runs)
+      r.scenario.setup.hosts r.probes c)
+      (at_seed (first_failing_planned_seed r.node r.probes r.scenario given (plan_of runs) c
+      runs.first runs.count))
 
   -- what is found in a range of places of the run that a script leaves, or in a range of seeds
   abbrev pub found_on : Names → Area → Text → Cond → Answer
-  found_on names (Places lo hi) script c = search_answer c (first_events names script) lo hi
+  found_on names (Places lo hi) script c = search_answer c (first_events r names script) lo hi
   found_on names (Seeds first count events) script c = sweep_answer c first count events
+  found_on names (Planned runs) script c =
+      planned_answer c (given_events r runs.script names script) runs
 
   -- the same, where the words of the condition are none or this condition
   abbrev pub found_for : Names → Area → Text → Option Cond → Answer
@@ -58,3 +93,15 @@ module _ {State Msg : Type 0} (r : Rules State Msg) where
   -- what a hunt answers: the words of the condition are read first
   abbrev pub hunt_answer : Names → Area → Text → Text → Answer
   hunt_answer names area cond script = found_for names area script (condition names (words cond))
+
+-- The list has a protocol at this place.
+abbrev pub Has : ℕ → List Protocol → Type 0
+Has k [] = ⊥
+Has zero (p ∷ ps) = ⊤
+Has (suc k) (p ∷ ps) = Has k ps
+
+-- The nodes at a place are nodes with these laws: what is found over them is the same.
+abbrev pub Serves : {State Msg : Type 0} → (Scenario → Nodes) → NodeLaws State Msg → ℕ → Type 0
+Serves nodes node probes = (s : Scenario) (names : Names) (area : Area) (script : Text) (c : Cond)
+    → found_on (nodes s).rules names area script c
+    ≡ found_on (rules node probes s) names area script c

@@ -1,5 +1,3 @@
 pub mod Answers
-pub mod Following
 pub mod Hunts
 pub mod Outcomes
-pub mod Shipped

@@ -1,5 +1,5 @@
 -- What a job writes, and the status with which it ends.
-use Rattle.std.specs.Prelude.{◌≡◌, List, [], ◌++◌, Option, Result, Ok, Err, ◌⊎◌}
+use Rattle.std.specs.Prelude.{◌≡◌, ℕ, List, [], ◌++◌, Option, Result, Ok, Err, ◌⊎◌}
 use Rattle.std.specs.Io.KnownBytes.{Appends}
 use Rattle.sim_lines.specs.Cut.{head_of}
 use Rattle.sim_lines.specs.Left.{AppendsPart}
@@ -11,11 +11,20 @@ use Rattle.sim_cli.specs.declared.status.Status.{Status}
 use Rattle.sim_cli.specs.declared.status.Status.TheVariants.{Well, BadScenario, BadRequest, ReaderFailed, WriterFailed, MemoryWanted}
 use Rattle.sim_cli.specs.Lines.{fault_line}
 use Rattle.sim_cli.specs.Play.{Nodes, Played, names_of, read_scenario}
+use Rattle.sim_job.specs.declared.wanted.FaultPlan.{FaultPlan}
+use Rattle.sim_export.specs.declared.planned.SeedRun.{SeedRun}
+use Rattle.sim_export.specs.Exports.{Written}
+use Rattle.sim_export.specs.SeedRuns.{seed_run_right}
+use Rattle.sim_export.specs.Shrinks.{shrink_right}
 use Rattle.sim_perform.specs.declared.answer.Answer.{Answer}
 use Rattle.sim_perform.specs.declared.hunting.Area.{Area}
-use Rattle.sim_perform.specs.declared.hunting.Area.TheVariants.{Places, Seeds}
+use Rattle.sim_perform.specs.declared.hunting.Area.TheVariants.{Places}
 use Rattle.sim_perform.specs.Answers.{answer_line, status_of}
-use Rattle.sim_perform.specs.Hunts.{hunt_answer}
+use Rattle.sim_perform.specs.Hunts.{area_of, hunt_answer, planned_runs}
+
+abbrev pub seed_run : FaultPlan → ℕ → ℕ → SeedRun
+seed_run plan seed events =
+    record { seed = seed; events = events; faults = plan.faults; quiet = plan.quiet }
 
 -- the status and the line with which a hunt ends where the reader, the writer and memory serve
 pub record Outcome : Type 0 where
@@ -69,7 +78,12 @@ module _ (protocols : List Protocol) (nodes_of : ScenarioText → Nodes) where
   -- what a job writes for what is given, and what is left of it, by its status
   abbrev pub Performed : Job → Text → Option Text → Status → Text → Type 0
   Performed jobs.Play given left ended written = Played protocols nodes_of given left ended written
-  Performed (jobs.Search workers progress lo hi cond) given left ended written =
+  Performed (jobs.Search team lo hi cond) given left ended written =
       Hunted (Places lo hi) cond.now given ended written
-  Performed (jobs.Sweep workers progress first count events cond) given left ended written =
-      Hunted (Seeds first count events) cond.now given ended written
+  Performed (jobs.Sweep team plan at_end script first count events cond) given left ended written =
+      Hunted (area_of (planned_runs plan at_end script first count events)) cond.now
+      given ended written
+  Performed (jobs.Script plan seed events) given left ended written =
+      Written (seed_run_right (seed_run plan seed events)) protocols nodes_of given ended written
+  Performed (jobs.Shrink progress cond) given left ended written =
+      Written (shrink_right cond.now) protocols nodes_of given ended written

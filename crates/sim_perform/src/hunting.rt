@@ -1,39 +1,35 @@
 //! A condition is hunted for in the run that a script leaves, or in the runs of many seeds.
-ghost use Rattle.std.specs.Prelude.{◌≡◌, ◌<◌, ℕ, List, IfOk, IfErr, Some, Ok, length, slice_index_or, vec_len};
+ghost use Rattle.std.specs.Prelude.{◌≡◌, ◌<◌, ℕ, List, IfOk, IfErr, Some, Ok, vec_len};
 ghost use Rattle.std.specs.Io.KnownBytes.{prepend_known};
 ghost use Rattle.sim_world.specs.Events.{rules};
-ghost use Rattle.sim_perform.specs.Following.{Stops};
-ghost use Rattle.sim_perform.specs.Hunts.{IsTeam, first_events, found_on, search_answer, sweep_answer};
-ghost use Rattle.sim_book.specs.Kept.{Kept as KeptValue};
+ghost use Rattle.sim_replay.specs.Following.{Stops};
+ghost use Rattle.sim_perform.specs.Hunts.{IsTeam, found_on, search_answer, sweep_answer};
 
 use crate::Status;
 use crate::answer::{Answer, of_search, of_sweep};
-use crate::following::follow;
+use crate::planned::sweep_runs;
 use crate::progress::Progress;
-use sim_book::Book;
 use sim_cli::Opened;
+use sim_job::{FaultPlan, Team};
 use sim_lines::Ahead;
 use sim_node::{NoMemory, Node};
-use sim_script::Names;
+use sim_replay::{given_events, played};
 use sim_search::{OpenGate, search, sweep};
 use sim_tally::Tally;
 use sim_tape::Frozen;
 use sim_watch::{Cond, pieces};
-use sim_world::Scenario;
 use std::alloc::Global;
 use std::io::Read;
 use std::rt::Clock;
 use std::sync::Wait;
 use std::thread::Threads;
 
-/// What a command line asks for: a condition in words, where to look for it, with how many workers
-/// (1 to 16), and whether they report their progress.
+/// What a command line asks for: a condition in words, where to look for it, and who looks.
 #[derive(Clone, Copy)]
 pub struct Hunt<'a> {
     pub area: Area,
     pub cond: &'a str,
-    pub workers: u64,
-    pub progress: bool,
+    pub team: Team,
 }
 
 /// Where a condition is looked for.
@@ -43,6 +39,22 @@ pub enum Area {
     Places { lo: u64, hi: u64 },
     /// in the runs of at most `events` steps of `count` seeds, from number `first` on
     Seeds { first: u64, count: u64, events: u64 },
+    /// in the runs of seeds whose events are planned
+    Planned(PlannedRuns),
+}
+
+/// The planned runs of `count` seeds, from number `first` on.
+#[derive(Clone, Copy)]
+pub struct PlannedRuns {
+    pub first: u64,
+    pub count: u64,
+    /// How many events are planned before the quiet end.
+    pub events: u64,
+    pub plan: FaultPlan,
+    /// Whether the last place of each run is looked at alone.
+    pub at_end: bool,
+    /// Whether each run begins with the events that the script leaves.
+    pub script: bool,
 }
 
 /// A hunt in a scenario that was read: the condition's words are read too, by the names of the
@@ -54,8 +66,8 @@ pub struct Quest<'a> {
     pub hunt: &'a Hunt<'a>,
 }
 
-// A meter for each worker.
-fn meters(alloc: Global, workers: u64) -> Result<Vec<Tally>, NoMemory>
+/// A meter for each worker. The only error is want of memory.
+pub fn meters(alloc: Global, workers: u64) -> Result<Vec<Tally>, NoMemory>
     ensures { IfOk result (λ v. vec_len v ≡ workers) }
 {
     let mut meters = Vec::new(alloc);
@@ -63,40 +75,6 @@ fn meters(alloc: Global, workers: u64) -> Result<Vec<Tally>, NoMemory>
         meters.push(Tally::new())?;
     }
     Ok(meters)
-}
-
-// All kept events of the first branch, once a script was carried out.
-fn played<N: Node<Meter = Tally>, R: Read>(
-    alloc: Global,
-    scenario: &Scenario,
-    names: &Names,
-    reader: &mut R,
-    ahead: &mut Ahead,
-) -> Result<Frozen<N>, Status>
-    ensures run { (script : List ℕ) →
-        prepend_known ahead.old.bytes (R.remaining reader.old) ≡ Some script →
-        IfOk result (λ f. (f.scenario ≡ scenario.now)
-        × (f.events ≡ first_events (rules N.laws N.PROBES scenario.now) names.now script)) }
-    ensures stops { IfErr result Stops }
-{
-    let Ok(mut book) = Book::<N>::new(alloc, scenario, Tally::new()) else {
-        return Err(Status::MemoryWanted);
-    };
-    follow(alloc, &mut book, names, reader, ahead)?;
-    first_run(alloc, &book)
-}
-
-// All kept events of the first branch.
-fn first_run<N: Node>(alloc: Global, book: &Book<N>) -> Result<Frozen<N>, Status>
-    requires { 0 < length book.now.kept }
-    ensures run { IfOk result (λ f. (f.scenario ≡ book.now.scenario)
-        × ((d : KeptValue) → f.events ≡ (slice_index_or book.now.kept 0 d).tape.events)) }
-    ensures stops { IfErr result Stops }
-{
-    match book.frozen(alloc, 0) {
-        Ok(frozen) => Ok(frozen),
-        Err(_) => Err(Status::MemoryWanted),
-    }
 }
 
 // How many pieces the places have, or 0 if the range is bad.
@@ -119,12 +97,12 @@ fn search_run<N: Node<Meter = Tally> + Send + Sync, H: Threads + Wait + Sync + C
 where
     N::Msg: Send + Sync,
     N::Undo: Send + Sync,
-    requires { IsTeam quest.now.hunt.now.workers }
+    requires { IsTeam quest.now.hunt.now.team.workers }
     ensures { IfOk result (λ a. a ≡ search_answer (rules N.laws N.PROBES frozen.now.scenario)
         quest.now.cond frozen.now.events lo hi) }
 {
-    let meters = meters(alloc, quest.hunt.workers)?;
-    if quest.hunt.progress {
+    let meters = meters(alloc, quest.hunt.team.workers)?;
+    if quest.hunt.team.progress {
         let gate = Progress::new(rt, pieces_of(frozen, lo, hi));
         of_search(search(rt, alloc, frozen, lo, hi, &quest.cond, meters, &gate))
     } else {
@@ -144,14 +122,14 @@ fn sweep_seeds<N: Node<Meter = Tally> + Send + Sync, H: Threads + Wait + Sync + 
 where
     N::Msg: Send + Sync,
     N::Undo: Send + Sync,
-    requires { IsTeam quest.now.hunt.now.workers }
+    requires { IsTeam quest.now.hunt.now.team.workers }
     ensures { IfOk result (λ a. a ≡ sweep_answer (rules N.laws N.PROBES quest.now.opened.now.scenario)
         quest.now.cond first count events) }
 {
     let scenario = &quest.opened.scenario;
     let cond = &quest.cond;
-    let meters = meters(alloc, quest.hunt.workers)?;
-    if quest.hunt.progress {
+    let meters = meters(alloc, quest.hunt.team.workers)?;
+    if quest.hunt.team.progress {
         let gate = Progress::new(rt, count);
         of_sweep(sweep::<N, _, _>(
             rt, alloc, scenario, first, count, events, cond, meters, &gate,
@@ -189,7 +167,7 @@ pub fn hunt_nodes<
 where
     N::Msg: Send + Sync,
     N::Undo: Send + Sync,
-    requires { IsTeam quest.now.hunt.now.workers }
+    requires { IsTeam quest.now.hunt.now.team.workers }
     ensures answer { (script : List ℕ) →
         prepend_known ahead.old.bytes (R.remaining reader.old) ≡ Some script →
         IfOk result (λ a. a ≡ found_on (rules N.laws N.PROBES quest.now.opened.now.scenario)
@@ -198,12 +176,8 @@ where
 {
     match quest.hunt.area {
         Area::Places { lo, hi } => {
-            let Opened {
-                scenario,
-                names,
-                ..
-            } = quest.opened;
-            let frozen = played::<N, R>(alloc, scenario, names, reader, ahead)?;
+            let opened = quest.opened;
+            let frozen = played::<N, R>(alloc, &opened.scenario, &opened.names, reader, ahead)?;
             told(search_run(rt, alloc, &frozen, lo, hi, quest))
         }
         Area::Seeds {
@@ -211,5 +185,9 @@ where
             count,
             events,
         } => told(sweep_seeds::<N, H>(rt, alloc, first, count, events, quest)),
+        Area::Planned(runs) => {
+            let given = given_events::<N, R>(alloc, quest.opened, runs.script, reader, ahead)?;
+            told(sweep_runs::<N, H>(rt, alloc, &runs, given.as_slice(), quest))
+        }
     }
 }

@@ -1,10 +1,9 @@
 //! Carries out a job of the command line over any reader and any writer: a play, a search of the
 //! run that a script leaves, or a sweep over seeds.
 //!
-//! [`perform`] is the one call, for the protocols that ship. It gives a play to `sim_cli::play`, with
-//! the same contract. A
-//! search or a sweep (a hunt) reads the scenario as a play does, looks for the condition with
-//! several workers, and writes one line: `first P`, `seed I place P`, `none`, `bad range` or `bad
+//! [`perform`] is the one call, for a list of at most eight protocols ([`Searchable`]). It gives a
+//! play to `sim_cli::play`, with the same contract. A search or a sweep (a hunt) reads the scenario
+//! as a play does, looks for the condition with several workers, and writes one line: `first P`, `seed I place P`, `none`, `bad range` or `bad
 //! condition`. With `--progress` it reports on standard error how many pieces are done, at most
 //! twice a second; the standard output does not change.
 //!
@@ -32,13 +31,15 @@
 #![tactic(auto)]
 
 mod answer;
-mod following;
 mod hunting;
 mod performing;
+mod planned;
 mod program;
 mod progress;
+mod searchable;
 
 pub use performing::perform;
 pub use program::run;
+pub use searchable::Searchable;
 pub use sim_cli::Status;
-pub use sim_job::{Job, LineError, job};
+pub use sim_job::{FaultPlan, Job, LineError, Team, job};

@@ -1,63 +1,118 @@
 //! A job is carried out over any reader and any writer.
-ghost use Rattle.std.specs.Prelude.{◌≡◌, ◌<◌, ℕ, List, Some, IfOk, IfErr};
+ghost use Rattle.std.specs.Prelude.{◌≡◌, ◌<◌, ◌≤◌, ℕ, List, Some, IfOk, IfErr, length};
 ghost use Rattle.std.specs.Io.KnownBytes.{prepend_known};
 ghost use Rattle.sim_job.specs.CommandLine.{HasFewWorkers};
 ghost use Rattle.sim_job.specs.declared.wanted.Job.TheVariants as jobs;
 ghost use Rattle.sim_cli.specs.Play.{Ended, IsWithinReads};
 ghost use Rattle.sim_cli.specs.Plain.{IsDone, IsPlain};
 ghost use Rattle.sim_cli.specs.Subjects.{nodes_by};
-ghost use Rattle.sim_perform.specs.Following.{Stops};
-ghost use Rattle.sim_perform.specs.Hunts.{IsTeam, found_on, hunt_answer};
-ghost use Rattle.sim_perform.specs.Shipped.{shipped_nodes, shipped_protocols};
+ghost use Rattle.sim_replay.specs.Following.{Stops};
+ghost use Rattle.sim_perform.specs.Hunts.{IsTeam, area_of, found_on, hunt_answer};
 ghost use Rattle.sim_perform.specs.Outcomes.{Hunted, Performed};
 ghost use Rattle.sim_perform.specs.Outcomes.{WritesAnswer, WritesOutcome};
 
 use crate::Status;
 use crate::answer::Answer;
-use crate::hunting::{Area, Hunt, Quest, hunt_nodes};
-use sim_cli::{Answered, Opened, Shipped, open, play, write_text};
+use crate::hunting::{Area, Hunt, PlannedRuns, Quest, hunt_nodes};
+use crate::searchable::Searchable;
+use sim_cli::{Answered, Opened, Subject, open, play, write_text};
+use sim_export::{SeedRun, Shrink, write_run, write_shrunk};
 use sim_job::Job;
 use sim_lines::Ahead;
-use sim_protocols::{AbdRegister, Echo, PrimaryBackup, TwoPhase};
 use sim_script::condition_of;
-use sim_tally::Tally;
 use std::alloc::Global;
 use std::io::{Read, Write};
 use std::rt::Clock;
 use std::sync::Wait;
 use std::thread::Threads;
 
-// Hunts over the nodes of the protocol that the scenario names.
-fn hunt_protocol<H: Threads + Wait + Sync + Clock + Eprint, R: Read>(
+// Hunts over the nodes of the protocol that the scenario names, one of the first four.
+fn hunt_first_four<L: Searchable, H: Threads + Wait + Sync + Clock + Eprint, R: Read>(
     rt: &H,
     alloc: Global,
     quest: &Quest<'_>,
     reader: &mut R,
     ahead: &mut Ahead,
 ) -> Result<Answer, Status>
-    requires team { IsTeam quest.now.hunt.now.workers }
-    requires known { quest.now.opened.now.protocol < 4 }
+    requires team { IsTeam quest.now.hunt.now.team.workers }
+    requires known { quest.now.opened.now.protocol < length L.listed }
+    requires place { quest.now.opened.now.protocol < 4 }
     ensures answer { (script : List ℕ) →
         prepend_known ahead.old.bytes (R.remaining reader.old) ≡ Some script →
-        IfOk result (λ a. a ≡ found_on (shipped_nodes quest.now.opened.now.protocol
+        IfOk result (λ a. a ≡ found_on (L.nodes quest.now.opened.now.protocol
         quest.now.opened.now.scenario).rules
         quest.now.opened.now.names quest.now.hunt.now.area script quest.now.cond) }
     ensures stops { IfErr result Stops }
 {
     let place = quest.opened.protocol;
     if place == 0 {
-        hunt_nodes::<Echo<Tally>, H, R>(rt, alloc, quest, reader, ahead)
+        hunt_nodes::<<L::Subject0 as Subject>::Node, H, R>(rt, alloc, quest, reader, ahead)
     } else if place == 1 {
-        hunt_nodes::<PrimaryBackup<Tally>, H, R>(rt, alloc, quest, reader, ahead)
+        hunt_nodes::<<L::Subject1 as Subject>::Node, H, R>(rt, alloc, quest, reader, ahead)
     } else if place == 2 {
-        hunt_nodes::<AbdRegister<Tally>, H, R>(rt, alloc, quest, reader, ahead)
+        hunt_nodes::<<L::Subject2 as Subject>::Node, H, R>(rt, alloc, quest, reader, ahead)
     } else {
-        hunt_nodes::<TwoPhase<Tally>, H, R>(rt, alloc, quest, reader, ahead)
+        hunt_nodes::<<L::Subject3 as Subject>::Node, H, R>(rt, alloc, quest, reader, ahead)
+    }
+}
+
+// Hunts over the nodes of the protocol that the scenario names, one of the next four.
+fn hunt_next_four<L: Searchable, H: Threads + Wait + Sync + Clock + Eprint, R: Read>(
+    rt: &H,
+    alloc: Global,
+    quest: &Quest<'_>,
+    reader: &mut R,
+    ahead: &mut Ahead,
+) -> Result<Answer, Status>
+    requires team { IsTeam quest.now.hunt.now.team.workers }
+    requires known { quest.now.opened.now.protocol < length L.listed }
+    requires place { (4 ≤ quest.now.opened.now.protocol) × (quest.now.opened.now.protocol < 8) }
+    ensures answer { (script : List ℕ) →
+        prepend_known ahead.old.bytes (R.remaining reader.old) ≡ Some script →
+        IfOk result (λ a. a ≡ found_on (L.nodes quest.now.opened.now.protocol
+        quest.now.opened.now.scenario).rules
+        quest.now.opened.now.names quest.now.hunt.now.area script quest.now.cond) }
+    ensures stops { IfErr result Stops }
+{
+    let place = quest.opened.protocol;
+    if place == 4 {
+        hunt_nodes::<<L::Subject4 as Subject>::Node, H, R>(rt, alloc, quest, reader, ahead)
+    } else if place == 5 {
+        hunt_nodes::<<L::Subject5 as Subject>::Node, H, R>(rt, alloc, quest, reader, ahead)
+    } else if place == 6 {
+        hunt_nodes::<<L::Subject6 as Subject>::Node, H, R>(rt, alloc, quest, reader, ahead)
+    } else {
+        hunt_nodes::<<L::Subject7 as Subject>::Node, H, R>(rt, alloc, quest, reader, ahead)
+    }
+}
+
+// Hunts over the nodes of the protocol that the scenario names.
+fn hunt_protocol<L: Searchable, H: Threads + Wait + Sync + Clock + Eprint, R: Read>(
+    rt: &H,
+    alloc: Global,
+    quest: &Quest<'_>,
+    reader: &mut R,
+    ahead: &mut Ahead,
+) -> Result<Answer, Status>
+    requires team { IsTeam quest.now.hunt.now.team.workers }
+    requires few { length L.listed ≤ 8 }
+    requires known { quest.now.opened.now.protocol < length L.listed }
+    ensures answer { (script : List ℕ) →
+        prepend_known ahead.old.bytes (R.remaining reader.old) ≡ Some script →
+        IfOk result (λ a. a ≡ found_on (L.nodes quest.now.opened.now.protocol
+        quest.now.opened.now.scenario).rules
+        quest.now.opened.now.names quest.now.hunt.now.area script quest.now.cond) }
+    ensures stops { IfErr result Stops }
+{
+    if quest.opened.protocol < 4 {
+        hunt_first_four::<L, H, R>(rt, alloc, quest, reader, ahead)
+    } else {
+        hunt_next_four::<L, H, R>(rt, alloc, quest, reader, ahead)
     }
 }
 
 // Hunts in the runs of a scenario that was read. The condition's words are read first.
-fn hunt_runs<H: Threads + Wait + Sync + Clock + Eprint, R: Read>(
+fn hunt_runs<L: Searchable, H: Threads + Wait + Sync + Clock + Eprint, R: Read>(
     rt: &H,
     alloc: Global,
     opened: &Opened,
@@ -65,12 +120,13 @@ fn hunt_runs<H: Threads + Wait + Sync + Clock + Eprint, R: Read>(
     reader: &mut R,
     ahead: &mut Ahead,
 ) -> Result<Answer, Status>
-    requires team { IsTeam hunt.now.workers }
-    requires known { opened.now.protocol < 4 }
+    requires team { IsTeam hunt.now.team.workers }
+    requires few { length L.listed ≤ 8 }
+    requires known { opened.now.protocol < length L.listed }
     ensures answer { (script : List ℕ) →
         prepend_known ahead.old.bytes (R.remaining reader.old) ≡ Some script →
         IfOk result (λ a. a ≡ hunt_answer
-        (shipped_nodes opened.now.protocol opened.now.scenario).rules
+        (L.nodes opened.now.protocol opened.now.scenario).rules
         opened.now.names hunt.now.area hunt.now.cond.now script) }
     ensures stops { IfErr result Stops }
 {
@@ -78,7 +134,7 @@ fn hunt_runs<H: Threads + Wait + Sync + Clock + Eprint, R: Read>(
         return Ok(Answer::BadCondition);
     };
     let quest = Quest { opened, cond, hunt };
-    hunt_protocol(rt, alloc, &quest, reader, ahead)
+    hunt_protocol::<L, H, R>(rt, alloc, &quest, reader, ahead)
 }
 
 // Writes a line and flushes the writer. Returns this status, unless the writer fails.
@@ -104,90 +160,109 @@ fn write_answer<W: Write>(alloc: Global, writer: &mut W, answer: Answer) -> Stat
 }
 
 // Reads a scenario, and hunts in its runs.
-fn hunt_scenario<H: Threads + Wait + Sync + Clock + Eprint, R: Read, W: Write>(
+fn hunt_scenario<L: Searchable, H: Threads + Wait + Sync + Clock + Eprint, R: Read, W: Write>(
     rt: &H,
     alloc: Global,
     hunt: &Hunt<'_>,
     reader: &mut R,
     writer: &mut W,
 ) -> Status
-    requires team { IsTeam hunt.now.workers }
+    requires team { IsTeam hunt.now.team.workers }
+    requires few { length L.listed ≤ 8 }
     ensures { (given : List ℕ) → R.remaining reader.old ≡ Some given →
         Ended (W.contents writer.old) (W.contents writer.new)
-        (Hunted shipped_protocols (nodes_by shipped_nodes) hunt.now.area hunt.now.cond.now
-        given result) }
+        (Hunted L.listed (nodes_by L.nodes) hunt.now.area hunt.now.cond.now given result) }
 {
     let mut ahead = Ahead::new();
-    let opened = match open::<Shipped, R, W>(alloc, reader, &mut ahead, writer) {
+    let opened = match open::<L, R, W>(alloc, reader, &mut ahead, writer) {
         Ok(opened) => opened,
         Err(status) => return status,
     };
-    match hunt_runs(rt, alloc, &opened, hunt, reader, &mut ahead) {
+    match hunt_runs::<L, H, R>(rt, alloc, &opened, hunt, reader, &mut ahead) {
         Ok(answer) => write_answer(alloc, writer, answer),
         Err(status) => status,
     }
 }
 
-/// Carries out a job with 1 to 16 workers over a reader and a writer, for the protocols that ship. A
-/// play writes one line for
-/// each command of the script. A search or a sweep writes one line: what it found, or why it was
-/// refused. A fault of the scenario is reported first, then words that are no condition, then a
-/// bad range, and last a host or probe of the condition that the scenario does not have. If the
-/// reader fails or memory is wanted, a search or a sweep writes nothing. Progress, if asked for, is
-/// reported on standard error at most twice a second.
-pub fn perform<H: Threads + Wait + Sync + Clock + Eprint, R: Read, W: Write>(
+// Where a sweep looks: in runs of steps alone, or in planned runs if anything more is asked of
+// them.
+fn area_of(runs: PlannedRuns) -> Area
+    ensures { result ≡ area_of runs }
+{
+    let plan = runs.plan;
+    if plan.faults.is_none() && plan.quiet == 0 && !runs.at_end && !runs.script {
+        Area::Seeds {
+            first: runs.first,
+            count: runs.count,
+            events: runs.events,
+        }
+    } else {
+        Area::Planned(runs)
+    }
+}
+
+/// Carries out a job with 1 to 16 workers over a reader and a writer, for the protocols of a list.
+/// A play writes one line for each command of the script. A search or a sweep writes one line: what
+/// it found, or why it was refused. A fault of the scenario is reported first, then words that are
+/// no condition, then a bad range, and last a host or probe of the condition that the scenario does
+/// not have. If the reader fails or memory is wanted, a search or a sweep writes nothing. Progress,
+/// if asked for, is reported on standard error at most twice a second.
+pub fn perform<L: Searchable, H: Threads + Wait + Sync + Clock + Eprint, R: Read, W: Write>(
     rt: &H,
     alloc: Global,
     job: &Job<'_>,
     reader: &mut R,
     writer: &mut W,
 ) -> Status
-    requires { HasFewWorkers job.now }
+    requires workers { HasFewWorkers job.now }
+    requires few { length L.listed ≤ 8 }
     ensures performed { (given : List ℕ) → R.remaining reader.old ≡ Some given →
         Ended (W.contents writer.old) (W.contents writer.new)
-        (Performed shipped_protocols (nodes_by shipped_nodes) job.now given (R.remaining reader.new) result) }
+        (Performed L.listed (nodes_by L.nodes) job.now given (R.remaining reader.new) result) }
     ensures plain { job.now ≡ jobs.Play →
         (given : List ℕ) → R.remaining reader.old ≡ Some given → IsDone result →
-        Ended (W.contents writer.old) (W.contents writer.new) (IsPlain shipped_protocols (nodes_by shipped_nodes) given) }
+        Ended (W.contents writer.old) (W.contents writer.new)
+        (IsPlain L.listed (nodes_by L.nodes) given) }
     ensures within { job.now ≡ jobs.Play →
         IsWithinReads (R.remaining reader.old) (R.remaining reader.new) }
 {
     match *job {
-        Job::Play => play::<Shipped, R, W>(alloc, reader, writer),
-        Job::Search {
-            workers,
-            progress,
-            lo,
-            hi,
-            cond,
-        } => {
-            let hunt = Hunt {
-                area: Area::Places { lo, hi },
-                cond,
-                workers,
-                progress,
-            };
-            hunt_scenario(rt, alloc, &hunt, reader, writer)
+        Job::Play => play::<L, R, W>(alloc, reader, writer),
+        Job::Search { team, lo, hi, cond } => {
+            let area = Area::Places { lo, hi };
+            hunt_scenario::<L, H, R, W>(rt, alloc, &Hunt { area, cond, team }, reader, writer)
         }
         Job::Sweep {
-            workers,
-            progress,
+            team,
+            plan,
+            at_end,
+            script,
             first,
             count,
             events,
             cond,
         } => {
-            let hunt = Hunt {
-                area: Area::Seeds {
-                    first,
-                    count,
-                    events,
-                },
-                cond,
-                workers,
-                progress,
+            let area = area_of(PlannedRuns {
+                first,
+                count,
+                events,
+                plan,
+                at_end,
+                script,
+            });
+            hunt_scenario::<L, H, R, W>(rt, alloc, &Hunt { area, cond, team }, reader, writer)
+        }
+        Job::Script { plan, seed, events } => {
+            let run = SeedRun {
+                seed,
+                events,
+                faults: plan.faults,
+                quiet: plan.quiet,
             };
-            hunt_scenario(rt, alloc, &hunt, reader, writer)
+            write_run::<L, R, W>(alloc, run, reader, writer)
+        }
+        Job::Shrink { progress, cond } => {
+            write_shrunk::<L, H, R, W>(rt, alloc, Shrink { cond, progress }, reader, writer)
         }
     }
 }

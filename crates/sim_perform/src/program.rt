@@ -1,7 +1,9 @@
 //! The whole of a program: its command line, its standard input and its standard output.
+ghost use Rattle.std.specs.Prelude.{◌≤◌, length};
 
 use crate::Status;
 use crate::performing::perform;
+use crate::searchable::Searchable;
 use sim_job::{LineError, job};
 use std::rt::{Clock, Env};
 use std::sync::Wait;
@@ -29,27 +31,33 @@ fn tell<R: Print + Eprint>(rt: &R, fault: &LineError) -> u8 {
 }
 
 // Carries out what the words ask for, and answers the exit status.
-fn run_words<R: Threads + Wait + Sync + Clock + Input + Print + Eprint + AllocGlobal>(
-    rt: &R,
-    words: &[String],
-) -> u8 {
+fn run_words<
+    L: Searchable,
+    R: Threads + Wait + Sync + Clock + Input + Print + Eprint + AllocGlobal,
+>(rt: &R, words: &[String]) -> u8
+    requires few { length L.listed ≤ 8 }
+{
     match job(rt.alloc(), words) {
         Ok(asked) => {
             let mut reader = rt.reader();
             let mut writer = io::writer(rt);
-            perform(rt, rt.alloc(), &asked, &mut reader, &mut writer).number()
+            perform::<L, R, _, _>(rt, rt.alloc(), &asked, &mut reader, &mut writer).number()
         }
         Err(fault) => tell(rt, &fault),
     }
 }
 
-/// Carries out what the command line asks for, for the protocols that ship, over the standard
-/// input and output. The result is the exit status, 0 to 4. It is all that a `main` does.
-pub fn run<R: Threads + Wait + Sync + Clock + Env + Input + Print + Eprint + AllocGlobal>(
-    rt: &R,
-) -> u8 {
+/// Carries out what the command line asks for, for the protocols of a list, which are at most eight,
+/// over the standard input and output. The result is the exit status, 0 to 4. It is all that a
+/// `main` does.
+pub fn run<
+    L: Searchable,
+    R: Threads + Wait + Sync + Clock + Env + Input + Print + Eprint + AllocGlobal,
+>(rt: &R) -> u8
+    requires few { length L.listed ≤ 8 }
+{
     match words(rt) {
-        Ok(words) => run_words(rt, &words),
+        Ok(words) => run_words::<L, R>(rt, &words),
         Err(fault) => match fault.kind() {
             io::ErrorKind::OutOfMemory => Status::MemoryWanted.number(),
             _ => Status::BadRequest.number(),

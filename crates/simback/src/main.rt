@@ -15,9 +15,10 @@
 //! over any reader and writer is in the libraries below.
 #![tactic(auto)]
 
+use sim_cli::Shipped;
 use sim_perform::run;
 use std::process::ExitCode;
 
 fn main(rt: HostRuntime) -> ExitCode {
-    ExitCode::from(run(&rt))
+    ExitCode::from(run::<Shipped, _>(&rt))
 }

@@ -9,6 +9,10 @@
 //! - `hunts::faults_come_in_order`: a fault that hides an earlier one.
 //! - `conditions`: a condition of any form that is read as another, or holds elsewhere; one that is
 //!   taken against the rules.
+//! - `planned`: the option of a sweep that is left out or taken for another; a failure under planned
+//!   faults that is not found, or found elsewhere; a number past its limit that is taken; the script of
+//!   a run that is another run; a fault that was not needed and stays.
 mod command_line;
 mod conditions;
 mod hunts;
+mod planned;

@@ -6,7 +6,7 @@ use crate::refusals::{
     UNKNOWN_WATCH, WATCHES_FULL, bad_condition, bad_hosts, bad_query, fault_hosts,
 };
 use sim_node::Node;
-use sim_watch::Term;
+use sim_watch::JoinedTerm;
 use sim_world::{Event, Fault, Query, Scenario, View, World};
 use std::alloc::{AllocError, Global};
 
@@ -209,7 +209,7 @@ impl<N: Node> Folding<'_, N> {
     }
 
     /// Keeps a watch.
-    fn watch(&mut self, terms: &[Term]) -> Result<Answer, Trouble> {
+    fn watch(&mut self, terms: &[JoinedTerm]) -> Result<Answer, Trouble> {
         let bad = bad_condition(self.scenario.hosts(), N::PROBES, terms);
         match (bad, self.branch.free_watch()) {
             (Some(why), None) if why.0 == BAD_CONDITION.0 => Ok(Answer::Refused(WATCHES_FULL)),

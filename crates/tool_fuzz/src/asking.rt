@@ -2,7 +2,7 @@
 ghost use Rattle.std.specs.Prelude.{◌<◌, ◌≤◌};
 
 use crate::dice::Dice;
-use sim_watch::{Comparison, Op, Term, Value};
+use sim_watch::{Comparison, JoinedTerm, Op, Term, Value};
 use sim_world::{Fault, Query};
 use std::alloc::{AllocError, Global};
 
@@ -19,7 +19,7 @@ pub enum Ask {
     Rewind(u32),
     Cut,
     Branch(u32),
-    Watch(Vec<Term>),
+    Watch(Vec<JoinedTerm>),
     Unwatch(u32),
     Look(Query),
     Trace,
@@ -116,14 +116,15 @@ impl Asker {
         }
     }
 
-    /// A condition of one to eight terms, mostly of few.
-    pub fn condition(&mut self, alloc: Global) -> Result<Vec<Term>, AllocError> {
+    /// A condition of one to eight terms, mostly of few, in one alternative or several.
+    pub fn condition(&mut self, alloc: Global) -> Result<Vec<JoinedTerm>, AllocError> {
         let mut terms = Vec::new(alloc);
         let count = if self.dice.once_in(10) { 8 } else { 2 };
         let count = 1 + self.dice.below(count);
         for _term in 0..count {
+            let begins = self.dice.once_in(3);
             let term = self.term();
-            terms.push(term)?;
+            terms.push(JoinedTerm { begins, term })?;
         }
         Ok(terms)
     }

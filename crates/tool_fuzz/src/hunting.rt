@@ -5,12 +5,13 @@ ghost use Rattle.sim_job.specs.CommandLine.{HasFewWorkers};
 use crate::asking::Asker;
 use crate::case::Written;
 use crate::naming::Naming;
-use crate::plain::{Trouble, after, all_hold};
+use crate::plain::{Trouble, after, holds};
 use crate::refusals::bad_condition;
 use crate::setting::Setting;
+use sim_cli::Shipped;
 use sim_node::Node;
-use sim_perform::{Job, Status, perform};
-use sim_watch::Term;
+use sim_perform::{FaultPlan, Job, Status, Team, perform};
+use sim_watch::JoinedTerm;
 use sim_world::{Event, Scenario, World};
 use std::alloc::{AllocError, Global};
 use std::rt::Clock;
@@ -48,40 +49,40 @@ pub struct Hunt {
     ghost few: { workers ≤ 16 },
 }
 
-/// The first place from `lo` on at which the terms do not all hold, on the way of the events.
+/// The first place from `lo` on at which no alternative holds, on the way of the events.
 fn failing_place<N: Node>(
     alloc: Global,
     scenario: &Scenario,
     events: &[Event],
     lo: usize,
-    terms: &[Term],
+    terms: &[JoinedTerm],
     meter: &mut N::Meter,
 ) -> Result<Option<usize>, Trouble> {
     let mut world = World::<N>::start(alloc, scenario, meter)?;
     for (place, event) in events.iter().enumerate() {
-        if lo <= place && !all_hold(&world, terms) {
+        if lo <= place && !holds(&world, terms) {
             return Ok(Some(place));
         }
         world = after(alloc, world, *event, meter)?;
     }
-    if all_hold(&world, terms) {
+    if holds(&world, terms) {
         Ok(None)
     } else {
         Ok(Some(events.len()))
     }
 }
 
-/// The first place, at most so many steps from the start, at which the terms do not all hold.
+/// The first place, at most so many steps from the start, at which no alternative holds.
 fn failing_step<N: Node>(
     alloc: Global,
     scenario: &Scenario,
     steps: u32,
-    terms: &[Term],
+    terms: &[JoinedTerm],
     meter: &mut N::Meter,
 ) -> Result<Option<usize>, Trouble> {
     let mut world = World::<N>::start(alloc, scenario, meter)?;
     for step in 0..steps {
-        if !all_hold(&world, terms) {
+        if !holds(&world, terms) {
             return Ok(Some(step as usize));
         }
         if world.can(Event::Step).is_err() {
@@ -89,7 +90,7 @@ fn failing_step<N: Node>(
         }
         world = after(alloc, world, Event::Step, meter)?;
     }
-    if all_hold(&world, terms) {
+    if holds(&world, terms) {
         Ok(None)
     } else {
         Ok(Some(steps as usize))
@@ -102,7 +103,7 @@ fn search<N: Node>(
     scenario: &Scenario,
     events: &[Event],
     (lo, hi): (u32, u32),
-    terms: &[Term],
+    terms: &[JoinedTerm],
     meter: &mut N::Meter,
 ) -> Result<Found, Trouble> {
     let (low, high) = (lo as usize, hi as usize);
@@ -125,7 +126,7 @@ fn sweep<N: Node>(
     setting: &Setting,
     hosts: u16,
     (first, count, events): (u64, u64, u32),
-    terms: &[Term],
+    terms: &[JoinedTerm],
     meter: &mut N::Meter,
 ) -> Result<Found, Trouble> {
     if count == 0 || 65_536 < events {
@@ -152,7 +153,7 @@ fn found_on<N: Node>(
     setting: &Setting,
     ground: Ground,
     events: &[Event],
-    terms: &[Term],
+    terms: &[JoinedTerm],
     meter: &mut N::Meter,
 ) -> Result<Found, Trouble> {
     let Some(scenario) = setting.scenario() else {
@@ -257,6 +258,16 @@ impl Hunt {
         self.expected.as_str()
     }
 
+    /// Who looks for it.
+    fn team(&self) -> Team
+        ensures { (1 ≤ result.workers) × (result.workers ≤ 16) }
+    {
+        Team {
+            workers: self.workers,
+            progress: false,
+        }
+    }
+
     /// The job of the program.
     fn job(&self) -> Job<'_>
         ensures { HasFewWorkers result }
@@ -264,8 +275,7 @@ impl Hunt {
         let cond = self.condition.as_str();
         match self.ground {
             Ground::Places { lo, hi } => Job::Search {
-                workers: self.workers,
-                progress: false,
+                team: self.team(),
                 lo: u64::from(lo),
                 hi: u64::from(hi),
                 cond,
@@ -275,8 +285,13 @@ impl Hunt {
                 count,
                 events,
             } => Job::Sweep {
-                workers: self.workers,
-                progress: false,
+                team: self.team(),
+                plan: FaultPlan {
+                    faults: None,
+                    quiet: 0,
+                },
+                at_end: false,
+                script: false,
                 first,
                 count,
                 events: u64::from(events),
@@ -302,7 +317,7 @@ impl Hunt {
     ) -> Option<Written> {
         let mut reader = input.as_bytes();
         let mut text = Vec::new(alloc);
-        let status = perform(rt, alloc, &self.job(), &mut reader, &mut text);
+        let status = perform::<Shipped, R, _, _>(rt, alloc, &self.job(), &mut reader, &mut text);
         let same = status == self.status() && text.as_slice() == self.expected.as_bytes();
         if same {
             None

@@ -1,7 +1,7 @@
 //! The words of hosts, probes, faults and conditions.
 use crate::setting::write_host;
 use sim_protocols::{Protocol, probe_name};
-use sim_watch::{Comparison, Op, Term, Value};
+use sim_watch::{Comparison, JoinedTerm, Op, Term, Value};
 use sim_world::{Fault, Query};
 use std::alloc::AllocError;
 
@@ -135,13 +135,14 @@ impl Naming {
         }
     }
 
-    /// A condition, with `and` between each two of its terms.
-    pub fn condition(&self, text: &mut String, terms: &[Term]) -> Result<(), AllocError> {
-        for (i, term) in terms.iter().enumerate() {
+    /// A condition, with `and` or `or` between each two of its terms.
+    pub fn condition(&self, text: &mut String, terms: &[JoinedTerm]) -> Result<(), AllocError> {
+        for (i, joined) in terms.iter().enumerate() {
             if 0 < i {
-                write!(text, " and ")?;
+                let word = if joined.begins { "or" } else { "and" };
+                write!(text, " {word} ")?;
             }
-            self.term(text, *term)?;
+            self.term(text, joined.term)?;
         }
         Ok(())
     }

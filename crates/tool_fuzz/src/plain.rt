@@ -1,6 +1,6 @@
 //! Plain branches: lists of events, whose worlds are made from the start each time.
 use sim_node::Node;
-use sim_watch::{Comparison, Op, Term, Value};
+use sim_watch::{Comparison, JoinedTerm, Op, Term, Value};
 use sim_world::{Event, Scenario, World};
 use std::alloc::{AllocError, Global};
 
@@ -29,7 +29,7 @@ impl From<AllocError> for Trouble {
 pub struct Branch {
     pub events: Vec<Event>,
     pub place: usize,
-    pub watches: Vec<Option<Vec<Term>>>,
+    pub watches: Vec<Option<Vec<JoinedTerm>>>,
 }
 
 fn holds_op(op: Op, a: u64, b: u64) -> bool {
@@ -153,9 +153,19 @@ fn term_holds<N: Node>(world: &World<N>, term: Term) -> bool {
     }
 }
 
-/// Whether all the terms hold of a world.
-pub fn all_hold<N: Node>(world: &World<N>, terms: &[Term]) -> bool {
-    terms.iter().all(|term| term_holds(world, *term))
+/// Whether all terms of an alternative hold of a world.
+pub fn holds<N: Node>(world: &World<N>, terms: &[JoinedTerm]) -> bool {
+    let mut all = true;
+    for (place, joined) in terms.iter().enumerate() {
+        if joined.begins && 0 < place {
+            if all {
+                return true;
+            }
+            all = true;
+        }
+        all = all && term_holds(world, joined.term);
+    }
+    all
 }
 
 /// The world after an event more.
@@ -212,7 +222,7 @@ impl Branch {
     pub fn failing<N: Node>(&self, world: &World<N>) -> Option<usize> {
         for (k, watch) in self.watches.iter().enumerate() {
             match watch {
-                Some(terms) if !all_hold(world, terms.as_slice()) => return Some(k),
+                Some(terms) if !holds(world, terms.as_slice()) => return Some(k),
                 _ => {}
             }
         }

@@ -2,7 +2,7 @@
 ghost use Rattle.std.specs.Prelude.{◌≡◌, ◌<◌, None, IfSome};
 ghost use Rattle.sim_world.specs.Looks.{CanLook};
 
-use sim_watch::{Comparison, Term, Value};
+use sim_watch::{Comparison, JoinedTerm, Term, Value};
 use sim_world::{Fault, Query};
 
 /// Why a command is refused: the number and the name.
@@ -108,10 +108,14 @@ fn names_no_probe(probes: u8, term: Term) -> bool {
 }
 
 /// Whether a condition names a host that is not there, or else a probe.
-pub fn bad_condition(hosts: u16, probes: u8, terms: &[Term]) -> Option<Refused> {
-    if terms.iter().any(|term| names_no_host(hosts, *term)) {
+pub fn bad_condition(hosts: u16, probes: u8, terms: &[JoinedTerm]) -> Option<Refused> {
+    if terms.iter().any(|joined| names_no_host(hosts, joined.term)) {
         Some(UNKNOWN_HOST)
-    } else if terms.is_empty() || terms.iter().any(|term| names_no_probe(probes, *term)) {
+    } else if terms.is_empty()
+        || terms
+            .iter()
+            .any(|joined| names_no_probe(probes, joined.term))
+    {
         Some(BAD_CONDITION)
     } else {
         None

@@ -3,11 +3,18 @@ ghost use Rattle.sim_job.specs.CommandLine.{HasFewWorkers};
 
 use crate::opening::{SCENARIO, SCRIPT};
 use crate::{TRIES, Trouble, again};
-use sim_perform::{Job, Status, perform};
+use sim_cli::Shipped;
+use sim_perform::{FaultPlan, Job, Status, Team, perform};
 use std::alloc::Global;
 use std::rt::Clock;
 use std::sync::Wait;
 use std::thread::Threads;
+
+// Who looks for what is there.
+const TEAM: Team = Team {
+    workers: 2,
+    progress: false,
+};
 
 // The scenario with the script.
 fn input(alloc: Global) -> Result<String, Trouble> {
@@ -28,7 +35,7 @@ fn answer<R: Threads + Wait + Sync + Clock + Eprint>(
     for _attempt in 0..TRIES {
         let mut reader = input.as_bytes();
         let mut text = Vec::new(alloc);
-        match perform(rt, alloc, job, &mut reader, &mut text) {
+        match perform::<Shipped, R, _, _>(rt, alloc, job, &mut reader, &mut text) {
             Status::Well => return Ok(text),
             // A list that can't grow is a writer that fails.
             Status::MemoryWanted | Status::WriterFailed if text.is_empty() => {}
@@ -45,8 +52,7 @@ pub fn all<R: Threads + Wait + Sync + Clock + Eprint>(
 ) -> Result<(), Trouble> {
     let input = again(|| input(alloc))?;
     let search = Job::Search {
-        workers: 2,
-        progress: false,
+        team: TEAM,
         lo: 0,
         hi: 9,
         cond: "c.next <= 1",
@@ -56,8 +62,13 @@ pub fn all<R: Threads + Wait + Sync + Clock + Eprint>(
         return Err(Trouble::Wrong);
     }
     let sweep = Job::Sweep {
-        workers: 2,
-        progress: false,
+        team: TEAM,
+        plan: FaultPlan {
+            faults: None,
+            quiet: 0,
+        },
+        at_end: false,
+        script: false,
         first: 5,
         count: 3,
         events: 30,

@@ -1,5 +1,5 @@
 //! Command lines, and what is told where they ask for no job.
-use sim_job::{Job, LineError, job};
+use sim_job::{FaultPlan, Job, LineError, Team, job};
 use std::process::Abort;
 
 // The words ask for this job.
@@ -40,16 +40,20 @@ fn status_of(rt: &HostRuntime, words: &[&str]) -> Option<u8> {
 fn jobs(rt: HostRuntime) {
     assert!(rt; asks(&rt, &["simback", "play"], Job::Play));
     let plain = Job::Search {
-        workers: 2,
-        progress: false,
+        team: Team {
+            workers: 2,
+            progress: false,
+        },
         lo: 0,
         hi: 6,
         cond: "w.next <= 1",
     };
     assert!(rt; asks(&rt, &["simback", "search", "0", "6", "w.next <= 1"], plain));
     let told = Job::Search {
-        workers: 3,
-        progress: true,
+        team: Team {
+            workers: 3,
+            progress: true,
+        },
         lo: 1,
         hi: 7,
         cond: "up a",
@@ -65,8 +69,16 @@ fn jobs(rt: HostRuntime) {
     ];
     assert!(rt; asks(&rt, &words, told));
     let sweep = Job::Sweep {
-        workers: 16,
-        progress: false,
+        team: Team {
+            workers: 16,
+            progress: false,
+        },
+        plan: FaultPlan {
+            faults: None,
+            quiet: 0,
+        },
+        at_end: false,
+        script: false,
         first: 18446744073709551615,
         count: 2,
         events: 6,

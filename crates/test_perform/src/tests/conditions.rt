@@ -7,7 +7,7 @@ use std::rt::Clock;
 use std::sync::Wait;
 use std::thread::Threads;
 
-const ABD: &str = r#"format = 2
+pub const ABD: &str = r#"format = 2
 seed = "0000000000000000000000000000000000000000000000000000000000000000"
 protocol = "abd"
 tick = 100
@@ -45,7 +45,7 @@ name = "x"
 ops = 3
 "#;
 
-const PRIMARY_BACKUP: &str = r#"format = 2
+pub const PRIMARY_BACKUP: &str = r#"format = 2
 seed = "0000000000000000000000000000000000000000000000000000000000000000"
 protocol = "primary_backup"
 tick = 100

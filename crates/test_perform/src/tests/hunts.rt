@@ -2,7 +2,8 @@
 ghost use Rattle.std.specs.Prelude.{◌≤◌};
 ghost use Rattle.sim_job.specs.CommandLine.{HasFewWorkers};
 
-use sim_perform::{Job, Status, perform};
+use sim_cli::Shipped;
+use sim_perform::{FaultPlan, Job, Status, Team, perform};
 use std::alloc::Global;
 use std::process::Abort;
 use std::rt::Clock;
@@ -40,8 +41,10 @@ fn search(workers: u64, lo: u64, hi: u64, cond: &str) -> Job<'_>
     ensures { HasFewWorkers result }
 {
     Job::Search {
-        workers,
-        progress: false,
+        team: Team {
+            workers,
+            progress: false,
+        },
         lo,
         hi,
         cond,
@@ -54,8 +57,16 @@ pub fn sweep(workers: u64, first: u64, count: u64, events: u64, cond: &str) -> J
     ensures { HasFewWorkers result }
 {
     Job::Sweep {
-        workers,
-        progress: false,
+        team: Team {
+            workers,
+            progress: false,
+        },
+        plan: FaultPlan {
+            faults: None,
+            quiet: 0,
+        },
+        at_end: false,
+        script: false,
         first,
         count,
         events,
@@ -76,7 +87,7 @@ pub fn ends<R: Threads + Wait + Sync + Clock + Eprint>(
 {
     let mut reader = input.as_bytes();
     let mut written = Vec::new(alloc);
-    let ended = perform(rt, alloc, &job, &mut reader, &mut written);
+    let ended = perform::<Shipped, R, _, _>(rt, alloc, &job, &mut reader, &mut written);
     ended == status && written.as_slice() == want.as_bytes()
 }
 

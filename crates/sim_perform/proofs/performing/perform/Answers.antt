@@ -1,24 +1,39 @@
+use Rattle.std.proofs.Common.{subst}
+use Rattle.sim_cli.specs.Play.{Ended}
+use Rattle.sim_perform.specs.declared.hunting.Area.{Area}
+use Rattle.sim_perform.specs.Outcomes.{Hunted}
 use Rattle.sim_job.specs.declared.wanted.Job.TheVariants as jobs
 use Rattle.sim_cli.specs.Subjects.{nodes_by}
-use Rattle.sim_perform.specs.Shipped.{shipped_nodes, shipped_protocols}
 use Rattle.sim_perform.proofs.Ends.{as_job}
 use Rattle.sim_perform.proofs.performing.perform.Goals as goal
 
 pub returns-in-Play-clause-performed : goal.returns-in-Play-clause-performed
-unfolding shipped_nodes
 returns-in-Play-clause-performed g c = λ given e.
-    as_job shipped_protocols (nodes_by shipped_nodes) c.args.job.now jobs.Play given _ _ _ c.play.result c.in-Play.is (c.play.ensures.played given e)
+    as_job g.L.Protocols.listed (nodes_by g.L.Subjects.nodes) c.args.job.now jobs.Play given _ _ _ c.play.result
+    c.in-Play.is (c.play.ensures.played given e)
 
 pub returns-in-Search-clause-performed : goal.returns-in-Search-clause-performed
 returns-in-Search-clause-performed g c = λ given e.
-    as_job shipped_protocols (nodes_by shipped_nodes) c.args.job.now (jobs.Search c.in-Search.workers c.in-Search.progress c.in-Search.lo c.in-Search.hi c.in-Search.cond) given _ _ _ c.hunt_scenario.result
+    as_job g.L.Protocols.listed (nodes_by g.L.Subjects.nodes) c.args.job.now
+    (jobs.Search c.in-Search.team c.in-Search.lo c.in-Search.hi c.in-Search.cond) given _ _ _ c.hunt_scenario.result
     c.in-Search.is (c.hunt_scenario.ensures given e)
 
 pub returns-in-Sweep-clause-performed : goal.returns-in-Sweep-clause-performed
 returns-in-Sweep-clause-performed g c = λ given e.
-    as_job shipped_protocols (nodes_by shipped_nodes) c.args.job.now (jobs.Sweep c.in-Sweep.workers c.in-Sweep.progress c.in-Sweep.first c.in-Sweep.count c.in-Sweep.events c.in-Sweep.cond) given _ _ _ c.hunt_scenario-in-Sweep.result
-    c.in-Sweep.is (c.hunt_scenario-in-Sweep.ensures given e)
+    let s = c.in-Sweep in
+    as_job g.L.Protocols.listed (nodes_by g.L.Subjects.nodes) c.args.job.now
+    (jobs.Sweep s.team s.plan s.at_end s.script s.first s.count s.events s.cond) given _ _ _ c.hunt_scenario-in-Sweep.result s.is
+    (subst (λ (a : Area). Ended (g.W.Write.contents c.args.writer.now) (g.W.Write.contents c.hunt_scenario-in-Sweep.new.writer) (Hunted g.L.Protocols.listed (nodes_by g.L.Subjects.nodes) a s.cond.now given c.hunt_scenario-in-Sweep.result))
+    c.area_of-area.ensures (c.hunt_scenario-in-Sweep.ensures given e))
 
-pub returns-in-Play-clause-plain : goal.returns-in-Play-clause-plain
-unfolding shipped_nodes
-returns-in-Play-clause-plain g c = λ is given e d. c.play.ensures.plain given e d
+pub returns-in-Script-clause-performed : goal.returns-in-Script-clause-performed
+returns-in-Script-clause-performed g c = λ given e.
+    as_job g.L.Protocols.listed (nodes_by g.L.Subjects.nodes) c.args.job.now
+    (jobs.Script c.in-Script.plan c.in-Script.seed c.in-Script.events) given _ _ _ c.write_run.result c.in-Script.is
+    (c.write_run.ensures given e)
+
+pub returns-in-Shrink-clause-performed : goal.returns-in-Shrink-clause-performed
+returns-in-Shrink-clause-performed g c = λ given e.
+    as_job g.L.Protocols.listed (nodes_by g.L.Subjects.nodes) c.args.job.now
+    (jobs.Shrink c.in-Shrink.progress c.in-Shrink.cond) given _ _ _ c.write_shrunk.result c.in-Shrink.is
+    (c.write_shrunk.ensures given e)
