@@ -1,12 +1,12 @@
-//! The counter of docs/NODES.md as a program: it plays scripts over scenarios that say
+//! The counter of docs/NODES.md as a program: `play`, `search` and `sweep` over scenarios that say
 //! `protocol = "counter"`.
 #![tactic(auto)]
 
 ghost use Rattle.std.specs.Prelude.{codes, [], ◌∷◌};
 
 use example_counter::{Counter, Message, Role};
-use sim_cli::{NoSubject, Subject, Tally, With, play};
-use std::io;
+use sim_cli::{Only, Subject, Tally};
+use sim_perform::run;
 use std::process::ExitCode;
 
 struct Counting;
@@ -36,8 +36,5 @@ impl Subject for Counting {
 }
 
 fn main(rt: HostRuntime) -> ExitCode {
-    let mut reader = rt.reader();
-    let mut writer = io::writer(&rt);
-    let status = play::<With<Counting, NoSubject>, _, _>(rt.alloc(), &mut reader, &mut writer);
-    ExitCode::from(status.number())
+    ExitCode::from(run::<Only<Counting>, _>(&rt))
 }
