@@ -4,12 +4,8 @@ use Rattle.std.proofs.Math.ListN.{get_or}
 use Rattle.std.proofs.Math.Seq.{paste, take-append_seam, drop-append_seam}
 use Rattle.std.proofs.lemmas.List.Edits.{paste_all}
 use Rattle.std.proofs.lemmas.List.{length-drop, take_all}
-use Rattle.sim_queue.specs.declared.Item.{Item}
-use Rattle.sim_queue.specs.Keys.{Keys}
 use Rattle.sim_queue.specs.Items.{pending}
-use Rattle.sim_queue.specs.Slots.{IsKept}
 use Rattle.sim_queue.specs.Sparse.{slots_of, IsSparse}
-use Rattle.sim_queue.proofs.Keys.{trimmed, widened}
 use Rattle.sim_queue.proofs.Sparse.{trimmed_sparse, widened_sparse}
 use Rattle.sim_queue.proofs.Views.{pending_trimmed}
 
@@ -60,23 +56,27 @@ module _ {X : Type 0} where
       more ∙ ap (λ (xs : List (Option X)). xs ++ replicate (len - before) value) whole ∙ ap (λ (n : ℕ). old ++ replicate n value) added ∙ ap (λ o. old ++ replicate count o) none in
       turn ∙ ap (λ (xs : List (Option X)). drop (after - count) xs ++ take (after - count) xs) more' ∙ turned_front old (replicate count None) (after - count) at
 
+  -- empty spots alone
+  pub filled_empty : (old longer : List (Option X)) (value : Option X) (count before : ℕ) → value ≡ None → old ≡ [] → before ≡ 0 → longer ≡ take count old ++ replicate (count - before) value
+      → longer ≡ replicate count None
+  filled_empty old longer value count before none nothing zero_is is =
+      let l : length old ≡ 0 = ap (λ (xs : List (Option X)). length xs) nothing in
+      let all : take count old ≡ old = take_all count old (omega arith) in
+      let n : count - before ≡ count = omega arith in
+      is ∙ ap (λ (xs : List (Option X)). xs ++ replicate (count - before) value) (all ∙ nothing) ∙ ap (λ (m : ℕ). replicate m value) n ∙ ap (λ o. replicate count o) none
+
 module _ {B : Type 0} where
-  pub slots_behind : (n : ℕ) (items : List (Item B)) (places : List (Option ℕ)) → slots_of items (replicate n None ++ places) ≡ replicate n None ++ slots_of items places
-  slots_behind zero items places = refl
-  slots_behind (suc n) items places = ap (λ s. None ∷ s) (slots_behind n items places)
+  pub slots_behind : (n : ℕ) (keys : List (Option (ℕ × ℕ))) (bodies : List (Option B)) (places : List (Option ℕ)) → slots_of keys bodies (replicate n None ++ places) ≡ replicate n None ++ slots_of keys bodies places
+  slots_behind zero keys bodies places = refl
+  slots_behind (suc n) keys bodies places = ap (λ s. None ∷ s) (slots_behind n keys bodies places)
 
   -- empty slots at the front are dropped
-  pub dropped_sparse : (n : ℕ) (items : List (Item B)) (places : List (Option ℕ)) (base : ℕ) → IsSparse items (replicate n None ++ places) base → IsSparse items places (base + n)
-  dropped_sparse zero items places base sparse = let same : base ≡ base + 0 = omega arith in subst (λ (b : ℕ). IsSparse items places b) same sparse
-  dropped_sparse (suc n) items places base sparse =
+  pub dropped_sparse : (n : ℕ) (keys : List (Option (ℕ × ℕ))) (bodies : List (Option B)) (places : List (Option ℕ)) (base count : ℕ) → IsSparse keys bodies (replicate n None ++ places) base count
+      → IsSparse keys bodies places (base + n) count
+  dropped_sparse zero keys bodies places base count sparse = let same : base ≡ base + 0 = omega arith in subst (λ (b : ℕ). IsSparse keys bodies places b count) same sparse
+  dropped_sparse (suc n) keys bodies places base count sparse =
       let same : base + 1 + n ≡ base + suc n = omega arith in
-      subst (λ (b : ℕ). IsSparse items places b) same (dropped_sparse n items places (base + 1) (trimmed_sparse items (replicate n None ++ places) base sparse))
-
-  pub dropped_kept : (n : ℕ) (keys : Keys) (slots : List (Option (ℕ × B))) (base : ℕ) → IsKept keys (replicate n None ++ slots) base → IsKept keys slots (base + n)
-  dropped_kept zero keys slots base kept = let same : base ≡ base + 0 = omega arith in subst (λ (b : ℕ). IsKept keys slots b) same kept
-  dropped_kept (suc n) keys slots base kept =
-      let same : base + 1 + n ≡ base + suc n = omega arith in
-      subst (λ (b : ℕ). IsKept keys slots b) same (dropped_kept n keys slots (base + 1) (trimmed keys (replicate n None ++ slots) base kept))
+      subst (λ (b : ℕ). IsSparse keys bodies places b count) same (dropped_sparse n keys bodies places (base + 1) count (trimmed_sparse keys bodies (replicate n None ++ places) base count sparse))
 
   pub dropped_pending : (n base : ℕ) (slots : List (Option (ℕ × B))) → pending (base + n) slots ≡ pending base (replicate n None ++ slots)
   dropped_pending zero base slots = let same : base + 0 ≡ base = omega arith in ap (λ (b : ℕ). pending b slots) same
@@ -85,21 +85,14 @@ module _ {B : Type 0} where
       ap (λ (b : ℕ). pending b slots) same ∙ dropped_pending n (base + 1) slots ∙ pending_trimmed base (replicate n None ++ slots)
 
   -- empty slots are added before the others
-  pub added_sparse : (n : ℕ) (items : List (Item B)) (places : List (Option ℕ)) (base : ℕ) → n ≤ base → IsSparse items places base → IsSparse items (replicate n None ++ places) (base - n)
-  added_sparse zero items places base from sparse = let same : base ≡ base - 0 = omega arith in subst (λ (b : ℕ). IsSparse items places b) same sparse
-  added_sparse (suc n) items places base from sparse =
+  pub added_sparse : (n : ℕ) (keys : List (Option (ℕ × ℕ))) (bodies : List (Option B)) (places : List (Option ℕ)) (base count : ℕ) → n ≤ base → IsSparse keys bodies places base count
+      → IsSparse keys bodies (replicate n None ++ places) (base - n) count
+  added_sparse zero keys bodies places base count from sparse = let same : base ≡ base - 0 = omega arith in subst (λ (b : ℕ). IsSparse keys bodies places b count) same sparse
+  added_sparse (suc n) keys bodies places base count from sparse =
       let some : 0 < base - n = omega arith in
       let same : base - n - 1 ≡ base - suc n = omega arith in
-      subst (λ (b : ℕ). IsSparse items (None ∷ (replicate n None ++ places)) b) same
-      (widened_sparse items (replicate n None ++ places) (base - n) some (added_sparse n items places base (omega arith) sparse))
-
-  pub added_kept : (n : ℕ) (keys : Keys) (slots : List (Option (ℕ × B))) (base : ℕ) → n ≤ base → IsKept keys slots base → IsKept keys (replicate n None ++ slots) (base - n)
-  added_kept zero keys slots base from kept = let same : base ≡ base - 0 = omega arith in subst (λ (b : ℕ). IsKept keys slots b) same kept
-  added_kept (suc n) keys slots base from kept =
-      let some : 0 < base - n = omega arith in
-      let same : base - n - 1 ≡ base - suc n = omega arith in
-      subst (λ (b : ℕ). IsKept keys (None ∷ (replicate n None ++ slots)) b) same
-      (widened keys (replicate n None ++ slots) (base - n) some (added_kept n keys slots base (omega arith) kept))
+      subst (λ (b : ℕ). IsSparse keys bodies (None ∷ (replicate n None ++ places)) b count) same
+      (widened_sparse keys bodies (replicate n None ++ places) (base - n) count some (added_sparse n keys bodies places base count (omega arith) sparse))
 
   pub added_pending : (n base : ℕ) (slots : List (Option (ℕ × B))) → n ≤ base → pending (base - n) (replicate n None ++ slots) ≡ pending base slots
   added_pending n base slots from =

@@ -1,252 +1,290 @@
--- Which node of the lists has the first key.
-use Rattle.std.proofs.Common.{◌^◌, ◌≡◌, ℕ, zero, suc, ◌+◌, ◌<◌, ◌≤◌, ◌==◌, if◌then◌else◌, Bool, true, false, Option, Some, None, List, [], ◌∷◌, refl, sym, ap, ◌∙◌, subst, arith, inl, inr, ⊎_elim, ◌&&◌, ◌||◌}
-use Rattle.std.proofs.Math.ListN.{get_or}
-use Rattle.std.proofs.lemmas.Bool.{cases_eq, eqb-true, eq-eqb, false≢true}
+-- What keys there are, where a node gets one or loses it.
+use Rattle.std.proofs.Common.{◌≡◌, ◌≢◌, ℕ, ◌+◌, ◌-◌, ◌^◌, ◌<◌, ◌≤◌, ◌%◌, List, [], Some, None, is_some, nat_lt, Bool, true, false, if◌then◌else◌, refl, sym, ap, ◌∙◌, subst, arith, length, ◌⊎◌, inl, inr, ⊎_elim}
+use Rattle.std.proofs.Math.ListN.{get_or-map}
+use Rattle.std.proofs.lemmas.List.{length-map}
+use Rattle.sim_queue.proofs.Marked.{first_due}
+use Rattle.std.proofs.lemmas.Bool.{cases_eq, cases_lt, lt-ltb, le-ltb}
+use Rattle.std.proofs.lemmas.Option.{none-some, same_Some}
+use Rattle.std.specs.Bool.{OnFalse}
 use Rattle.sim_queue.specs.declared.lists.Node.{Node}
-use Rattle.sim_queue.specs.declared.lists.Ends.{Ends}
-use Rattle.sim_queue.specs.Keys.{has, NotAfter, IsFirstKey, HasNone, Keeps, KeepsOthers}
-use Rattle.sim_queue.specs.Wheel.{keys_of, node, head, reached, if_due, first_due, IsAdded, IsBehind, IsKept, IsWithout, HasKey, IsLinked, IsSame, IsFrom, IsDue, IsWheel, no_ends}
+use Rattle.sim_queue.specs.Lists.{node, no_node, day, list_of, order_of, HasKey, IsLists, IsEmptyList, KeepsOthers, IsFree, IsSame}
+use Rattle.sim_queue.specs.Marks.{mark_of, IsMarked}
+use Rattle.sim_queue.specs.Wheel.{key_of, keys_of, key_at, HasNone, HasSame, HasSameBut, IsPlace, IsFirst, IsDue, IsFrom, IsFloor, HasMarks, IsWheel}
+use Rattle.sim_queue.proofs.Nodes.{key_from}
+use Rattle.sim_queue.proofs.Heads.{IsLeastIn, head_least, head_there, no_head}
 
--- a node with this key
-record Found (d s : ℕ) (nodes : List (Option Node)) : Type 0 where
-  place : ℕ
-  found : Node
-  there : node nodes place ≡ Some found
-  key : HasKey d s found
+-- the key at a place is that of its node
+pub key_there : (nodes : List Node) (k : ℕ) → key_at (keys_of nodes) k ≡ key_of (node nodes (k + 256))
+key_there nodes k = get_or-map key_of nodes (k + 256) no_node
 
-deeper : (d s : ℕ) (y : Option Node) (nodes : List (Option Node)) → Found d s nodes → Found d s (y ∷ nodes)
-deeper d s y nodes f = record { place = suc f.place; found = f.found; there = f.there; key = f.key }
+pub key_some : (x : Node) → HasKey x → key_of x ≡ Some (x.due, x.serial)
+key_some x key = ap (λ b. if b then Some (x.due, x.serial) else None) (lt-ltb x.serial (2 ^ 40) key)
 
-has_node : (d s : ℕ) (nodes : List (Option Node)) → has d s (keys_of nodes) ≡ true → Found d s nodes
-has_node d s [] h = absurd (false≢true h)
-has_node d s (None ∷ nodes) h = deeper d s None nodes (has_node d s nodes h)
-has_node d s (Some x ∷ nodes) h = go (λ q. has_node d s nodes q) (x.due == d) (x.serial == s) refl refl h
-  where
-    go : (has d s (keys_of nodes) ≡ true → Found d s nodes) → (a b : Bool) → (x.due == d) ≡ a → (x.serial == s) ≡ b → ((a && b) || has d s (keys_of nodes)) ≡ true → Found d s (Some x ∷ nodes)
-    go f true true p q h = record { place = 0; found = x; there = refl; key = (eqb-true x.due d p, eqb-true x.serial s q) }
-    go f true false p q h = deeper d s (Some x) nodes (f h)
-    go f false b p q h = deeper d s (Some x) nodes (f h)
+pub key_none : (x : Node) → 2 ^ 40 ≤ x.serial → key_of x ≡ None
+key_none x high = ap (λ b. if b then Some (x.due, x.serial) else None) (le-ltb x.serial (2 ^ 40) high)
 
-or_right : (a b : Bool) → b ≡ true → (a || b) ≡ true
-or_right true b h = refl
-or_right false b h = h
+-- what a key tells of its node
+pub record IsKeyed (x : Node) (d s : ℕ) : Type 0 where
+  pub key : HasKey x
+  pub due : x.due ≡ d
+  pub serial : x.serial ≡ s
 
-node_has : (i : ℕ) (x : Node) (nodes : List (Option Node)) → node nodes i ≡ Some x → has x.due x.serial (keys_of nodes) ≡ true
-node_has i x [] h = cc
-node_has zero x (None ∷ nodes) h = cc
-node_has zero x (Some y ∷ nodes) h =
-    let d : y.due ≡ x.due = cc h in
-    let s : y.serial ≡ x.serial = cc h in
-    rw (eq-eqb y.due x.due d, eq-eqb y.serial x.serial s) refl
-node_has (suc i) x (None ∷ nodes) h = node_has i x nodes h
-node_has (suc i) x (Some y ∷ nodes) h = or_right ((y.due == x.due) && (y.serial == x.serial)) (has x.due x.serial (keys_of nodes)) (node_has i x nodes h)
+pub key_is : (x : Node) (d s : ℕ) → key_of x ≡ Some (d, s) → IsKeyed x d s
+key_is x d s h = ⊎_elim
+    (λ (lt : x.serial < 2 ^ 40).
+    let both : (x.due, x.serial) ≡ (d, s) = same_Some (x.due, x.serial) (d, s) (sym (key_some x lt) ∙ h) in
+    record { key = lt; due = ap (λ (q : ℕ × ℕ). q.0) both; serial = ap (λ (q : ℕ × ℕ). q.1) both })
+    (λ (ge : 2 ^ 40 ≤ x.serial). absurd (none-some (d, s) (sym (key_none x ge) ∙ h)))
+    (cases_lt x.serial (2 ^ 40))
 
-key_has : (d s i : ℕ) (x : Node) (nodes : List (Option Node)) → HasKey d s x → node nodes i ≡ Some x → has d s (keys_of nodes) ≡ true
-key_has d s i x nodes key is = subst (λ (n : ℕ). has n s (keys_of nodes) ≡ true) key.0 (subst (λ (n : ℕ). has x.due n (keys_of nodes) ≡ true) key.1 (node_has i x nodes is))
+pub key_gone : (x : Node) → key_of x ≡ None → 2 ^ 40 ≤ x.serial
+key_gone x h = ⊎_elim
+    (λ (lt : x.serial < 2 ^ 40). absurd (none-some (x.due, x.serial) (sym h ∙ key_some x lt)))
+    (λ (ge : 2 ^ 40 ≤ x.serial). ge)
+    (cases_lt x.serial (2 ^ 40))
 
-kept_has : (d s i : ℕ) (x : Node) (nodes : List (Option Node)) → HasKey d s x → IsKept x (node nodes i) → has d s (keys_of nodes) ≡ true
-kept_has d s i x nodes key kept = go (node nodes i) refl kept
-  where
-    go : (o : Option Node) → node nodes i ≡ o → IsKept x o → has d s (keys_of nodes) ≡ true
-    go None q k = absurd k
-    go (Some y) q k = key_has d s i y nodes (sym k.0 ∙ key.0, sym k.1 ∙ key.1) q
+pub key_is_some : (x : Node) → is_some (key_of x) ≡ true → HasKey x
+key_is_some x h = ⊎_elim
+    (λ (lt : x.serial < 2 ^ 40). lt)
+    (λ (ge : 2 ^ 40 ≤ x.serial). let no : false ≡ true = ap (λ o. is_some o) (sym (key_none x ge)) ∙ h in cc no)
+    (cases_lt x.serial (2 ^ 40))
 
-pub keeps : (old new : List (Option Node)) → ((i : ℕ) (x : Node) → node old i ≡ Some x → IsKept x (node new i)) → Keeps (keys_of old) (keys_of new)
-keeps old new kept d s h = let f = has_node d s old h in kept_has d s f.place f.found new f.key (kept f.place f.found f.there)
+pub on_false : (b : Bool) (P Q : Type 0) → (P → Q) → OnFalse b P → OnFalse b Q
+on_false true P Q f h = tt
+on_false false P Q f h = f h
 
-pub same_keeps : (old new : List (Option Node)) → IsSame old new → Keeps (keys_of old) (keys_of new)
-same_keeps old new same = keeps old new (λ i x is. subst (λ (o : Option Node). IsKept x o) (sym (same i ∙ is)) (refl, refl))
+-- the key at a place, by its node
+pub key_of_some : (nodes : List Node) (k : ℕ) → is_some (key_at (keys_of nodes) k) ≡ true → HasKey (node nodes (k + 256))
+key_of_some nodes k h = key_is_some (node nodes (k + 256)) (ap (λ o. is_some o) (sym (key_there nodes k)) ∙ h)
 
-pub added_has : (d s : ℕ) (old new : List (Option Node)) → IsAdded d s old new → has d s (keys_of new) ≡ true
-added_has d s old new a = key_has d s a.place a.added new a.key a.there
+pub key_of_node : (nodes : List Node) (k : ℕ) → HasKey (node nodes (k + 256)) → key_at (keys_of nodes) k ≡ Some ((node nodes (k + 256)).due, (node nodes (k + 256)).serial)
+key_of_node nodes k key = key_there nodes k ∙ key_some (node nodes (k + 256)) key
 
-pub others : (d s : ℕ) (old new : List (Option Node)) → IsWithout d s old new → KeepsOthers d s (keys_of old) (keys_of new)
-others d s old new w e t h =
-    let f = has_node e t old h in ⊎_elim
-    (λ (k : HasKey d s f.found). inr (sym k.0 ∙ f.key.0, sym k.1 ∙ f.key.1))
-    (λ k. inl (kept_has e t f.place f.found new f.key k))
-    (w.kept f.place f.found f.there)
+pub key_of_place : (nodes : List Node) (k d s : ℕ) → key_at (keys_of nodes) k ≡ Some (d, s) → IsKeyed (node nodes (k + 256)) d s
+key_of_place nodes k d s h = key_is (node nodes (k + 256)) d s (sym (key_there nodes k) ∙ h)
 
-none_node : (nodes : List (Option Node)) (i : ℕ) (x : Node) → HasNone (keys_of nodes) → node nodes i ≡ Some x → ⊥
-none_node nodes i x none is = false≢true (sym (none x.due x.serial) ∙ node_has i x nodes is)
+-- equal nodes have equal keys
+same_key : (x y : Node) → x.due ≡ y.due → x.serial ≡ y.serial → key_of x ≡ key_of y
+same_key x y d s = ap (λ (n : ℕ). if nat_lt x.serial (2 ^ 40) then Some (n, x.serial) else None) d ∙ ap (λ (n : ℕ). if nat_lt n (2 ^ 40) then Some (y.due, n) else None) s
 
-pub no_nodes : (nodes : List (Option Node)) → ((i : ℕ) (x : Node) → node nodes i ≡ Some x → ⊥) → HasNone (keys_of nodes)
-no_nodes nodes empty d s = go (has d s (keys_of nodes)) refl
-  where
-    go : (b : Bool) → has d s (keys_of nodes) ≡ b → b ≡ false
-    go true h = let f = has_node d s nodes h in absurd (empty f.place f.found f.there)
-    go false h = refl
+pub kept_keys : (old new : List Node) (k : ℕ) → KeepsOthers (k + 256) old new → HasSameBut k (keys_of old) (keys_of new)
+kept_keys old new k keeps j apart =
+    let ne : j + 256 ≢ k + 256 = λ q. apart (omega arith) in
+    let e = keeps (j + 256) ne in
+    key_there new j ∙ same_key (node new (j + 256)) (node old (j + 256)) e.0 e.1 ∙ sym (key_there old j)
 
--- the first node of the list of x is not after x
-pub record Leads (ends : List Ends) (nodes : List (Option Node)) (x : Node) : Type 0 where
-  pub place : ℕ
-  pub first : Node
-  pub top : head ends x.due ≡ Some place
-  pub there : node nodes place ≡ Some first
-  pub due : first.due ≤ x.due
-  pub serial : first.serial ≤ x.serial
+pub same_keys : (old new : List Node) → IsSame old new → HasSame (keys_of old) (keys_of new)
+same_keys old new same k = key_there new k ∙ ap key_of (same (k + 256) (omega arith)) ∙ sym (key_there old k)
 
-further : (ends : List Ends) (nodes : List (Option Node)) (i : ℕ) (x : Node) (k : IsBehind nodes i x) → Leads ends nodes k.before → Leads ends nodes x
-further ends nodes i x k l = record {
-  place = l.place;
-  first = l.first;
-  top = sym (ap (λ (m : ℕ). (get_or ends m no_ends).first) k.ahead.0) ∙ l.top;
-  there = l.there;
-  due = let a = k.ahead.1 in let b = l.due in omega (arith, a, b);
-  serial = let a = k.ahead.2 in let b = l.serial in omega (arith, a, b);
+-- a place by its node
+pub place_free : (nodes : List Node) (i : ℕ) → IsFree i nodes → IsPlace (i - 256) (keys_of nodes)
+place_free nodes i free =
+    let from : 256 ≤ i = free.from in
+    let e : i - 256 + 256 ≡ i = omega arith in
+    let size : length (keys_of nodes) ≡ length nodes = length-map nodes key_of in
+    let within : i < length nodes = free.within in
+    record {
+      within = omega arith;
+      free = key_there nodes (i - 256) ∙ ap (λ (n : ℕ). key_of (node nodes n)) e ∙ key_none (node nodes i) free.free;
+    }
+
+pub free_place : (nodes : List Node) (k : ℕ) → IsPlace k (keys_of nodes) → IsFree (k + 256) nodes
+free_place nodes k place =
+    let size : length (keys_of nodes) ≡ length nodes = length-map nodes key_of in
+    let within : k + 256 < length (keys_of nodes) = place.within in
+    record { from = omega arith; within = omega arith; free = key_gone (node nodes (k + 256)) (sym (key_there nodes k) ∙ place.free) }
+
+-- no node has the serial of a key that is not there
+pub fresh_node : (w : ℕ) (nodes : List Node) (serial : ℕ) → IsLists w nodes → ((k d : ℕ) → key_at (keys_of nodes) k ≢ Some (d, serial)) → (i : ℕ) → HasKey (node nodes i)
+    → (node nodes i).serial ≢ serial
+fresh_node w nodes serial lists fresh i key same =
+    let from = key_from w nodes i lists key in
+    let e : i - 256 + 256 ≡ i = omega arith in
+    let here : key_at (keys_of nodes) (i - 256) ≡ Some ((node nodes i).due, (node nodes i).serial) = key_there nodes (i - 256) ∙ ap (λ (n : ℕ). key_of (node nodes n)) e ∙ key_some (node nodes i) key in
+    fresh (i - 256) (node nodes i).due (here ∙ ap (λ (n : ℕ). Some ((node nodes i).due, n)) same)
+
+-- no keys
+pub new_wheel : (w : ℕ) (words : List ℕ) → w ≤ 56 → IsWheel w [] words 18446744073709551615
+new_wheel w words narrow = record {
+  narrow = narrow;
+  small = omega arith;
+  lists = record {
+    ends = λ i lt. omega arith;
+    lists = λ i lt within. absurd (omega arith);
+    behind = λ i linked. absurd (none i linked);
+    ahead = λ i linked. absurd (none i linked);
+  };
+  marked = λ i key. absurd (omega arith);
+  fits = λ i key. absurd (omega arith);
+  least = record { from = λ i key. absurd (omega arith); settled = inl (omega arith) };
 }
-
-pub leads : (ends : List Ends) (nodes : List (Option Node)) → IsLinked ends nodes → (fuel i : ℕ) (x : Node) → x.serial ≤ fuel → node nodes i ≡ Some x → Leads ends nodes x
-leads ends nodes linked zero i x le is = ⊎_elim
-    (λ (h : head ends x.due ≡ Some i). record { place = i; first = x; top = h; there = is; due = omega arith; serial = omega arith })
-    (λ (k : IsBehind nodes i x). absurd (let a = k.ahead.2 in omega (arith, a, le)))
-    (linked i x is)
-leads ends nodes linked (suc fuel) i x le is = ⊎_elim
-    (λ (h : head ends x.due ≡ Some i). record { place = i; first = x; top = h; there = is; due = omega arith; serial = omega arith })
-    (λ (k : IsBehind nodes i x). further ends nodes i x k (leads ends nodes linked fuel k.place k.before (let a = k.ahead.2 in omega (arith, a, le)) k.there))
-    (linked i x is)
-
--- what first_due answers
-pub record IsTop (ends : List Ends) (nodes : List (Option Node)) (due : ℕ) (x : Node) : Type 0 where
-  pub place : ℕ
-  pub top : head ends due ≡ Some place
-  pub there : node nodes place ≡ Some x
-  pub now : x.due ≡ due
-
-pub top_is : (ends : List Ends) (nodes : List (Option Node)) (due : ℕ) (x : Node) → first_due ends nodes due ≡ Some x → IsTop ends nodes due x
-top_is ends nodes due x h = go (head ends due) refl h
   where
-    at : (p : ℕ) (o : Option Node) → head ends due ≡ Some p → node nodes p ≡ o → if_due due o ≡ Some x → IsTop ends nodes due x
-    at p None top q h = cc
-    at p (Some y) top q h = on (y.due == due) refl h
-      where
-        on : (b : Bool) → (y.due == due) ≡ b → (if b then Some y else None) ≡ Some x → IsTop ends nodes due x
-        on true e h = let same : y ≡ x = cc h in record { place = p; top = top; there = q ∙ ap (λ (z : Node). Some z) same; now = ap (λ (z : Node). z.due) (sym same) ∙ eqb-true y.due due e }
-        on false e h = cc
+    none : (i : ℕ) → ((i < 256) × (i < 0)) ⊎ HasKey no_node → ⊥
+    none i (inl e) = let lt : i < 0 = e.1 in omega arith
+    none i (inr key) = omega arith
 
-    go : (o : Option ℕ) → head ends due ≡ o → if_due due (reached nodes o) ≡ Some x → IsTop ends nodes due x
-    go None q h = cc
-    go (Some p) q h = at p (node nodes p) q refl h
-
--- where a node is due at the floor, the first of its list is, and has the first key
-floor_top : (ends : List Ends) (nodes : List (Option Node)) (floor : ℕ) (i : ℕ) (x : Node) → IsLinked ends nodes → IsFrom floor nodes → node nodes i ≡ Some x → x.due ≡ floor
-    → (l : Leads ends nodes x) → first_due ends nodes floor ≡ Some l.first
-floor_top ends nodes floor i x linked from is now l =
-    let top : head ends floor ≡ Some l.place = ap (λ (n : ℕ). head ends n) (sym now) ∙ l.top in
-    let low : floor ≤ l.first.due = from l.place l.first l.there in
-    let due : l.first.due ≡ floor = let a = l.due in omega (arith, low, a, now) in
-    rw (top, l.there, eq-eqb l.first.due floor due) refl
-
-pub first_none : (ends : List Ends) (nodes : List (Option Node)) (floor : ℕ) → IsWheel ends nodes floor → first_due ends nodes floor ≡ None → HasNone (keys_of nodes)
-first_none ends nodes floor w none = ⊎_elim (λ (h : HasNone (keys_of nodes) × (2 ^ 64 ≤ floor + 1)). h.0)
-    (λ (d : IsDue floor nodes).
-    let l = leads ends nodes w.linked d.first.serial d.place d.first (omega arith) d.there in
-    let both : None ≡ Some l.first = sym none ∙ floor_top ends nodes floor d.place d.first w.linked w.from d.there d.due l in cc both)
-    w.settled
-
-pub first_key : (ends : List Ends) (nodes : List (Option Node)) (floor : ℕ) (x : Node) → IsWheel ends nodes floor → first_due ends nodes floor ≡ Some x → IsFirstKey x.due x.serial (keys_of nodes)
-first_key ends nodes floor x w h = (node_has t.place x nodes t.there, least)
-  where
-    t : IsTop ends nodes floor x
-    t = top_is ends nodes floor x h
-
-    least : (e s : ℕ) → has e s (keys_of nodes) ≡ true → NotAfter x.due x.serial e s
-    least e s there =
-        let f = has_node e s nodes there in
-        let low : floor ≤ f.found.due = w.from f.place f.found f.there in ⊎_elim
-        (λ (same : f.found.due ≡ floor).
-        let l = leads ends nodes w.linked f.found.serial f.place f.found (omega arith) f.there in
-        let one : Some x ≡ Some l.first = sym h ∙ floor_top ends nodes floor f.place f.found w.linked w.from f.there same l in
-        let a : x.serial ≡ l.first.serial = cc one in
-        let b = l.serial in
-        let k = f.key in
-        let now = t.now in
-        inr (omega (arith, now, same, k.0), omega (arith, a, b, k.1)))
-        (λ apart. let k = f.key.0 in let now = t.now in inl (omega (arith, low, apart, k, now)))
-        (cases_eq f.found.due floor)
-
--- no node is due at the floor, so none is before the time after it
-pub from_later : (ends : List Ends) (nodes : List (Option Node)) (floor : ℕ) → IsLinked ends nodes → IsFrom floor nodes → first_due ends nodes floor ≡ None → IsFrom (floor + 1) nodes
-from_later ends nodes floor linked from none i x is =
-    let low : floor ≤ x.due = from i x is in ⊎_elim
-    (λ (same : x.due ≡ floor).
-    let l = leads ends nodes linked x.serial i x (omega arith) is in
-    let both : None ≡ Some l.first = sym none ∙ floor_top ends nodes floor i x linked from is same l in cc both)
-    (λ apart. omega (arith, low, apart))
-    (cases_eq x.due floor)
-
-pub top_due : (ends : List Ends) (nodes : List (Option Node)) (due : ℕ) (x : Node) → first_due ends nodes due ≡ Some x → IsDue due nodes
-top_due ends nodes due x h = let t = top_is ends nodes due x h in record { place = t.place; first = x; there = t.there; due = t.now }
-
--- a node joins
-pub added_from : (d s floor : ℕ) (old new : List (Option Node)) → IsAdded d s old new → floor ≤ d → IsFrom floor old → IsFrom floor new
-added_from d s floor old new a le from i x is = ⊎_elim
-    (λ (k : HasKey d s x). let e = k.0 in omega (arith, e, le))
-    (λ k. was (node old i) refl k)
-    (a.only i x is)
-  where
-    was : (o : Option Node) → node old i ≡ o → IsKept x o → floor ≤ x.due
-    was None q k = absurd k
-    was (Some y) q k = let l = from i y q in let e = k.0 in omega (arith, l, e)
-
-pub added_due : (d s : ℕ) (old new : List (Option Node)) → IsAdded d s old new → IsDue d new
-added_due d s old new a = record { place = a.place; first = a.added; there = a.there; due = a.key.0 }
-
--- a node that was due at the floor stays
-pub kept_due : (floor : ℕ) (old new : List (Option Node)) → ((i : ℕ) (x : Node) → node old i ≡ Some x → IsKept x (node new i)) → IsDue floor old → IsDue floor new
-kept_due floor old new kept d = was (node new d.place) refl (kept d.place d.first d.there)
-  where
-    was : (o : Option Node) → node new d.place ≡ o → IsKept d.first o → IsDue floor new
-    was None q k = absurd k
-    was (Some y) q k = record { place = d.place; first = y; there = q; due = sym k.0 ∙ d.due }
-
-pub lower_from : (floor d : ℕ) (nodes : List (Option Node)) → d ≤ floor → IsFrom floor nodes → IsFrom d nodes
-lower_from floor d nodes le from i x is = let l = from i x is in omega (arith, l, le)
-
-pub same_wheel : (ends after : List Ends) (old new : List (Option Node)) (floor : ℕ) → IsSame old new → IsLinked after new → IsWheel ends old floor → IsWheel after new floor
-same_wheel ends after old new floor same linked w = record {
-  linked = linked;
-  from = λ i x is. w.from i x (sym (same i) ∙ is);
-  settled = ⊎_elim
-      (λ (none : HasNone (keys_of old) × (2 ^ 64 ≤ floor + 1)). inl (no_nodes new (λ i x is. none_node old i x none.0 (sym (same i) ∙ is)), none.1))
-      (λ (d : IsDue floor old). inr (record { place = d.place; first = d.first; there = same d.place ∙ d.there; due = d.due }))
-      w.settled;
+-- other nodes without keys
+pub same_wheel : (w words_floor : ℕ) (words : List ℕ) (old new : List Node) → IsSame old new → IsLists w new → length new ≤ 4294967295 → IsWheel w old words words_floor → IsWheel w new words words_floor
+same_wheel w floor words old new same lists small wheel = record {
+  narrow = wheel.narrow;
+  small = small;
+  lists = lists;
+  marked = λ i key. subst (λ (x : Node). IsMarked words (day w x.due)) (sym (at i key)) (wheel.marked i (was i key));
+  fits = λ i key. subst (λ (x : Node). x.due < 2 ^ 64) (sym (at i key)) (wheel.fits i (was i key));
+  least = record {
+    from = λ i key. subst (λ (x : Node). floor ≤ x.due) (sym (at i key)) (wheel.least.from i (was i key));
+    settled = ⊎_elim
+        (λ great. inl great)
+        (λ (d : IsDue floor old).
+        let e : node new d.place ≡ node old d.place = same d.place (key_from w old d.place wheel.lists d.key) in
+        inr (record { place = d.place; key = subst (λ (x : Node). HasKey x) (sym e) d.key; due = ap (λ (x : Node). x.due) e ∙ d.due }))
+        wheel.least.settled;
+  };
 }
-
--- nodes leave
-pub without_from : (d s floor : ℕ) (old new : List (Option Node)) → IsWithout d s old new → IsFrom floor old → IsFrom floor new
-without_from d s floor old new w from i x is = was (node old i) refl (w.only i x is)
   where
-    was : (o : Option Node) → node old i ≡ o → IsKept x o → floor ≤ x.due
-    was None q k = absurd k
-    was (Some y) q k = let l = from i y q in let e = k.0 in omega (arith, l, e)
+    at : (i : ℕ) → HasKey (node new i) → node new i ≡ node old i
+    at i key = same i (key_from w new i lists key)
 
--- a key joins that is due before the floor
-pub added_lower : (d s floor : ℕ) (ends after : List Ends) (old new : List (Option Node)) → IsAdded d s old new → d ≤ floor → IsLinked after new → IsWheel ends old floor → IsWheel after new d
-added_lower d s floor ends after old new a le linked w = record {
-  linked = linked;
-  from = added_from d s d old new a (omega arith) (lower_from floor d old le w.from);
-  settled = inr (added_due d s old new a);
-}
+    was : (i : ℕ) → HasKey (node new i) → HasKey (node old i)
+    was i key = subst (λ (x : Node). HasKey x) (same i (key_from w new i lists key)) key
 
--- a key joins that is not due before the floor
-pub added_above : (d s floor : ℕ) (ends after : List Ends) (old new : List (Option Node)) → IsAdded d s old new → floor ≤ d → d < 2 ^ 64 → IsLinked after new → IsWheel ends old floor → IsWheel after new floor
-added_above d s floor ends after old new a le fits linked w = record {
-  linked = linked;
-  from = added_from d s floor old new a le w.from;
-  settled = inr (⊎_elim
-      (λ (none : HasNone (keys_of old) × (2 ^ 64 ≤ floor + 1)).
-      let last = none.1 in
-      let now : d ≡ floor = omega (arith, le, fits, last) in
-      subst (λ (n : ℕ). IsDue n new) now (added_due d s old new a))
-      (λ (due : IsDue floor old). kept_due floor old new a.kept due)
-      w.settled);
-}
+-- a node gets a key
+module _ (w floor now p due serial : ℕ) (words marks : List ℕ) (old new : List Node) (free : IsFree p old) (wheel : IsWheel w old words floor) (lists : IsLists w new)
+    (size : length new ≡ length old) (is_due : (node new p).due ≡ due) (is_serial : (node new p).serial ≡ serial) (small : serial < 2 ^ 40) (fits : due < 2 ^ 64) (keeps : KeepsOthers p old new)
+    (set : (d : ℕ) → d % 256 ≡ day w due % 256 → IsMarked marks d) (others : (d : ℕ) → d % 256 ≢ day w due % 256 → mark_of marks d ≡ mark_of words d)
+    (lower : now ≤ floor) (least : now ≤ due) (one_of : (now ≡ floor) ⊎ (now ≡ due)) where
+  was : (i : ℕ) → i ≢ p → HasKey (node new i) → HasKey (node old i)
+  was i ne key = let e : (node new i).serial ≡ (node old i).serial = (keeps i ne).1 in omega arith
 
--- there are no nodes
-pub no_wheel : (ends : List Ends) (nodes : List (Option Node)) (floor : ℕ) → IsLinked ends nodes → HasNone (keys_of nodes) → 2 ^ 64 ≤ floor + 1 → IsWheel ends nodes floor
-no_wheel ends nodes floor linked none last = record {
-  linked = linked;
-  from = λ i x is. absurd (none_node nodes i x none is);
-  settled = inl (none, last);
-}
+  pub put_wheel : IsWheel w new marks now
+  put_wheel = record {
+    narrow = wheel.narrow;
+    small = let s : length old ≤ 4294967295 = wheel.small in omega arith;
+    lists = lists;
+    marked = λ i key. ⊎_elim
+        (λ (e : i ≡ p). set (day w (node new i).due) (ap (λ (n : ℕ). day w (node new n).due % 256) e ∙ ap (λ (d : ℕ). day w d % 256) is_due))
+        (λ (ne : i ≢ p).
+        let old_mark : IsMarked words (day w (node new i).due) = subst (λ (d : ℕ). IsMarked words (day w d)) (sym (keeps i ne).0) (wheel.marked i (was i ne key)) in
+        ⊎_elim
+        (λ (same : day w (node new i).due % 256 ≡ day w due % 256). set (day w (node new i).due) same)
+        (λ (apart : day w (node new i).due % 256 ≢ day w due % 256). others (day w (node new i).due) apart ∙ old_mark)
+        (cases_eq (day w (node new i).due % 256) (day w due % 256)))
+        (cases_eq i p);
+    fits = λ i key. ⊎_elim
+        (λ (e : i ≡ p). let d : (node new i).due ≡ due = ap (λ (n : ℕ). (node new n).due) e ∙ is_due in omega arith)
+        (λ (ne : i ≢ p). let d : (node new i).due ≡ (node old i).due = (keeps i ne).0 in let f : (node old i).due < 2 ^ 64 = wheel.fits i (was i ne key) in omega arith)
+        (cases_eq i p);
+    least = record {
+      from = λ i key. ⊎_elim
+          (λ (e : i ≡ p). let d : (node new i).due ≡ due = ap (λ (n : ℕ). (node new n).due) e ∙ is_due in omega arith)
+          (λ (ne : i ≢ p). let d : (node new i).due ≡ (node old i).due = (keeps i ne).0 in let f : floor ≤ (node old i).due = wheel.least.from i (was i ne key) in omega arith)
+          (cases_eq i p);
+      settled = ⊎_elim
+          (λ (same : now ≡ floor). ⊎_elim
+          (λ (great : 2 ^ 64 ≤ floor + 1). inl (omega arith))
+          (λ (d : IsDue floor old).
+          let ne : d.place ≢ p = λ q. (let e : (node old d.place).serial ≡ (node old p).serial = ap (λ (n : ℕ). (node old n).serial) q in let k = d.key in let h = free.free in omega arith) in
+          let k = keeps d.place ne in
+          let kd : (node new d.place).due ≡ (node old d.place).due = k.0 in
+          let ks : (node new d.place).serial ≡ (node old d.place).serial = k.1 in
+          let had : (node old d.place).serial < 2 ^ 40 = d.key in
+          inr (record { place = d.place; key = omega arith; due = kd ∙ d.due ∙ sym same }))
+          wheel.least.settled)
+          (λ (same : now ≡ due). inr (record { place = p; key = omega arith; due = is_due ∙ sym same }))
+          one_of;
+    };
+  }
+
+-- a node loses its key; the floor is found again
+module _ (w floor now p : ℕ) (words marks : List ℕ) (old new : List Node) (key : HasKey (node old p)) (wheel : IsWheel w old words floor) (lists : IsLists w new)
+    (size : length new ≡ length old) (gone : 2 ^ 40 ≤ (node new p).serial) (keeps : KeepsOthers p old new) where
+  left_apart : (i : ℕ) → HasKey (node new i) → i ≢ p
+  left_apart i k q = let e : (node new i).serial ≡ (node new p).serial = ap (λ (n : ℕ). (node new n).serial) q in omega arith
+
+  left_was : (i : ℕ) → HasKey (node new i) → HasKey (node old i)
+  left_was i k = let e : (node new i).serial ≡ (node old i).serial = (keeps i (left_apart i k)).1 in omega arith
+
+  pub left_marked : (told : Bool) → (told ≡ true → IsEmptyList w (list_of w (node old p)) new)
+      → ((d : ℕ) → d % 256 ≢ day w (node old p).due % 256 → mark_of marks d ≡ mark_of words d) → OnFalse told (marks ≡ words) → HasMarks w marks new
+  left_marked true empty others same i k =
+      let old_mark : IsMarked words (day w (node new i).due) = subst (λ (d : ℕ). IsMarked words (day w d)) (sym (keeps i (left_apart i k)).0) (wheel.marked i (left_was i k)) in
+      others (day w (node new i).due) (empty refl i k) ∙ old_mark
+  left_marked false empty others same i k =
+      let old_mark : IsMarked words (day w (node new i).due) = subst (λ (d : ℕ). IsMarked words (day w d)) (sym (keeps i (left_apart i k)).0) (wheel.marked i (left_was i k)) in
+      subst (λ (ws : List ℕ). IsMarked ws (day w (node new i).due)) (sym same) old_mark
+
+  pub left_from : IsFrom floor new
+  left_from i k = let d : (node new i).due ≡ (node old i).due = (keeps i (left_apart i k)).0 in let f : floor ≤ (node old i).due = wheel.least.from i (left_was i k) in omega arith
+
+  -- another one is due at the floor
+  pub left_floor : (node old p).due ≢ floor → IsFloor floor new
+  left_floor other = record {
+    from = left_from;
+    settled = ⊎_elim
+        (λ great. inl great)
+        (λ (d : IsDue floor old).
+        let ne : d.place ≢ p = λ q. other (ap (λ (n : ℕ). (node old n).due) (sym q) ∙ d.due) in
+        let ks : (node new d.place).serial ≡ (node old d.place).serial = (keeps d.place ne).1 in
+        let had : (node old d.place).serial < 2 ^ 40 = d.key in
+        inr (record { place = d.place; key = omega arith; due = (keeps d.place ne).0 ∙ d.due }))
+        wheel.least.settled;
+  }
+
+  pub left_wheel : HasMarks w marks new → IsFloor now new → IsWheel w new marks now
+  left_wheel marked least = record {
+    narrow = wheel.narrow;
+    small = let s : length old ≤ 4294967295 = wheel.small in omega arith;
+    lists = lists;
+    marked = marked;
+    fits = λ i k. let d : (node new i).due ≡ (node old i).due = (keeps i (left_apart i k)).0 in let f : (node old i).due < 2 ^ 64 = wheel.fits i (left_was i k) in omega arith;
+    least = least;
+  }
+
+-- the first key: the first one of the list of the floor
+module _ (w floor : ℕ) (words : List ℕ) (nodes : List Node) (wheel : IsWheel w nodes words floor) where
+  at_floor : (i : ℕ) → HasKey (node nodes i) → IsDue floor nodes
+  at_floor i key = ⊎_elim
+      (λ (great : 2 ^ 64 ≤ floor + 1).
+      let f : (node nodes i).due < 2 ^ 64 = wheel.fits i key in
+      let g : floor ≤ (node nodes i).due = wheel.least.from i key in
+      record { place = i; key = key; due = omega arith })
+      (λ (d : IsDue floor nodes). d)
+      wheel.least.settled
+
+  floor_list : (d : IsDue floor nodes) → list_of w (node nodes d.place) ≡ day w floor % 256
+  floor_list d = ap (λ (n : ℕ). day w n % 256) d.due
+
+  pub none_first : (l : ℕ) → l ≡ day w floor % 256 → (l < length nodes → (node nodes l).after < 256) → HasNone (keys_of nodes)
+  none_first l is end k = ⊎_elim
+      (λ (lt : (node nodes (k + 256)).serial < 2 ^ 40).
+      let d = at_floor (k + 256) lt in
+      absurd (no_head w nodes l wheel.lists end d.place d.key (floor_list d ∙ sym is)))
+      (λ (ge : 2 ^ 40 ≤ (node nodes (k + 256)).serial). key_there nodes k ∙ key_none (node nodes (k + 256)) ge)
+      (cases_lt (node nodes (k + 256)).serial (2 ^ 40))
+
+  pub is_first : (l p : ℕ) → l ≡ day w floor % 256 → l < length nodes → 256 ≤ p → (node nodes l).after ≡ p → IsFirst (p - 256) (keys_of nodes)
+  is_first l p is within from head =
+      let h = head_there w nodes l p wheel.lists (omega arith) within head from in
+      let d = at_floor p h.key in
+      let e : p - 256 + 256 ≡ p = omega arith in
+      let before : (node nodes p).due ≤ (node nodes d.place).due = first_due w nodes l p wheel.lists head h.key d.place d.key (floor_list d ∙ sym is) in
+      let at_least : floor ≤ (node nodes p).due = wheel.least.from p h.key in
+      let due : (node nodes p).due ≡ floor = let dd = d.due in omega arith in
+      record {
+        due = (node nodes p).due;
+        serial = (node nodes p).serial;
+        there = key_there nodes (p - 256) ∙ ap (λ (n : ℕ). key_of (node nodes n)) e ∙ key_some (node nodes p) h.key;
+        least = λ k e s q.
+            let x = key_of_place nodes k e s q in
+            let ge : floor ≤ (node nodes (k + 256)).due = wheel.least.from (k + 256) x.key in
+            let xd = x.due in
+            let xs = x.serial in
+            ⊎_elim
+            (λ (same : floor ≡ (node nodes (k + 256)).due).
+            let list : list_of w (node nodes (k + 256)) ≡ l = ap (λ (n : ℕ). day w n % 256) (sym same) ∙ sym is in
+            let m : IsLeastIn w nodes l (k + 256) = subst (λ (n : ℕ). IsLeastIn w nodes n (k + 256)) list (head_least w nodes (k + 256) wheel.lists x.key) in
+            let order : order_of (node nodes p) ≤ order_of (node nodes (k + 256)) = subst (λ (n : ℕ). order_of (node nodes n) ≤ order_of (node nodes (k + 256))) head m.least in
+            inr (omega arith, omega arith))
+            (λ (other : floor ≢ (node nodes (k + 256)).due). inl (omega arith))
+            (cases_eq floor (node nodes (k + 256)).due);
+      }

@@ -1,11 +1,10 @@
 pub mod Pending
 pub mod Items
-pub mod Keys
 pub mod Link
+pub mod Lists
 pub mod Marks
 pub mod Packed
 pub mod Slots
 pub mod Sparse
-pub mod Spot
 pub mod Store
 pub mod Wheel

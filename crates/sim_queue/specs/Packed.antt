@@ -1,21 +1,13 @@
--- What is pending in a queue that is kept for later: its items in any order, the serial of its first slot, and how many slots there are.
-use Rattle.std.specs.Prelude.{◌≡◌, ℕ, zero, suc, ◌+◌, ◌≤◌, ◌^◌, List, [], ◌++◌, length, Option}
-use Rattle.std.specs.Option.{option_to_list}
+-- What is pending in a queue that is kept for later: its items by rising serials, and the next serial.
+use Rattle.std.specs.Prelude.{ℕ, ◌≤◌, ◌^◌, List}
 use Rattle.sim_queue.specs.declared.Item.{Item}
-use Rattle.sim_queue.specs.Pending.{Pending, with_serial}
-use Rattle.sim_queue.specs.Sparse.{IsSparse}
+use Rattle.sim_queue.specs.Pending.{Pending, IsQueue}
 
--- the items of n serials, from one on, in the order of the serials
-abbrev pub items_by : {B : Type 0} → List (Item B) → ℕ → ℕ → List (Item B)
-items_by items serial zero = []
-items_by items serial (suc n) = option_to_list (with_serial serial items) ++ items_by items (serial + 1) n
+abbrev pub packed : {B : Type 0} → List (Item B) → ℕ → Pending B
+packed items next = record { items = items; next_serial = next }
 
-abbrev pub packed : {B : Type 0} → List (Item B) → ℕ → ℕ → Pending B
-packed items base len = record { items = items_by items base len; next_serial = base + len }
-
--- there are places in which each item has one of its own, that of its serial; no serial is above 2 ^ 40
-pub record IsPacked {B : Type 0} (items : List (Item B)) (base len : ℕ) : Type 0 where
-  pub places : List (Option ℕ)
-  pub count : length places ≡ len
-  pub sparse : IsSparse items places base
-  pub small : base + len ≤ 2 ^ 40
+-- it is a queue, no serial is above 2 ^ 40, and 256 days are no longer than all time
+pub record IsPacked {B : Type 0} (items : List (Item B)) (next width : ℕ) : Type 0 where
+  pub queue : IsQueue (packed items next)
+  pub small : next ≤ 2 ^ 40
+  pub narrow : width ≤ 56

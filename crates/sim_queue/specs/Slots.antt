@@ -1,37 +1,19 @@
--- How a queue's items stand in slots by their serials, and which keys there are of them.
-use Rattle.std.specs.Prelude.{◌≡◌, ℕ, ◌+◌, ◌-◌, ◌<◌, ◌≤◌, ◌==◌, ◌^◌, nat_le, Bool, true, false, ◌&&◌, List, length, Option, None, Some, MatchOption, slice_index_or}
-use Rattle.sim_queue.specs.Keys.{Keys, has, IsFirstKey}
+-- How a queue's items stand in slots by their serials.
+use Rattle.std.specs.Prelude.{◌≡◌, ℕ, ◌<◌, ◌≤◌, Bool, true, false, List, length, Option, None, Some, MatchOption, slice_index_or}
+use Rattle.sim_queue.specs.Wheel.{NotAfter}
 
 -- the slot at a place, none past the end
 abbrev pub at : {B : Type 0} → List (Option (ℕ × B)) → ℕ → Option (ℕ × B)
 at slots i = slice_index_or slots i None
 
--- whether an entry is there that is due at d
-abbrev pub is_due : {B : Type 0} → ℕ → Option (ℕ × B) → Bool
-is_due d None = false
-is_due d (Some e) = d == e.0
+-- the item in slot i is not after any
+pub record IsFirstSlot {B : Type 0} (i : ℕ) (slots : List (Option (ℕ × B))) : Type 0 where
+  pub entry : ℕ × B
+  pub there : at slots i ≡ Some entry
+  pub least : (j : ℕ) (e : ℕ × B) → at slots j ≡ Some e → NotAfter entry.0 i e.0 j
 
--- whether the item of this due and serial is pending
-abbrev pub is_live : {B : Type 0} → ℕ → ℕ → List (Option (ℕ × B)) → ℕ → Bool
-is_live d s slots base = nat_le base s && is_due d (at slots (s - base))
-
--- each pending item has its key
-abbrev pub Covers : {B : Type 0} → Keys → List (Option (ℕ × B)) → ℕ → Type 0
-Covers {B} keys slots base = (i : ℕ) (e : ℕ × B) → at slots i ≡ Some e → has e.0 (base + i) keys ≡ true
-
--- each pending item of the first n slots has its key
-abbrev pub CoversBelow : {B : Type 0} → ℕ → Keys → List (Option (ℕ × B)) → ℕ → Type 0
-CoversBelow {B} n keys slots base = (i : ℕ) (e : ℕ × B) → i < n → at slots i ≡ Some e → has e.0 (base + i) keys ≡ true
-
--- the first key, if there is one, is that of a pending item
-abbrev pub IsTopLive : {B : Type 0} → Keys → List (Option (ℕ × B)) → ℕ → Type 0
-IsTopLive {B} keys slots base = (d s : ℕ) → IsFirstKey d s keys → is_live d s slots base ≡ true
-
--- what a queue keeps between two calls; no serial is above 2 ^ 40
-pub record IsKept {B : Type 0} (keys : Keys) (slots : List (Option (ℕ × B))) (base : ℕ) : Type 0 where
-  pub covers : Covers keys slots base
-  pub top : IsTopLive keys slots base
-  pub small : base + length slots ≤ 2 ^ 40
+abbrev pub HasNoItem : {B : Type 0} → List (Option (ℕ × B)) → Type 0
+HasNoItem slots = (i : ℕ) → at slots i ≡ None
 
 -- whether an entry is there whose body p takes
 abbrev pub takes : {B : Type 0} → (B → Bool) → Option (ℕ × B) → Bool

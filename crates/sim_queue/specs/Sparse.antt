@@ -1,37 +1,62 @@
--- Slots of which most are empty: the items that are there stand densely, in any order, and each slot has the index of its item.
-use Rattle.std.specs.Prelude.{◌≡◌, ℕ, ◌+◌, ◌-◌, ◌≤◌, List, length, map, Option, None, Some, slice_index_or}
-use Rattle.std.specs.List.{slice_get}
-use Rattle.std.specs.Option.{option_map}
-use Rattle.sim_queue.specs.declared.Item.{Item}
+-- Slots, of which most are empty: each has the place of its item's key and body, if it has an item.
+use Rattle.std.specs.Prelude.{◌≡◌, ◌≢◌, ℕ, ◌+◌, ◌-◌, ◌≤◌, List, length, map, Option, None, Some, slice_index_or}
 use Rattle.sim_queue.specs.Items.{items_from}
+use Rattle.sim_queue.specs.Wheel.{key_at, HasSameBut}
 
 -- slots, of which the first stands for the serial `base`: each has the due and the body of its item, if one is there
 pub record SlotList (B : Type 0) : Type 0 where
   pub base : ℕ
   pub items : List (Option (ℕ × B))
 
--- the index that a slot has, none past the end
+-- the place that a slot has, none past the end
 abbrev pub index_at : List (Option ℕ) → ℕ → Option ℕ
 index_at places i = slice_index_or places i None
 
-abbrev pub entry_of : {B : Type 0} → Item B → ℕ × B
-entry_of x = (x.due, x.body)
+-- the body at a place, none past the end
+abbrev pub body_at : {B : Type 0} → List (Option B) → ℕ → Option B
+body_at bodies k = slice_index_or bodies k None
 
--- the slot that has this index
-abbrev pub slot_of : {B : Type 0} → List (Item B) → Option ℕ → Option (ℕ × B)
-slot_of items None = None
-slot_of items (Some k) = option_map entry_of (slice_get items k)
+-- what stands at a place: a due with a body
+abbrev pub entry : {B : Type 0} → Option (ℕ × ℕ) → Option B → Option (ℕ × B)
+entry None body = None
+entry (Some key) None = None
+entry (Some key) (Some body) = Some (key.0, body)
 
-abbrev pub slots_of : {B : Type 0} → List (Item B) → List (Option ℕ) → List (Option (ℕ × B))
-slots_of items places = map (slot_of items) places
+-- the slot that has this place
+abbrev pub slot_of : {B : Type 0} → List (Option (ℕ × ℕ)) → List (Option B) → Option ℕ → Option (ℕ × B)
+slot_of keys bodies None = None
+slot_of keys bodies (Some k) = entry (key_at keys k) (body_at bodies k)
 
--- the serial of the item at an index, none past the end
-abbrev pub serial_at : {B : Type 0} → List (Item B) → ℕ → Option ℕ
-serial_at items k = option_map (λ x. x.serial) (slice_get items k)
+abbrev pub slots_of : {B : Type 0} → List (Option (ℕ × ℕ)) → List (Option B) → List (Option ℕ) → List (Option (ℕ × B))
+slots_of keys bodies places = map (slot_of keys bodies) places
 
--- a slot has an index exactly where the item there has the slot's serial
-pub record IsSparse {B : Type 0} (items : List (Item B)) (places : List (Option ℕ)) (base : ℕ) : Type 0 where
-  pub found : (i k : ℕ) → index_at places i ≡ Some k → serial_at items k ≡ Some (base + i)
-  pub from : (k s : ℕ) → serial_at items k ≡ Some s → base ≤ s
-  pub placed : (k s : ℕ) → serial_at items k ≡ Some s → index_at places (s - base) ≡ Some k
-  pub counted : length items ≡ length (items_from base (slots_of items places))
+abbrev pub HasSameBodies : {B : Type 0} → List (Option B) → List (Option B) → Type 0
+HasSameBodies old new = (j : ℕ) → body_at new j ≡ body_at old j
+
+-- an item came to a place that had no key, and all else stays
+pub record IsPut {B : Type 0} (k d s : ℕ) (b : B) (keys new : List (Option (ℕ × ℕ))) (bodies more : List (Option B)) : Type 0 where
+  pub was : key_at keys k ≡ None
+  pub there : key_at new k ≡ Some (d, s)
+  pub others : HasSameBut k keys new
+  pub body : body_at more k ≡ Some b
+  pub rest : (j : ℕ) → j ≢ k → body_at more j ≡ body_at bodies j
+
+-- the item at a place left, and all else stays
+pub record IsTaken {B : Type 0} (k : ℕ) (keys new : List (Option (ℕ × ℕ))) (bodies more : List (Option B)) : Type 0 where
+  pub gone : key_at new k ≡ None
+  pub others : HasSameBut k keys new
+  pub rest : (j : ℕ) → j ≢ k → body_at more j ≡ body_at bodies j
+
+-- an item of this serial stands at a place
+pub record IsStored {B : Type 0} (keys : List (Option (ℕ × ℕ))) (bodies : List (Option B)) (k serial : ℕ) : Type 0 where
+  pub due : ℕ
+  pub body : B
+  pub key : key_at keys k ≡ Some (due, serial)
+  pub there : body_at bodies k ≡ Some body
+
+-- a slot has the place where the item of its serial stands, and each key is that of such an item
+pub record IsSparse {B : Type 0} (keys : List (Option (ℕ × ℕ))) (bodies : List (Option B)) (places : List (Option ℕ)) (base count : ℕ) : Type 0 where
+  pub found : (i k : ℕ) → index_at places i ≡ Some k → IsStored keys bodies k (base + i)
+  pub from : (k d s : ℕ) → key_at keys k ≡ Some (d, s) → base ≤ s
+  pub placed : (k d s : ℕ) → key_at keys k ≡ Some (d, s) → index_at places (s - base) ≡ Some k
+  pub counted : count ≡ length (items_from base (slots_of keys bodies places))

@@ -7,39 +7,41 @@
 //!
 //! # How it is built
 //!
-//! - `slots`: the items stand in a vector in any order, and each serial from the first one on has a
-//!   slot of four bytes with the index of its item. So an item is found by its serial in two loads,
-//!   and a copy copies what is pending and little else. A taken item is replaced by the last one.
-//! - `lists` and `wheel`: keys (a due and a serial) stand in 256 linked lists, one for all dues
-//!   that are equal modulo 256, each in the order of its keys. With delays of less than 256 ms a
-//!   list has keys of one due, so a new key goes to the end of its list. The wheel knows the least
-//!   due; `marks` has a bit for each list, by which the next due is found in a few steps.
-//! - `agenda`: the wheel, and a heap for the keys that no list accepts: those whose list has a
-//!   later due with an earlier serial before their place. That happens only if dues lie at least
-//!   256 ms apart.
-//! - `store`: slots and agenda together. A heap may keep the key of an item that is gone; such dead
-//!   keys are dropped when they come to the front.
-//! - `packed`: a queue that is kept for later has only its items; slots and keys are made again.
+//! - `slots`: an item stays at one place from its insertion until it is taken out. Each serial from
+//!   the first one on has a slot of four bytes with the place of its item, so an item is found by
+//!   its serial in two loads. Empty slots at the front are cut off, where an insertion would take
+//!   more memory and they are at least half of all.
+//! - `lists`: a place has a node with the due and the serial of its item, which is also the node of
+//!   a list. Time is cut into days, and all days that are equal modulo 256 share one of 256 lists,
+//!   in the order of (due, serial). A list is a ring through its end, so a key joins it or leaves
+//!   it by three writes. A new key mostly comes last; else its spot is looked for from the end on.
+//! - `wheel`: the lists and the least due. `marks` has a bit for each list, by which the next due
+//!   is found in a few steps. Where no key is due within 256 days, it is the least of the lists'
+//!   first keys.
+//! - `store`: the queue's operations by slots.
+//! - `packed`: a queue that is kept for later has only its items, in the order of their serials.
 //!
-//! A heap alone was measured too. The wheel saves a seventh of all instructions of a run, and most
-//! of the branches that a processor cannot predict. If all dues lie far apart, a heap alone would
-//! be faster.
+//! A day has 2 to the power of its width milliseconds: one for [`Queue::new`], and for
+//! [`Queue::with_reach`] so many that 256 days are not shorter than the reach, so that lists stay
+//! short. Keys that are due later share the lists; all answers are the same at any width.
 //!
-//! Only `insert`, `put_back`, `copy` and `pack` take memory. Room for what a removal notes is made
-//! when the item comes in.
+//! This is a calendar queue (Brown, CACM 1988). A heap, and lists of keys apart from the items with
+//! a heap for keys far ahead, were measured too: with delays of up to a second the latter take
+//! about twice the instructions.
+//!
+//! Only `insert`, `put_back`, `copy` and `pack` take memory. A place that is left leads to the one
+//! that was left before it, so taking an item out needs none.
 #![tactic(auto)]
 
-mod agenda;
 mod link;
 mod lists;
 mod marks;
 mod packed;
 mod slots;
-mod spot;
 mod store;
 mod wheel;
 
-ghost use Rattle.std.specs.Prelude.{◌≡◌, ℕ, ◌^◌, ◌<◌, OnOk, OnErr, IfOk, IfSome, IfNone, Some, length, Bool};
+ghost use Rattle.std.specs.Prelude.{◌≡◌, ℕ, ◌^◌, ◌<◌, ◌≤◌, OnOk, OnErr, IfOk, IfSome, IfNone, Some, length, Bool};
 ghost use Rattle.std.specs.Fn.{FnReturnsAt};
 ghost use Rattle.std.specs.Option.{option_map};
 ghost use Rattle.sim_queue.specs.Items.{item_of};
@@ -82,7 +84,16 @@ impl<B> Queue<B> {
         ensures { result ≡ none_pending }
     {
         Queue {
-            store: Store::new(alloc),
+            store: Store::new(alloc, 0),
+        }
+    }
+
+    /// The same, made for items that are due up to `reach` milliseconds after the first one. Others may take longer.
+    pub fn with_reach(alloc: Global, reach: u64) -> Queue<B>
+        ensures { result ≡ none_pending }
+    {
+        Queue {
+            store: Store::new(alloc, width_for(reach)),
         }
     }
 
@@ -117,6 +128,13 @@ impl<B> Queue<B> {
         ensures { option_map (λ r. item_of r.1 (r.0, r.2.now)) result ≡ first self.now.items }
     {
         self.store.first()
+    }
+
+    /// The due (ms) and the body of the pending item with this serial.
+    pub fn get(&self, serial: u64) -> Option<(u64, &B)>
+        ensures { option_map (λ r. item_of serial (r.0, r.1.now)) result ≡ with_serial serial self.now.items }
+    {
+        self.store.get(serial)
     }
 
     /// The least serial, not below `serial`, of an item whose body passes the test.
@@ -232,4 +250,12 @@ impl<B> Queue<B> {
     {
         self.store.pack(alloc, &each)
     }
+}
+
+// The width of a day with which 256 days are not shorter than this (ms): the day has 2 to the power of it milliseconds.
+fn width_for(reach: u64) -> u32
+    ensures { result ≤ 56 }
+{
+    let beyond = reach.saturating_sub(1) / 256;
+    (64 - beyond.leading_zeros()).min(56)
 }

@@ -1,9 +1,9 @@
 //! Queues that are kept for later.
-ghost use Rattle.std.specs.Prelude.{◌≡◌, IfOk};
+ghost use Rattle.std.specs.Prelude.{◌≡◌, ◌≤◌, ◌^◌, IfOk};
 ghost use Rattle.std.specs.Fn.{FnReturnsAt};
 ghost use Rattle.sim_queue.specs.Packed.{packed, IsPacked};
 
-use crate::slots::{Slots, copy_items, with_room};
+use crate::slots::copy_items;
 use crate::store::Store;
 use crate::{Item, NoMemory, Queue};
 use std::alloc::Global;
@@ -12,12 +12,11 @@ use std::marker::Model;
 /// A queue that is kept for later, in less memory: its items, without their keys and places. Contracts see the queue.
 #[derive(Drop)]
 pub struct PackedQueue<B> {
-    // The items, in any order.
+    // The items, in the order of their serials.
     items: Vec<Item<B>>,
-    // The serial of the first slot.
-    base: u64,
-    // How many slots there are.
-    len: usize,
+    next_serial: u64,
+    // The width of a day.
+    width: u32,
 }
 
 impl<B> Model for PackedQueue<B> {
@@ -26,18 +25,22 @@ impl<B> Model for PackedQueue<B> {
 
     ghost Value = { Pending B };
 
-    ghost view = { λ p. packed p.items.items p.base p.len };
+    ghost view = { λ p. packed p.items.items p.next_serial };
 
-    ghost invariant = { λ p. IsPacked p.items.items p.base p.len };
+    ghost invariant = { λ p. IsPacked p.items.items p.next_serial p.width };
 }
 
 impl<B> PackedQueue<B> {
     // The queue of these items.
-    pub(crate) fn of(items: Vec<Item<B>>, base: u64, len: usize) -> PackedQueue<B>
-        requires { IsPacked items.items base len }
-        ensures { result ≡ packed items.items base len }
+    pub(crate) fn of(items: Vec<Item<B>>, next_serial: u64, width: u32) -> PackedQueue<B>
+        requires { IsPacked items.items next_serial width }
+        ensures { result ≡ packed items.items next_serial }
     {
-        PackedQueue { items, base, len }
+        PackedQueue {
+            items,
+            next_serial,
+            width,
+        }
     }
 
     /// An equal queue, whose bodies are those that `each` answers.
@@ -54,10 +57,9 @@ impl<B> PackedQueue<B> {
         requires equal { (x : B) (r : _) → FnReturnsAt F.Fn each x r → IfOk r (λ y. y ≡ x) }
         ensures { IfOk result (λ q. q ≡ self.now) }
     {
-        let items = copy_items(alloc, &self.items, with_room(self.items.len()), &each)?;
-        let slots = Slots::of(alloc, items, self.base, self.len)?;
+        let items = copy_items(alloc, &self.items, self.items.len(), &each)?;
         Ok(Queue {
-            store: Store::of(alloc, slots)?,
+            store: Store::of(alloc, items, self.next_serial, self.width)?,
         })
     }
 }

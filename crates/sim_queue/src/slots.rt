@@ -1,15 +1,15 @@
-//! The slots of a queue, one for each serial from the oldest on. Most are empty, so the items that are there stand densely.
-ghost use Rattle.std.specs.Prelude.{◌≡◌, ℕ, ◌+◌, ◌-◌, ◌^◌, ◌<◌, ◌≤◌, OnOk, OnErr, IfOk, IfSome, Bool, Some, None, ◌∷◌, ◌++◌, [], length, slice_set, replicate};
-ghost use Rattle.std.specs.Bool.{OnTrue};
+//! The slots of a queue, one for each serial from the oldest on. A slot has the place of its item, which stays there until it is taken out.
+ghost use Rattle.std.specs.Prelude.{◌≡◌, ◌≢◌, ℕ, ◌+◌, ◌-◌, ◌^◌, ◌<◌, ◌≤◌, OnOk, OnErr, IfOk, IfSome, IfNone, Bool, Some, None, ◌∷◌, ◌++◌, [], length, slice_set, replicate};
 ghost use Rattle.std.specs.Fn.{FnReturnsAt};
 ghost use Rattle.std.specs.Option.{option_map, IsSome};
-ghost use Rattle.sim_queue.specs.Items.{item_of, items_from, pending};
-ghost use Rattle.sim_queue.specs.Packed.{packed, IsPacked};
+ghost use Rattle.sim_queue.specs.Items.{item_of, items_from};
 ghost use Rattle.sim_queue.specs.Pending.{Decides};
-ghost use Rattle.sim_queue.specs.Slots.{at, IsFirstTaken};
-ghost use Rattle.sim_queue.specs.Sparse.{IsSparse};
+ghost use Rattle.sim_queue.specs.Slots.{at, IsFirstTaken, IsFirstSlot, HasNoItem};
+ghost use Rattle.sim_queue.specs.Sparse.{body_at, IsPut, IsTaken, HasSameBodies};
+ghost use Rattle.sim_queue.specs.Wheel.{key_at, HasSame};
 
 use crate::link::Link;
+use crate::wheel::Wheel;
 use crate::{Item, NoMemory};
 use std::alloc::Global;
 use std::marker::Model;
@@ -17,11 +17,15 @@ use std::marker::Model;
 /// The items by their serials: the first slot stands for the serial `base`.
 #[derive(Drop)]
 pub(crate) struct Slots<B> {
-    // The items that are there, in any order.
-    items: Vec<Item<B>>,
-    // The index of each slot's item among the items.
+    // The due and the serial of each item that is there, by its place.
+    wheel: Wheel,
+    // The body of each, by its place.
+    bodies: Vec<Option<B>>,
+    // The place of each slot's item.
     places: Vec<Link>,
     base: u64,
+    // How many items there are.
+    count: usize,
 }
 
 impl<B> Model for Slots<B> {
@@ -29,20 +33,52 @@ impl<B> Model for Slots<B> {
 
     ghost Value = { SlotList B };
 
-    ghost view = { λ a. record { base = a.base; items = slots_of a.items.items a.places.items } };
+    ghost view = { λ a. record { base = a.base; items = slots_of a.wheel a.bodies.items a.places.items } };
 
-    ghost invariant = { λ a. IsSparse a.items.items a.places.items a.base };
+    ghost invariant = { λ a. IsSparse a.wheel a.bodies.items a.places.items a.base a.count };
 }
 
 impl<B> Slots<B> {
-    pub(crate) fn new(alloc: Global) -> Slots<B>
-        ensures { result ≡ record { base = 0; items = [] } }
+    /// No slots, of which the first one is to stand for the serial `base`. A day of the wheel has 2 to the power of `width` milliseconds.
+    pub(crate) fn new(alloc: Global, base: u64, width: u32) -> Slots<B>
+        requires { width ≤ 56 }
+        ensures { result ≡ record { base = base; items = [] } }
     {
         Slots {
-            items: Vec::new(alloc),
+            wheel: Wheel::new(alloc, width),
+            bodies: Vec::new(alloc),
             places: Vec::new(alloc),
-            base: 0,
+            base,
+            count: 0,
         }
+    }
+
+    /// So many empty slots.
+    pub(crate) fn empty(
+        alloc: Global,
+        base: u64,
+        count: usize,
+        width: u32,
+    ) -> Result<Slots<B>, NoMemory>
+        requires { width ≤ 56 }
+        ensures { IfOk result (λ s. s ≡ record { base = base; items = replicate count None }) }
+    {
+        let mut places = Vec::with_capacity(alloc, with_room(count))?;
+        places.resize(count, Link::none())?;
+        Ok(Slots {
+            wheel: Wheel::new(alloc, width),
+            bodies: Vec::new(alloc),
+            places,
+            base,
+            count: 0,
+        })
+    }
+
+    /// The width of a day of the wheel.
+    pub(crate) fn width(&self) -> u32
+        ensures { result ≤ 56 }
+    {
+        self.wheel.width()
     }
 
     /// The serial of the first slot.
@@ -63,16 +99,27 @@ impl<B> Slots<B> {
     pub(crate) fn count(&self) -> usize
         ensures { result ≡ length (items_from self.now.base self.now.items) }
     {
-        self.items.len()
+        self.count
     }
 
     /// The due and the body in a slot.
     pub(crate) fn get(&self, place: usize) -> Option<(u64, &B)>
         ensures { option_map (λ r. (r.0, r.1.now)) result ≡ at self.now.items place }
     {
-        let index = self.places.get(place)?.get()?;
-        let item = &self.items[index as usize];
-        Some((item.due, &item.body))
+        let at = self.places.get(place)?.get()?;
+        let (due, _serial) = self.wheel.key(at);
+        let body = self.bodies[at as usize].as_ref()?;
+        Some((due, body))
+    }
+
+    /// The slot of the first item.
+    pub(crate) fn first(&self) -> Option<usize>
+        ensures first { IfSome result (λ i. IsFirstSlot i self.now.items) }
+        ensures none { IfNone result (HasNoItem self.now.items) }
+    {
+        let at = self.wheel.first()?;
+        let (_due, serial) = self.wheel.key(at);
+        Some((serial - self.base) as usize)
     }
 
     /// Adds a slot with this due and body behind the others, and answers its serial, or changes nothing.
@@ -87,11 +134,10 @@ impl<B> Slots<B> {
         ensures base { self.new.base ≡ self.old.base }
     {
         let serial = self.base + self.places.len() as u64;
-        let index = next_index(&self.items)?;
         self.places.reserve(1)?;
-        self.items.reserve(1)?;
-        self.items.push_reserved(Item { due, serial, body });
-        self.places.push_reserved(Link::to(index));
+        let at = put_in(&mut self.wheel, &mut self.bodies, due, serial, body)?;
+        self.places.push_reserved(Link::to(at));
+        self.count += 1;
         Ok(serial)
     }
 
@@ -107,10 +153,9 @@ impl<B> Slots<B> {
         ensures base { self.new.base ≡ self.old.base }
     {
         let serial = self.base + place as u64;
-        let index = next_index(&self.items)?;
-        self.items.reserve(1)?;
-        self.items.push_reserved(Item { due, serial, body });
-        self.places[place] = Link::to(index);
+        let at = put_in(&mut self.wheel, &mut self.bodies, due, serial, body)?;
+        self.places[place] = Link::to(at);
+        self.count += 1;
         Ok(())
     }
 
@@ -122,14 +167,10 @@ impl<B> Slots<B> {
         ensures rest { self.new.items ≡ slice_set self.old.items place None }
         ensures base { self.new.base ≡ self.old.base }
     {
-        let link = self.places[place];
-        let index = link.get()?;
+        let at = self.places[place].get()?;
         self.places[place] = Link::none();
-        let item = self.items.swap_remove(index as usize);
-        if let Some(moved) = self.items.get(index as usize) {
-            self.places[(moved.serial - self.base) as usize] = link;
-        }
-        Some(item)
+        self.count -= 1;
+        Some(take_out(&mut self.wheel, &mut self.bodies, at))
     }
 
     /// Takes the last slot off, with its item.
@@ -201,42 +242,17 @@ impl<B> Slots<B> {
         ensures within { IfSome result (λ i. i < length self.now.items) }
         ensures found { (p : B → Bool) → Decides F.Fn test.now p → IsFirstTaken p self.now.items start result }
     {
-        let mut least = self.places.len();
-        for index in 0..self.items.len() {
-            let item = &self.items[index];
-            let place = (item.serial - self.base) as usize;
-            if start <= place && place < least && test(&item.body) {
-                least = place;
+        for place in start..self.places.len() {
+            if let Some((_due, body)) = self.get(place) {
+                if test(body) {
+                    return Some(place);
+                }
             }
         }
-        if least == self.places.len() {
-            return None;
-        }
-        Some(least)
+        None
     }
 
-    /// Equal slots, each body as `each` copies it.
-    pub(crate) fn copy<F: Fn(&B) -> Result<B, NoMemory>>(
-        &self,
-        alloc: Global,
-        each: &F,
-    ) -> Result<Slots<B>, NoMemory>
-    where
-        B: Drop,
-        requires callable { F.IsAlwaysCallable each.now }
-        requires equal { (x : B) (r : _) → FnReturnsAt F.Fn each.now x r → IfOk r (λ y. y ≡ x) }
-        ensures { IfOk result (λ copied. copied ≡ self.now) }
-    {
-        let items = copy_items(alloc, &self.items, with_room(self.items.len()), each)?;
-        let places = copy_places(alloc, &self.places)?;
-        Ok(Slots {
-            items,
-            places,
-            base: self.base,
-        })
-    }
-
-    /// The items that are there, in any order and with no room for more, each body as `each` copies it.
+    /// The items that are there, in the order of their serials, each body as `each` copies it.
     pub(crate) fn pack<F: Fn(&B) -> Result<B, NoMemory>>(
         &self,
         alloc: Global,
@@ -247,43 +263,85 @@ impl<B> Slots<B> {
         requires small { self.now.base + length self.now.items ≤ 2 ^ 40 }
         requires callable { F.IsAlwaysCallable each.now }
         requires equal { (x : B) (r : _) → FnReturnsAt F.Fn each.now x r → IfOk r (λ y. y ≡ x) }
-        ensures places { IfOk result (λ items. IsPacked items.items self.now.base (length self.now.items)) }
-        ensures pending { IfOk result (λ items. packed items.items self.now.base (length self.now.items) ≡ pending self.now.base self.now.items) }
+        ensures { IfOk result (λ items. items.items ≡ items_from self.now.base self.now.items) }
     {
-        copy_items(alloc, &self.items, self.items.len(), each)
-    }
-
-    /// The slots of these items, of which the first stands for the serial `base`.
-    pub(crate) fn of(
-        alloc: Global,
-        items: Vec<Item<B>>,
-        base: u64,
-        len: usize,
-    ) -> Result<Slots<B>, NoMemory>
-    where
-        B: Drop,
-        requires { IsPacked items.items base len }
-        ensures { IfOk result (λ slots. pending slots.base slots.items ≡ packed items.items base len) }
-    {
-        let places = make_places(alloc, &items, base, len)?;
-        Ok(Slots {
-            items,
-            places,
-            base,
-        })
+        let mut items = Vec::with_capacity(alloc, self.count)?;
+        for place in 0..self.places.len() {
+            if let Some((due, body)) = self.get(place) {
+                let item = copied(due, self.base + place as u64, body, each)?;
+                items.push(item)?;
+            }
+        }
+        Ok(items)
     }
 }
 
-// The index of the next item: there are at most 2^32 - 1.
-fn next_index<B>(items: &Vec<Item<B>>) -> Result<u32, NoMemory>
-    ensures index { IfOk result (λ k. k ≡ length items.now.items) }
+// Puts an item at a place of its own, or changes nothing. Returns the place.
+#[inline(always)]
+fn put_in<B: Drop>(
+    wheel: &mut Wheel,
+    bodies: &mut Vec<Option<B>>,
+    due: u64,
+    serial: u64,
+    body: B,
+) -> Result<u32, NoMemory>
+    requires small { serial < 2 ^ 40 }
+    requires fresh { (k d : ℕ) → key_at wheel.old k ≢ Some (d, serial) }
+    ensures put { IfOk result (λ k. IsPut k due serial body wheel.old wheel.new bodies.old.items bodies.new.items) }
+    ensures keys { OnErr result (HasSame wheel.old wheel.new) }
+    ensures bodies { OnErr result (HasSameBodies bodies.old.items bodies.new.items) }
     ensures small { IfOk result (λ k. k < 4294967295) }
 {
-    let next = items.len();
-    if next >= u32::MAX as usize {
+    bodies.reserve(1)?;
+    let at = wheel.free_place()?;
+    put_body(bodies, at, body)?;
+    wheel.put(at, due, serial);
+    Ok(at)
+}
+
+// Puts a body at a place, or changes nothing. The wheel gives out its places in turn, so that none is skipped, and there is room for one more.
+#[inline(always)]
+fn put_body<B: Drop>(bodies: &mut Vec<Option<B>>, at: u32, body: B) -> Result<(), NoMemory>
+    ensures body { OnOk result (body_at bodies.new.items at ≡ Some body) }
+    ensures rest { (j : ℕ) → j ≢ at → body_at bodies.new.items j ≡ body_at bodies.old.items j }
+    ensures err { OnErr result (HasSameBodies bodies.old.items bodies.new.items) }
+{
+    let len = bodies.len();
+    if (at as usize) < len {
+        bodies[at as usize] = Some(body);
+        return Ok(());
+    }
+    if at as usize != len {
         return Err(NoMemory);
     }
-    Ok(next as u32)
+    match bodies.push(Some(body)) {
+        Ok(()) => Ok(()),
+        Err(_refused) => Err(NoMemory),
+    }
+}
+
+// Takes the item at a place out.
+#[inline(always)]
+fn take_out<B>(wheel: &mut Wheel, bodies: &mut Vec<Option<B>>, at: u32) -> Item<B>
+    requires key { IsSome (key_at wheel.old at) }
+    requires body { IsSome (body_at bodies.old.items at) }
+    ensures key { key_at wheel.old at ≡ Some (result.due, result.serial) }
+    ensures body { body_at bodies.old.items at ≡ Some result.body }
+    ensures taken { IsTaken at wheel.old wheel.new bodies.old.items bodies.new.items }
+{
+    let (due, serial) = wheel.remove(at);
+    let body = take_body(bodies, at);
+    Item { due, serial, body }
+}
+
+// Takes the body at a place out.
+#[inline(always)]
+fn take_body<B>(bodies: &mut Vec<Option<B>>, at: u32) -> B
+    requires { IsSome (body_at bodies.old.items at) }
+    ensures body { body_at bodies.old.items at ≡ Some result }
+    ensures rest { (j : ℕ) → j ≢ at → body_at bodies.new.items j ≡ body_at bodies.old.items j }
+{
+    bodies[at as usize].take().unwrap()
 }
 
 /// The capacity of a copy, which leaves some room for what comes next.
@@ -293,7 +351,7 @@ pub(crate) fn with_room(len: usize) -> usize
     len.saturating_add(len / 8).saturating_add(8)
 }
 
-/// Equal items, in a vector of this capacity.
+/// Equal items.
 pub(crate) fn copy_items<B: Drop, F: Fn(&B) -> Result<B, NoMemory>>(
     alloc: Global,
     items: &Vec<Item<B>>,
@@ -322,41 +380,23 @@ fn copy_item<B, F: Fn(&B) -> Result<B, NoMemory>>(
     requires equal { (x : B) (r : _) → FnReturnsAt F.Fn each.now x r → IfOk r (λ y. y ≡ x) }
     ensures { IfOk result (λ copied. copied ≡ item.now) }
 {
+    copied(item.due, item.serial, &item.body, each)
+}
+
+// An item with an equal body.
+fn copied<B, F: Fn(&B) -> Result<B, NoMemory>>(
+    due: u64,
+    serial: u64,
+    body: &B,
+    each: &F,
+) -> Result<Item<B>, NoMemory>
+    requires callable { F.IsAlwaysCallable each.now }
+    requires equal { (x : B) (r : _) → FnReturnsAt F.Fn each.now x r → IfOk r (λ y. y ≡ x) }
+    ensures { IfOk result (λ copied. copied ≡ record { due = due; serial = serial; body = body.now }) }
+{
     Ok(Item {
-        due: item.due,
-        serial: item.serial,
-        body: each(&item.body)?,
+        due,
+        serial,
+        body: each(body)?,
     })
-}
-
-// Equal places.
-fn copy_places(alloc: Global, places: &Vec<Link>) -> Result<Vec<Link>, NoMemory>
-    ensures { IfOk result (λ copied. copied.items ≡ places.now.items) }
-{
-    let mut copied = Vec::with_capacity(alloc, with_room(places.len()))?;
-    copied.extend_from_slice(places)?;
-    Ok(copied)
-}
-
-// The index of each slot's item among these, of which there are at most 2^32 - 1.
-fn make_places<B>(
-    alloc: Global,
-    items: &Vec<Item<B>>,
-    base: u64,
-    len: usize,
-) -> Result<Vec<Link>, NoMemory>
-    requires { IsPacked items.now.items base len }
-    ensures sparse { IfOk result (λ places. IsSparse items.now.items places.items base) }
-    ensures len { IfOk result (λ places. length places.items ≡ len) }
-{
-    let Ok(count) = u32::try_from(items.len()) else {
-        return Err(NoMemory);
-    };
-    let mut places = Vec::with_capacity(alloc, with_room(len))?;
-    places.resize(len, Link::none())?;
-    for index in 0..count {
-        let item = &items[index as usize];
-        places[(item.serial - base) as usize] = Link::to(index);
-    }
-    Ok(places)
 }

@@ -1,39 +1,35 @@
-//! What a queue is made of. Each of its parts may be out of step with the others while one change is under way.
+//! A queue's operations, by its slots.
 ghost use Rattle.std.specs.Prelude.{◌≡◌, ℕ, ◌+◌, ◌^◌, ◌<◌, ◌≤◌, OnOk, OnErr, IfOk, IfSome, IfNone, length, Bool};
 ghost use Rattle.std.specs.Fn.{FnReturnsAt};
 ghost use Rattle.std.specs.Option.{option_map};
 ghost use Rattle.sim_queue.specs.Items.{item_of};
-ghost use Rattle.sim_queue.specs.Pending.{none_pending, IsPending, HasNewest, Decides, first, insert, take, put_back, uninsert, newest, next_taken, with_serial};
-ghost use Rattle.sim_queue.specs.Slots.{is_live};
-ghost use Rattle.sim_queue.specs.Store.{pending_in, IsCovered, IsKeyed};
+ghost use Rattle.sim_queue.specs.Pending.{none_pending, IsPending, HasNewest, IsQueue, Rise, Decides, first, insert, take, put_back, uninsert, newest, next_taken, with_serial};
+ghost use Rattle.sim_queue.specs.Packed.{packed};
+ghost use Rattle.sim_queue.specs.Store.{pending_in, IsKeyed};
 
-use crate::agenda::Agenda;
 use crate::packed::PackedQueue;
 use crate::slots::Slots;
 use crate::{Item, NoMemory};
 use std::alloc::Global;
 
-/// The items in slots, and their keys. It has no invariant: each call says what it asks for and what it leaves.
+/// The items in slots. It has no invariant: each call says what it asks for and what it leaves.
 #[derive(Drop)]
 pub(crate) struct Store<B> {
-    // Each pending item's due and body, by its serial.
     slots: Slots<B>,
-    // The due and serial of each pending item, and of some that no longer are.
-    order: Agenda,
 }
 
 impl<B> Store<B> {
-    pub(crate) fn new(alloc: Global) -> Store<B>
+    pub(crate) fn new(alloc: Global, width: u32) -> Store<B>
+        requires { width ≤ 56 }
         ensures pending { pending_in result ≡ none_pending }
         ensures keyed { IsKeyed result }
     {
         Store {
-            slots: Slots::new(alloc),
-            order: Agenda::new(alloc),
+            slots: Slots::new(alloc, 0, width),
         }
     }
 
-    /// Adds an item, and drops empty slots and dead keys where there are many.
+    /// Adds an item, and drops empty slots where there are many.
     #[inline(always)]
     pub(crate) fn add(&mut self, due: u64, body: B) -> Result<u64, NoMemory>
     where
@@ -46,10 +42,7 @@ impl<B> Store<B> {
         ensures keyed { IsKeyed self.new }
     {
         self.trim();
-        self.order.rebuild(&self.slots);
-        let added = self.push_slot(due, body);
-        self.clean();
-        added
+        self.slots.push(due, body)
     }
 
     /// The first item.
@@ -57,9 +50,19 @@ impl<B> Store<B> {
         requires { IsKeyed self.now }
         ensures { option_map (λ r. item_of r.1 (r.0, r.2.now)) result ≡ first (pending_in self.now).items }
     {
-        let (due, serial) = self.order.first()?;
-        let (_due, body) = self.slots.get((serial - self.slots.base()) as usize)?;
-        Some((due, serial, body))
+        let place = self.slots.first()?;
+        let (due, body) = self.slots.get(place)?;
+        Some((due, self.slots.base() + place as u64, body))
+    }
+
+    /// The due and the body of the item of a serial.
+    pub(crate) fn get(&self, serial: u64) -> Option<(u64, &B)>
+        ensures { option_map (λ r. item_of serial (r.0, r.1.now)) result ≡ with_serial serial (pending_in self.now).items }
+    {
+        if serial < self.slots.base() {
+            return None;
+        }
+        self.slots.get((serial - self.slots.base()) as usize)
     }
 
     /// The least serial, of at least this one, of an item whose body the test takes.
@@ -97,11 +100,8 @@ impl<B> Store<B> {
         ensures none { IfNone result (pending_in self.new ≡ pending_in self.old) }
         ensures keyed { IsKeyed self.new }
     {
-        let (_due, serial) = self.order.pop()?;
-        let place = (serial - self.slots.base()) as usize;
-        let item = self.slots.take(place);
-        self.clean();
-        item
+        let place = self.slots.first()?;
+        self.slots.take(place)
     }
 
     /// Takes the item of a serial out.
@@ -118,10 +118,7 @@ impl<B> Store<B> {
         if place >= self.slots.len() {
             return None;
         }
-        let item = self.slots.take(place)?;
-        self.order.forget(item.due, serial);
-        self.clean();
-        Some(item)
+        self.slots.take(place)
     }
 
     /// Takes the newest item out, with its slot.
@@ -132,10 +129,7 @@ impl<B> Store<B> {
         ensures rest { pending_in self.new ≡ uninsert (pending_in self.old) }
         ensures keyed { IsKeyed self.new }
     {
-        let item = self.slots.pop();
-        self.order.forget(item.due, item.serial);
-        self.clean();
-        item
+        self.slots.pop()
     }
 
     /// Puts an item back, or changes nothing.
@@ -150,14 +144,12 @@ impl<B> Store<B> {
         ensures keyed { IsKeyed self.new }
     {
         self.widen(item.serial)?;
-        self.order.rebuild(&self.slots);
-        let added = self.fill_slot(item);
-        self.clean();
-        added
+        let Item { due, serial, body } = item;
+        let place = (serial - self.slots.base()) as usize;
+        self.slots.fill(place, due, body)
     }
 
-    /// Equal pending items, each body as `each` copies it. Where most places for keys are free, as after a burst, the keys are made
-    /// anew, so that the copy takes no memory for free places.
+    /// Equal pending items, each body as `each` copies it.
     pub(crate) fn copy<F: Fn(&B) -> Result<B, NoMemory>>(
         &self,
         alloc: Global,
@@ -171,14 +163,8 @@ impl<B> Store<B> {
         ensures pending { IfOk result (λ s. pending_in s ≡ pending_in self.now) }
         ensures keyed { IfOk result (λ s. IsKeyed s) }
     {
-        let slots = self.slots.copy(alloc, each)?;
-        if self.order.is_sparse(slots.count()) {
-            return Store::of(alloc, slots);
-        }
-        Ok(Store {
-            slots,
-            order: self.order.copy()?,
-        })
+        let items = self.slots.pack(alloc, each)?;
+        Store::of(alloc, items, self.next_serial(), self.slots.width())
     }
 
     /// Equal pending items without their keys and places, each body as `each` copies it.
@@ -195,108 +181,32 @@ impl<B> Store<B> {
         ensures { IfOk result (λ p. p ≡ pending_in self.now) }
     {
         let items = self.slots.pack(alloc, each)?;
-        Ok(PackedQueue::of(items, self.slots.base(), self.slots.len()))
+        Ok(PackedQueue::of(items, self.next_serial(), self.slots.width()))
     }
 
-    /// The items in these slots, whose keys are made anew.
-    pub(crate) fn of(alloc: Global, slots: Slots<B>) -> Result<Store<B>, NoMemory>
+    /// These items, which stand in the order of their serials.
+    pub(crate) fn of(
+        alloc: Global,
+        items: Vec<Item<B>>,
+        next_serial: u64,
+        width: u32,
+    ) -> Result<Store<B>, NoMemory>
     where
         B: Drop,
-        requires { slots.base + length slots.items ≤ 2 ^ 40 }
-        ensures slots { IfOk result (λ s. s.slots ≡ slots) }
+        requires items { IsQueue (packed items.items next_serial) }
+        requires small { next_serial ≤ 2 ^ 40 }
+        requires width { width ≤ 56 }
+        ensures pending { IfOk result (λ s. pending_in s ≡ packed items.items next_serial) }
         ensures keyed { IfOk result (λ s. IsKeyed s) }
     {
-        let order = Agenda::of(alloc, &slots)?;
-        let mut store = Store { slots, order };
-        store.clean();
+        let base = first_serial(&items, next_serial);
+        let mut store = Store {
+            slots: Slots::empty(alloc, base, (next_serial - base) as usize, width)?,
+        };
+        for item in items {
+            store.add_back(item)?;
+        }
         Ok(store)
-    }
-
-    // Whether the item of this due and serial is pending.
-    fn is_pending(&self, due: u64, serial: u64) -> bool
-        ensures { result ≡ is_live due serial self.now.slots.items self.now.slots.base }
-    {
-        if serial < self.slots.base() {
-            return false;
-        }
-        match self.slots.get((serial - self.slots.base()) as usize) {
-            Some((d, _body)) => due == d,
-            None => false,
-        }
-    }
-
-    // Takes the first keys out, up to that of a pending item: where there are as many keys as items, the first one is.
-    #[inline(always)]
-    fn clean(&mut self)
-        requires covered { IsCovered self.old }
-        requires small { (pending_in self.old).next_serial ≤ 2 ^ 40 }
-        ensures keyed { IsKeyed self.new }
-        ensures same { self.new ≡ record self.old { order = self.new.order } }
-    {
-        if self.order.has_as_many_as(self.slots.count()) {
-            return;
-        }
-        self.drop_dead();
-    }
-
-    // Takes the first keys out, up to that of a pending item.
-    #[cold]
-    #[inline(never)]
-    fn drop_dead(&mut self)
-        requires covered { IsCovered self.old }
-        requires small { (pending_in self.old).next_serial ≤ 2 ^ 40 }
-        ensures keyed { IsKeyed self.new }
-        ensures same { self.new ≡ record self.old { order = self.new.order } }
-    {
-        while let Some((due, serial)) = self.order.first() {
-            if self.is_pending(due, serial) {
-                return;
-            }
-            self.order.pop();
-        }
-    }
-
-    // Adds an item behind the others, or changes nothing.
-    #[inline(always)]
-    fn push_slot(&mut self, due: u64, body: B) -> Result<u64, NoMemory>
-    where
-        B: Drop,
-        requires covered { IsCovered self.old }
-        requires room { (pending_in self.old).next_serial < 2 ^ 40 }
-        ensures serial { IfOk result (λ s. s ≡ (pending_in self.old).next_serial) }
-        ensures ok { OnOk result (pending_in self.new ≡ insert due body (pending_in self.old)) }
-        ensures err { OnErr result (pending_in self.new ≡ pending_in self.old) }
-        ensures covered { IsCovered self.new }
-    {
-        let serial = self.slots.push(due, body)?;
-        if let Err(_refused) = self.order.push(due, serial) {
-            self.slots.pop();
-            return Err(NoMemory);
-        }
-        Ok(serial)
-    }
-
-    // Puts an item back into its slot, or changes nothing.
-    fn fill_slot(&mut self, item: Item<B>) -> Result<(), NoMemory>
-    where
-        B: Drop,
-        requires covered { IsCovered self.old }
-        requires small { (pending_in self.old).next_serial ≤ 2 ^ 40 }
-        requires from { self.old.slots.base ≤ item.serial }
-        requires below { item.serial < (pending_in self.old).next_serial }
-        requires absent { ¬ (IsPending item.serial (pending_in self.old)) }
-        ensures ok { OnOk result (pending_in self.new ≡ put_back item (pending_in self.old)) }
-        ensures err { OnErr result (pending_in self.new ≡ pending_in self.old) }
-        ensures covered { IsCovered self.new }
-    {
-        let Item { due, serial, body } = item;
-        let place = (serial - self.slots.base()) as usize;
-        self.slots.fill(place, due, body)?;
-        if let Err(_refused) = self.order.push(due, serial) {
-            self.slots.take(place);
-            return Err(NoMemory);
-        }
-        Ok(())
     }
 
     // Drops the empty slots at the front, where one more slot would take memory.
@@ -352,4 +262,16 @@ fn before_first(needed: u64, len: u64, base: u64) -> u64
 {
     let many = if len < base { len } else { base };
     if needed < many { many } else { needed }
+}
+
+// The serial of the first of these items, and where there are none, the next serial.
+fn first_serial<B>(items: &Vec<Item<B>>, next_serial: u64) -> u64
+    requires { IsQueue (packed items.now.items next_serial) }
+    ensures below { result ≤ next_serial }
+    ensures rise { Rise result items.now.items next_serial }
+{
+    match items.first() {
+        Some(item) => item.serial,
+        None => next_serial,
+    }
 }

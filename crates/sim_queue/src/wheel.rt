@@ -1,169 +1,166 @@
-//! Keys in lists by their dues, of which the first is at hand.
-ghost use Rattle.std.specs.Prelude.{◌≡◌, ℕ, ◌<◌, length, IfSome, IfNone, IfOk, true};
-ghost use Rattle.std.specs.Bool.{OnTrue};
-ghost use Rattle.sim_queue.specs.Keys.{has, IsFirstKey, HasNone, Keeps, KeepsOthers};
-ghost use Rattle.sim_queue.specs.Wheel.{IsLinked, IsFrom, IsWheel};
-ghost use Rattle.sim_queue.specs.Marks.{HasMarks};
+//! Keys in lists by their days, of which the first is at hand.
+ghost use Rattle.std.specs.Prelude.{◌≡◌, ◌≢◌, ℕ, ◌^◌, ◌<◌, ◌≤◌, Some, None, IfOk, IfSome, IfNone};
+ghost use Rattle.std.specs.Option.{IsSome};
+ghost use Rattle.sim_queue.specs.Lists.{IsLists};
+ghost use Rattle.sim_queue.specs.Wheel.{key_at, HasNone, HasSame, HasSameBut, IsPlace, IsFirst, HasMarks, Fits64, IsFrom, IsFloor};
 
 use crate::NoMemory;
-use crate::lists::Lists;
+use crate::lists::{LISTS, Lists};
+use crate::marks::Marks;
 use std::alloc::Global;
 use std::marker::Model;
 
-/// Keys, each in a list of those that are due at the same time modulo 256.
+/// Keys at places, each in the list of its day.
 #[derive(Drop)]
 pub(crate) struct Wheel {
     lists: Lists,
+    // The days of all keys are marked.
+    marks: Marks,
     // The least due, and the greatest of all times where there are no keys.
     floor: u64,
 }
 
 impl Model for Wheel {
-    ghost use Rattle.std.specs.Prelude.{ℕ, List};
-    ghost use Rattle.sim_queue.specs.Wheel.{keys_of, IsWheel, IsCounted};
-    ghost use Rattle.sim_queue.specs.Marks.{HasMarks};
+    ghost use Rattle.std.specs.Prelude.{ℕ, List, Option};
+    ghost use Rattle.sim_queue.specs.Wheel.{keys_of, IsWheel};
 
-    ghost Value = { List (ℕ × ℕ) };
+    ghost Value = { List (Option (ℕ × ℕ)) };
 
     ghost view = { λ w. keys_of w.lists.nodes.items };
 
-    ghost invariant = { λ w. IsWheel w.lists.ends.items w.lists.nodes.items w.floor × IsCounted w.lists.count w.lists.nodes.items × HasMarks w.lists.marks.words w.lists.nodes.items };
+    ghost invariant = { λ w. IsWheel w.lists.width w.lists.nodes.items w.marks.words w.floor };
 }
 
 impl Wheel {
-    /// No keys. Where there is no memory for all lists, it takes no keys of the others in.
-    pub(crate) fn new(alloc: Global) -> Wheel
+    /// No keys. A day has 2 to the power of `width` milliseconds.
+    pub(crate) fn new(alloc: Global, width: u32) -> Wheel
+        requires { width ≤ 56 }
         ensures { HasNone result }
     {
         Wheel {
-            lists: Lists::new(alloc),
+            lists: Lists {
+                nodes: Vec::new(alloc),
+                free: 0,
+                width,
+            },
+            marks: Marks::new(),
             floor: u64::MAX,
         }
     }
 
-    /// Adds a key, if there is memory and its list has a place for it: behind keys with earlier serials that are not due later.
-    #[inline(always)]
-    pub(crate) fn push(&mut self, due: u64, serial: u64) -> bool
-        ensures kept { Keeps self.old self.new }
-        ensures added { OnTrue result (has due serial self.new ≡ true) }
+    /// The width of a day.
+    pub(crate) fn width(&self) -> u32
+        ensures { result ≤ 56 }
     {
-        if !self.lists.add(due, serial) {
-            return false;
-        }
-        if due < self.floor {
-            self.floor = due;
-        }
-        true
+        self.lists.width
     }
 
-    /// The first key.
+    /// A place without a key.
     #[inline(always)]
-    pub(crate) fn first(&self) -> Option<(u64, u64)>
-        ensures first { IfSome result (λ k. IsFirstKey k.0 k.1 self.now) }
+    pub(crate) fn free_place(&mut self) -> Result<u32, NoMemory>
+        ensures place { IfOk result (λ p. IsPlace p self.new) }
+        ensures small { IfOk result (λ p. p < 4294967295) }
+        ensures same { HasSame self.old self.new }
+    {
+        Ok(self.lists.free_place()? - LISTS)
+    }
+
+    /// Puts a key at a place.
+    #[inline(always)]
+    pub(crate) fn put(&mut self, place: u32, due: u64, serial: u64)
+        requires place { IsPlace place self.old }
+        requires small { serial < 2 ^ 40 }
+        requires fresh { (k d : ℕ) → key_at self.old k ≢ Some (d, serial) }
+        ensures there { key_at self.new place ≡ Some (due, serial) }
+        ensures others { HasSameBut place self.old self.new }
+    {
+        let before = self.lists.spot(due, serial);
+        self.lists.join(place + LISTS, before, due, serial);
+        self.marks.set(self.lists.day(due));
+        self.floor = self.floor.min(due);
+    }
+
+    /// Takes the key at a place out, and returns its due and its serial.
+    #[inline(always)]
+    pub(crate) fn remove(&mut self, place: u32) -> (u64, u64)
+        requires { IsSome (key_at self.old place) }
+        ensures key { key_at self.old place ≡ Some (result.0, result.1) }
+        ensures gone { key_at self.new place ≡ None }
+        ensures others { HasSameBut place self.old self.new }
+    {
+        let node = self.lists.leave(place + LISTS);
+        self.marks
+            .clear_if(node.before == node.after, self.lists.day(node.due));
+        self.floor = floor_after(&self.lists, &self.marks, self.floor, node.due);
+        (node.due, node.serial)
+    }
+
+    /// The due and the serial of the key at a place.
+    #[inline(always)]
+    pub(crate) fn key(&self, place: u32) -> (u64, u64)
+        requires { IsSome (key_at self.now place) }
+        ensures { key_at self.now place ≡ Some (result.0, result.1) }
+    {
+        let node = self.lists.nodes[(place + LISTS) as usize];
+        (node.due, node.serial)
+    }
+
+    /// The place of the first key.
+    #[inline(always)]
+    pub(crate) fn first(&self) -> Option<u32>
+        ensures first { IfSome result (λ p. IsFirst p self.now) }
         ensures none { IfNone result (HasNone self.now) }
     {
-        let first = self.lists.first_due(self.floor)?;
-        Some((first.due, first.serial))
-    }
-
-    /// How many keys there are.
-    #[inline(always)]
-    pub(crate) fn len(&self) -> usize
-        ensures { result ≡ length self.now }
-    {
-        self.lists.count
-    }
-
-    /// How many keys its nodes have places for.
-    pub(crate) fn places(&self) -> usize {
-        self.lists.nodes.len()
-    }
-
-    /// Takes memory for so many more places.
-    pub(crate) fn reserve(&mut self, places: usize) -> Result<(), NoMemory>
-        ensures { self.new ≡ self.old }
-    {
-        self.lists.nodes.reserve(places)
-    }
-
-    /// Takes the first key out.
-    #[inline(always)]
-    pub(crate) fn pop(&mut self) -> Option<(u64, u64)>
-        ensures first { IfSome result (λ k. IsFirstKey k.0 k.1 self.old) }
-        ensures others { IfSome result (λ k. KeepsOthers k.0 k.1 self.old self.new) }
-        ensures fewer { IfSome result (λ k. length self.new < length self.old) }
-        ensures none { IfNone result (HasNone self.old) }
-        ensures same { IfNone result (self.new ≡ self.old) }
-    {
-        let first = self.lists.first_due(self.floor)?;
-        let head = self.lists.head(self.floor)?;
-        let key = (first.due, first.serial);
-        self.lists.remove_first(head, first);
-        self.floor = settled(&self.lists, self.floor);
-        Some(key)
-    }
-
-    /// Takes a key out, if its list leads to it; else it may stay.
-    pub(crate) fn forget(&mut self, due: u64, serial: u64)
-        ensures { KeepsOthers due serial self.old self.new }
-    {
-        self.lists.forget(due, serial);
-        self.floor = settled(&self.lists, self.floor);
-    }
-
-    /// The same keys.
-    pub(crate) fn copy(&self) -> Result<Wheel, NoMemory>
-        ensures { IfOk result (λ w. w ≡ self.now) }
-    {
-        Ok(Wheel {
-            lists: self.lists.copy()?,
-            floor: self.floor,
-        })
+        Some(self.lists.head(self.lists.day(self.floor) % 256)? - LISTS)
     }
 }
 
-// The least due: most likely the next one that is marked.
+// The floor, once a key of this due was taken out.
 #[inline(always)]
-fn settled(lists: &Lists, floor: u64) -> u64
-    requires linked { IsLinked lists.now.ends.items lists.now.nodes.items }
-    requires marked { HasMarks lists.now.marks.words lists.now.nodes.items }
+fn floor_after(lists: &Lists, marks: &Marks, floor: u64, due: u64) -> u64
+    requires narrow { lists.now.width ≤ 56 }
+    requires lists { IsLists lists.now.width lists.now.nodes.items }
+    requires marked { HasMarks lists.now.width marks.now.words lists.now.nodes.items }
     requires from { IsFrom floor lists.now.nodes.items }
-    ensures { IsWheel lists.now.ends.items lists.now.nodes.items result }
+    requires stays { due ≢ floor → IsFloor floor lists.now.nodes.items }
+    ensures { IsFloor result lists.now.nodes.items }
 {
-    if let Some(distance) = lists.marks.distance(floor) {
-        let due = floor + distance;
-        if lists.first_due(due).is_some() {
-            return due;
-        }
+    if due != floor {
+        return floor;
     }
-    searched(lists, floor)
+    least_from(lists, marks, floor)
 }
 
-// The least due: from one marked due to the next, once through all lists, and then among all nodes.
+// The least due, of which none is before the floor: from one marked day to the next, once through all lists. The first key of a list
+// is its least, so where none is due within 256 days, the least of these first keys is the first of all.
 #[inline(never)]
-fn searched(lists: &Lists, floor: u64) -> u64
-    requires linked { IsLinked lists.now.ends.items lists.now.nodes.items }
-    requires marked { HasMarks lists.now.marks.words lists.now.nodes.items }
+fn least_from(lists: &Lists, marks: &Marks, floor: u64) -> u64
+    requires narrow { lists.now.width ≤ 56 }
+    requires lists { IsLists lists.now.width lists.now.nodes.items }
+    requires marked { HasMarks lists.now.width marks.now.words lists.now.nodes.items }
     requires from { IsFrom floor lists.now.nodes.items }
-    ensures { IsWheel lists.now.ends.items lists.now.nodes.items result }
+    ensures { IsFloor result lists.now.nodes.items }
 {
-    // Where a word of marks begins: the fifth word on has the rest of the lists of the first one.
-    let end = floor.saturating_add(320) / 64 * 64;
-    let mut due = floor;
-    while due < end {
-        match lists.marks.distance(due) {
-            Some(distance) => {
-                due += distance;
-                if lists.first_due(due).is_some() {
-                    return due;
-                }
-                due += 1;
+    // Days are counted from the last one before the floor that is a multiple of 256.
+    let first_day = lists.day(floor);
+    let start = first_day - first_day % 256;
+    let mut day = first_day % 256;
+    let end = (day + 320) / 64 * 64;
+    let mut least = u64::MAX;
+    while day < end {
+        let Some(distance) = marks.distance(day) else {
+            day = day / 64 * 64 + 64;
+            continue;
+        };
+        day += distance;
+        if let Some(place) = lists.head(day % 256) {
+            let due = lists.nodes[place as usize].due;
+            if lists.day(due) - start == day {
+                return due;
             }
-            None => due = due / 64 * 64 + 64,
+            least = least.min(due);
         }
+        day += 1;
     }
-    match lists.least_due() {
-        Some(due) => due,
-        None => u64::MAX,
-    }
+    least
 }

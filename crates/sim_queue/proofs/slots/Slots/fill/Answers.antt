@@ -1,49 +1,63 @@
-use Rattle.std.proofs.Common.{◌≡◌, ◌<◌, vec_len, refl, ap, ◌∙◌, Some}
+use Rattle.std.proofs.Common.{◌≡◌, ◌+◌, ◌-◌, ℕ, Some, ap, sym, refl, ◌∙◌, arith, length}
 use Rattle.std.proofs.Math.ListN.{set}
 use Rattle.sim_queue.specs.Slots.{at}
-use Rattle.sim_queue.specs.Sparse.{SlotList, slots_of}
-use Rattle.sim_queue.proofs.Sparse.{below_room, err_on_ok, err_on_err, filled_slots, filled_sparse, no_index, within_slots}
+use Rattle.sim_queue.specs.Items.{items_from}
+use Rattle.sim_queue.specs.Sparse.{SlotList, slots_of, index_at}
+use Rattle.sim_queue.proofs.Sparse.{no_index, length_slots, items_within, fresh_next, kept_sparse, filled_slots, filled_sparse}
 use Rattle.sim_queue.proofs.slots.Slots.fill.Goals as goal
+
+pub put_in-requires-clause-fresh : goal.put_in-requires-clause-fresh
+put_in-requires-clause-fresh g c =
+    let keys = c.self.inside.wheel in
+    let bodies = c.self.inside.bodies.items in
+    let places = c.self.inside.places.items in
+    let base = c.self.inside.base in
+    let count = c.self.inside.count in
+    let slots : slots_of keys bodies places ≡ c.args.self.now.items = ap (λ (s : SlotList _). s.items) c.self.view_is in
+    let none = no_index keys bodies places base count c.args.place c.self.invariant (ap (λ s. at s c.args.place) slots ∙ c.requires.empty) in
+    let e : base + c.args.place - base ≡ c.args.place = omega arith in
+    fresh_next keys bodies places base count (base + c.args.place) c.self.invariant (ap (λ (n : ℕ). index_at places n) e ∙ none)
+
+pub invariant_of-self : goal.invariant_of-self
+invariant_of-self g c =
+    kept_sparse c.self.inside.wheel c.put_in.new.wheel c.self.inside.bodies.items c.put_in.new.bodies.items c.self.inside.places.items c.self.inside.base c.self.inside.count
+    c.in_err-at.ensures.keys c.in_err-at.ensures.bodies c.self.invariant
+
+pub overflow_add-self : goal.overflow_add-self
+overflow_add-self g c =
+    let keys = c.self.inside.wheel in
+    let bodies = c.self.inside.bodies.items in
+    let places = c.self.inside.places.items in
+    let base = c.self.inside.base in
+    let count = c.self.inside.count in
+    let slots : slots_of keys bodies places ≡ c.args.self.now.items = ap (λ (s : SlotList _). s.items) c.self.view_is in
+    let a : count ≡ length (items_from base (slots_of keys bodies places)) = c.self.invariant.counted in
+    let b = items_within base (slots_of keys bodies places) in
+    let l : length (slots_of keys bodies places) ≡ length c.args.self.now.items = ap (λ s. length s) slots in
+    omega arith
 
 pub invariant_of-self-2 : goal.invariant_of-self-2
 invariant_of-self-2 g c =
-    let slots : slots_of c.self.inside.items.items c.self.inside.places.items ≡ c.args.self.now.items = ap (λ (s : SlotList _). s.items) c.self.view_is in
-    let none = no_index c.self.inside.items.items c.self.inside.places.items c.self.inside.base c.args.place c.self.invariant
-    (ap (λ s. at s c.args.place) slots ∙ c.requires.empty) in
-    let within = within_slots c.self.inside.items.items c.self.inside.places.items c.args.self.now.items c.args.place slots c.requires.within in
-    rw (c.to.ensures, c.push_reserved.ensures.items, c.reserve.ensures.items)
-    (filled_sparse c.self.inside.items.items c.self.inside.places.items c.self.inside.base c.args.place c.in_ok-index.index _ c.in_ok-index.ensures.index refl within none c.self.invariant)
+    let keys = c.self.inside.wheel in
+    let bodies = c.self.inside.bodies.items in
+    let places = c.self.inside.places.items in
+    let base = c.self.inside.base in
+    let count = c.self.inside.count in
+    let slots : slots_of keys bodies places ≡ c.args.self.now.items = ap (λ (s : SlotList _). s.items) c.self.view_is in
+    let none = no_index keys bodies places base count c.args.place c.self.invariant (ap (λ s. at s c.args.place) slots ∙ c.requires.empty) in
+    let l : length places ≡ length c.args.self.now.items = sym (length_slots keys bodies places) ∙ ap (λ s. length s) slots in
+    rw c.to.ensures
+    (filled_sparse keys c.put_in.new.wheel bodies c.put_in.new.bodies.items c.in_ok-at.at c.args.due (base + c.args.place) c.args.body c.in_ok-at.ensures.put places base count c.self.invariant
+    c.args.place refl (omega arith) none)
 
 pub returns-clause-ok : goal.returns-clause-ok
 returns-clause-ok g c =
-    let slots : slots_of c.self.inside.items.items c.self.inside.places.items ≡ c.args.self.now.items = ap (λ (s : SlotList _). s.items) c.self.view_is in
-    rw (c.to.ensures, c.push_reserved.ensures.items, c.reserve.ensures.items)
-    (filled_slots c.self.inside.items.items c.self.inside.places.items c.self.inside.base c.args.place c.in_ok-index.index _ c.in_ok-index.ensures.index c.self.invariant
-    ∙ ap (λ s. set s c.args.place (Some (c.args.due, c.args.body))) slots)
-
-pub index_mut-requires : goal.index_mut-requires
-index_mut-requires g c =
-    let slots : slots_of c.self.inside.items.items c.self.inside.places.items ≡ c.args.self.now.items = ap (λ (s : SlotList _). s.items) c.self.view_is in
-    let within : c.args.place < vec_len c.self.inside.places =
-    rw c.self.inside.places.ok.0 (within_slots c.self.inside.items.items c.self.inside.places.items c.args.self.now.items c.args.place slots c.requires.within) in
-    within
-
-pub push_reserved-requires : goal.push_reserved-requires
-push_reserved-requires g c = below_room _ _ c.in_ok-reserve.ensures.ok
-
-pub invariant_of-self : goal.invariant_of-self
-invariant_of-self g c = rw c.reserve.ensures.items c.self.invariant
-
-pub returns-in_err-index : goal.returns-in_err-index
-returns-in_err-index g c = record {
-  ok = err_on_ok c.from_residual.result _ c.from_residual.ensures.0;
-  err = err_on_err c.from_residual.result (refl);
-  base = refl;
-}
-
-pub returns-in_err-reserve : goal.returns-in_err-reserve
-returns-in_err-reserve g c = record {
-  ok = err_on_ok c.from_residual-in_err-reserve.result _ c.from_residual-in_err-reserve.ensures.0;
-  err = err_on_err c.from_residual-in_err-reserve.result (rw c.reserve.ensures.items (ap (λ (s : SlotList _). s.items) c.self.view_is));
-  base = ap (λ (s : SlotList _). s.base) c.self.view_is;
-}
+    let keys = c.self.inside.wheel in
+    let bodies = c.self.inside.bodies.items in
+    let places = c.self.inside.places.items in
+    let base = c.self.inside.base in
+    let count = c.self.inside.count in
+    let slots : slots_of keys bodies places ≡ c.args.self.now.items = ap (λ (s : SlotList _). s.items) c.self.view_is in
+    rw c.to.ensures
+    (filled_slots keys c.put_in.new.wheel bodies c.put_in.new.bodies.items c.in_ok-at.at c.args.due (base + c.args.place) c.args.body c.in_ok-at.ensures.put places base count c.self.invariant
+    c.args.place ∙ ap (λ s. set s c.args.place (Some (c.args.due, c.args.body))) slots)

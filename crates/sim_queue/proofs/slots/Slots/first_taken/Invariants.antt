@@ -1,11 +1,7 @@
-use Rattle.std.proofs.Common.{◌≡◌, ◌≤◌, Bool, length}
+use Rattle.std.proofs.Common.{Bool}
 use Rattle.sim_queue.specs.Pending.{Decides}
-use Rattle.sim_queue.proofs.Search.{IsLeast}
+use Rattle.sim_queue.specs.Slots.{Skips}
 use Rattle.sim_queue.proofs.slots.Slots.first_taken.Given as goal
 
-abbrev pub invariant-loop-index : goal.invariant-loop-index
-invariant-loop-index g l = record {
-  within : l.least ≤ length l.self-inside.places.items;
-  searched : (p : g.row.B.Denot → Bool) → Decides g.F.Fn l.test p
-      → IsLeast p l.self-inside.items.items l.self-inside.places.items l.self-inside.base l.start l.index l.least;
-}
+abbrev pub invariant-loop-place : goal.invariant-loop-place
+invariant-loop-place g l = (p : g.row.B.Denot → Bool) → Decides g.F.Fn l.test p → Skips p l.self.items l.start l.place

@@ -1,33 +1,29 @@
-use Rattle.std.proofs.Common.{◌≡◌, ◌+◌, ◌≤◌, ◌^◌, sym, subst, length, Result, Ok, Err, IfOk}
-use Rattle.sim_queue.specs.Items.{pending}
-use Rattle.sim_queue.specs.Packed.{packed, IsPacked}
+use Rattle.std.proofs.Common.{◌≡◌, ◌<◌, ◌+◌, ℕ, [], ◌∷◌, ◌++◌, Some, None, ap, sym, ◌∙◌, arith, length}
+use Rattle.sim_queue.specs.declared.Item.{Item}
+use Rattle.sim_queue.specs.Items.{item_of}
 use Rattle.sim_queue.specs.Sparse.{SlotList, slots_of}
-use Rattle.sim_queue.proofs.Packing.{packed-slots}
-use Rattle.sim_queue.proofs.Sparse.{length_slots}
+use Rattle.sim_queue.proofs.Sparse.{length_slots, packed_more}
 use Rattle.sim_queue.proofs.slots.Slots.pack.Goals as goal
+use Rattle.sim_queue.proofs.slots.Slots.pack.Goals.{in-Some+in_ok-item+in_ok-push, in_default}
 
--- what is true of the items is true of those that are copied
-of_copied : {X V E : Type 0} (r : Result V E) (f : V → X) (x : X) (P : X → Type 0) → IfOk r (λ v. f v ≡ x) → P x → IfOk r (λ v. P (f v))
-of_copied (Ok v) f x P is p = subst P (sym is) p
-of_copied (Err e) f x P is p = tt
-
-pub returns-clause-pending : goal.returns-clause-pending
-returns-clause-pending g c =
-    let items = c.self.inside.items.items in
+pub loop-place-preserved : goal.loop-place-preserved
+loop-place-preserved g c =
+    let keys = c.self.inside.wheel in
+    let bodies = c.self.inside.bodies.items in
     let places = c.self.inside.places.items in
-    let same : packed items c.self.inside.base (length (slots_of items places)) ≡ pending c.self.inside.base (slots_of items places) =
-    packed-slots items places c.self.inside.base (length (slots_of items places)) (sym (length_slots items places)) c.self.invariant in
-    of_copied c.copy_items.result (λ v. v.items) items (λ xs. packed xs c.args.self.now.base (length c.args.self.now.items) ≡ pending c.args.self.now.base c.args.self.now.items)
-    c.copy_items.ensures (rw (← c.self.view_is) same)
-
-pub returns-clause-places : goal.returns-clause-places
-returns-clause-places g c =
-    let items = c.self.inside.items.items in
-    let places = c.self.inside.places.items in
-    let whole : IsPacked items c.self.inside.base (length (slots_of items places)) = record {
-      places = places;
-      count = sym (length_slots items places);
-      sparse = c.self.invariant;
-      small = subst (λ (s : SlotList _). s.base + length s.items ≤ 2 ^ 40) (sym c.self.view_is) c.requires.small;
-    } in
-    of_copied c.copy_items.result (λ v. v.items) items (λ xs. IsPacked xs c.args.self.now.base (length c.args.self.now.items)) c.copy_items.ensures (rw (← c.self.view_is) whole)
+    let items = c.args.self.now.items in
+    let i = c.loop-place.place in
+    let slots : slots_of keys bodies places ≡ items = ap (λ (s : SlotList _). s.items) c.self.view_is in
+    let base : c.self.inside.base ≡ c.args.self.now.base = ap (λ (s : SlotList _). s.base) c.self.view_is in
+    let l : length places ≡ length items = sym (length_slots keys bodies places) ∙ ap (λ s. length s) slots in
+    let end : c.len-place-end.result ≡ length places = c.len-place-end.ensures ∙ c.self.inside.places.ok.0 in
+    let within : i < length items = omega arith in
+    elim c.match-get.branch [
+      | in-Some+in_ok-item+in_ok-push w ↦
+          let item : w.in_ok-item.item ≡ item_of (c.args.self.now.base + i) (w.in-Some.due, w.in-Some.body.now) =
+          w.in_ok-item.ensures ∙ ap (λ (n : ℕ). item_of (n + i) (w.in-Some.due, w.in-Some.body.now)) base in
+          rw w.items-is
+          (w.in_ok-push.ensures.items ∙ ap (λ (x : Item _). c.loop-place.items.items ++ x ∷ []) item
+          ∙ packed_more c.args.self.now.base i (Some (w.in-Some.due, w.in-Some.body.now)) items c.loop-place.items.items within w.in-Some.ensures c.loop-place.invariant)
+      | in_default w ↦ rw w.items-is (packed_more c.args.self.now.base i None items c.loop-place.items.items within w.in_default.ensures c.loop-place.invariant)
+    ]

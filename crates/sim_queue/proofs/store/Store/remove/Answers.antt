@@ -1,8 +1,7 @@
-use Rattle.std.proofs.Common.{rules, Some, ◌≡◌, ℕ, ◌+◌, ◌<◌, ◌≤◌, ◌-◌, length, refl, sym, ap, ◌∙◌, arith}
+use Rattle.std.proofs.Common.{rules, ◌≡◌, ℕ, ◌+◌, ◌<◌, ◌≤◌, ◌-◌, length, refl, sym, ap, ◌∙◌, arith}
 use Rattle.std.specs.Option.{option_map}
 use Rattle.sim_queue.specs.Items.{item_of}
 use Rattle.sim_queue.specs.Slots.{at}
-use Rattle.sim_queue.specs.Store.{pending_in}
 use Rattle.sim_queue.proofs.Views.{taken_from, found_from, with-low, none_past, take_none}
 use Rattle.sim_queue.proofs.store.Store.remove.Goals as goal
 
@@ -28,27 +27,11 @@ returns-then-place-len-clause-rest g c =
     let past : length c.args.self.now.slots.items ≤ c.args.serial - c.args.self.now.slots.base = search rules in
     sym (take_none c.args.serial c.args.self.now.slots.base c.args.self.now.slots.items (none_past c.args.serial c.args.self.now.slots.base c.args.self.now.slots.items from past))
 
-pub returns-in_err-item-clause-item : goal.returns-in_err-item-clause-item
-returns-in_err-item-clause-item g c =
-    let from : c.args.self.now.slots.base ≤ c.args.serial = rw (← c.base.ensures) c.if-serial-base.false in
-    let serial : c.args.self.now.slots.base + (c.args.serial - c.args.self.now.slots.base) ≡ c.args.serial = omega arith in
-    let item : c.take.result
-    ≡ option_map (item_of (c.args.self.now.slots.base + (c.args.serial - c.args.self.now.slots.base))) (at c.args.self.now.slots.items (c.args.serial - c.args.self.now.slots.base)) =
-    search rules in
-    let none : c.from_residual.result ≡ c.take.result = search rules in
-    none ∙ item ∙ ap (λ (m : ℕ). option_map (item_of m) (at c.args.self.now.slots.items (c.args.serial - c.args.self.now.slots.base))) serial
-    ∙ found_from c.args.serial c.args.self.now.slots.base c.args.self.now.slots.items _ from refl
-
-pub returns-in_err-item-clause-rest : goal.returns-in_err-item-clause-rest
-returns-in_err-item-clause-rest g c =
-    let from : c.args.self.now.slots.base ≤ c.args.serial = rw (← c.base.ensures) c.if-serial-base.false in
-    rw c.take.ensures.base (taken_from c.args.serial c.args.self.now.slots.base c.args.self.now.slots.items _ from (search rules))
-
 pub returns-clause-item : goal.returns-clause-item
 returns-clause-item g c =
     let from : c.args.self.now.slots.base ≤ c.args.serial = rw (← c.base.ensures) c.if-serial-base.false in
     let serial : c.args.self.now.slots.base + (c.args.serial - c.args.self.now.slots.base) ≡ c.args.serial = omega arith in
-    let item : Some c.in_ok-item.item
+    let item : c.take.result
     ≡ option_map (item_of (c.args.self.now.slots.base + (c.args.serial - c.args.self.now.slots.base))) (at c.args.self.now.slots.items (c.args.serial - c.args.self.now.slots.base)) =
     search rules in
     item ∙ ap (λ (m : ℕ). option_map (item_of m) (at c.args.self.now.slots.items (c.args.serial - c.args.self.now.slots.base))) serial
@@ -57,5 +40,4 @@ returns-clause-item g c =
 pub returns-clause-rest : goal.returns-clause-rest
 returns-clause-rest g c =
     let from : c.args.self.now.slots.base ≤ c.args.serial = rw (← c.base.ensures) c.if-serial-base.false in
-    ap pending_in c.clean.ensures.same
-    ∙ rw c.take.ensures.base (taken_from c.args.serial c.args.self.now.slots.base c.args.self.now.slots.items _ from (search rules))
+    rw c.take.ensures.base (taken_from c.args.serial c.args.self.now.slots.base c.args.self.now.slots.items _ from (search rules))

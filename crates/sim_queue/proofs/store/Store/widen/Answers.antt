@@ -1,19 +1,8 @@
-use Rattle.std.proofs.Common.{◌≤◌, ℕ, ap, sym, subst, ◌∙◌}
+use Rattle.std.proofs.Common.{◌≤◌, ℕ, ap, subst, ◌∙◌}
 use Rattle.sim_queue.specs.Items.{pending}
-use Rattle.sim_queue.specs.Slots.{IsKept}
 use Rattle.sim_queue.specs.Sparse.{SlotList}
-use Rattle.sim_queue.proofs.Fronts.{either, added_kept, added_pending}
+use Rattle.sim_queue.proofs.Fronts.{either, added_pending}
 use Rattle.sim_queue.proofs.store.Store.widen.Goals as goal
-
-pub returns-clause-keyed : goal.returns-clause-keyed
-returns-clause-keyed g c =
-    let order = c.args.self.now.order in
-    let slots = c.args.self.now.slots in
-    let count = c.before_first-count.result in
-    let from : count ≤ slots.base = subst (λ (n : ℕ). count ≤ n) c.base-base.ensures c.before_first-count.ensures.serials in
-    either c.add_front.result c.add_front.ensures.ok c.add_front.ensures.err
-    (λ new. subst (λ (s : SlotList _). IsKept order s.items s.base) (sym new) (added_kept count order slots.items slots.base from c.requires))
-    (λ same. subst (λ (s : SlotList _). IsKept order s.items s.base) (sym same) c.requires)
 
 pub returns-clause-items : goal.returns-clause-items
 returns-clause-items g c =

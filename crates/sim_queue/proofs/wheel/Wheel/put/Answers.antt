@@ -1,0 +1,33 @@
+use Rattle.std.proofs.Common.{◌≡◌, ◌⊎◌, ℕ, ◌+◌, ◌%◌, ◌<◌, ◌≤◌, min, sym, ap, ◌∙◌, arith, inl, inr, ⊎_elim}
+use Rattle.std.proofs.lemmas.Bool.{cases_lt}
+use Rattle.sim_queue.specs.Lists.{day}
+use Rattle.sim_queue.specs.Wheel.{keys_of, key_at, IsPlace}
+use Rattle.sim_queue.proofs.Turning.{fresh_node, free_place, put_wheel, kept_keys}
+use Rattle.sim_queue.proofs.wheel.Wheel.put.Goals as goal
+
+lesser : (a b m : ℕ) → m ≡ min a b → (m ≡ a) ⊎ (m ≡ b)
+lesser a b m is = ⊎_elim (λ (lt : a < b). inl (omega arith)) (λ (ge : b ≤ a). inr (omega arith)) (cases_lt a b)
+
+pub spot-before-requires-clause-fresh : goal.spot-before-requires-clause-fresh
+spot-before-requires-clause-fresh c =
+    let l = c.self.inside.lists in
+    fresh_node l.width l.nodes.items c.args.serial c.self.invariant.lists (rw c.self.view_is c.requires.fresh)
+
+pub invariant_of-self : goal.invariant_of-self
+invariant_of-self c =
+    let l = c.self.inside.lists in
+    let new = c.join.new.self in
+    let place : IsPlace c.args.place (keys_of l.nodes.items) = rw c.self.view_is c.requires.place in
+    let is : c.day.result ≡ day l.width c.args.due = c.day.ensures ∙ ap (λ (n : ℕ). day n c.args.due) c.join.ensures.width in
+    let low : c.day.result % 256 ≡ day l.width c.args.due % 256 = ap (λ (n : ℕ). n % 256) is in
+    let least : c.min-self-inside.result ≡ min c.self.inside.floor c.args.due = c.min-self-inside.ensures in
+    rw c.join.ensures.width
+    (put_wheel l.width c.self.inside.floor c.min-self-inside.result (c.args.place + 256) c.args.due c.args.serial c.self.inside.marks.words c.set.new.self.words l.nodes.items new.nodes.items
+    (free_place l.nodes.items c.args.place place) c.self.invariant (rw c.join.ensures.width at c.join.ensures.lists) c.join.ensures.size c.join.ensures.due c.join.ensures.serial c.requires.small
+    (omega arith) c.join.ensures.others
+    (λ d q. c.set.ensures.set d (q ∙ sym low)) (λ d q. c.set.ensures.others d (λ e. q (e ∙ low)))
+    (omega arith) (omega arith) (lesser c.self.inside.floor c.args.due c.min-self-inside.result least))
+
+pub returns-clause-others : goal.returns-clause-others
+returns-clause-others c k apart =
+    kept_keys c.self.inside.lists.nodes.items c.join.new.self.nodes.items c.args.place c.join.ensures.others k apart ∙ ap (λ xs. key_at xs k) c.self.view_is

@@ -1,0 +1,74 @@
+use Rattle.std.proofs.Common.{◌≡◌, ℕ, ◌+◌, ◌%◌, ◌==◌, true, is_some, ap, ◌∙◌, subst}
+use Rattle.std.proofs.lemmas.Bool.{eqb-true}
+use Rattle.sim_queue.specs.declared.lists.Node.{Node}
+use Rattle.sim_queue.specs.declared.marks.Marks.{Marks}
+use Rattle.sim_queue.specs.Lists.{node, day, list_of, IsEmptyList}
+use Rattle.sim_queue.specs.Wheel.{keys_of, key_at}
+use Rattle.sim_queue.proofs.Turning.{key_of_some, left_marked, left_from, left_floor, left_wheel, kept_keys, on_false}
+use Rattle.sim_queue.proofs.wheel.Wheel.remove.Goals as goal
+
+pub floor_after-self-inside-requires-clause-marked : goal.floor_after-self-inside-requires-clause-marked
+floor_after-self-inside-requires-clause-marked c =
+    let l = c.self.inside.lists in
+    let new = c.leave-node.new.self in
+    let x = c.leave-node.result in
+    let p = c.args.place + 256 in
+    let some : is_some (key_at (keys_of l.nodes.items) c.args.place) ≡ true = rw c.self.view_is c.requires in
+    let key = key_of_some l.nodes.items c.args.place some in
+    let lists = rw c.leave-node.ensures.width at c.leave-node.ensures.lists in
+    let is : c.day.result ≡ day l.width (node l.nodes.items p).due = c.day.ensures ∙ ap (λ (n : ℕ). day n x.due) c.leave-node.ensures.width ∙ ap (λ (y : Node). day l.width y.due) c.leave-node.ensures.node in
+    let low : c.day.result % 256 ≡ day l.width (node l.nodes.items p).due % 256 = ap (λ (n : ℕ). n % 256) is in
+    rw c.leave-node.ensures.width
+    (left_marked l.width c.self.inside.floor 0 p c.self.inside.marks.words c.clear_if.new.self.words l.nodes.items new.nodes.items key c.self.invariant lists c.leave-node.ensures.size
+    c.leave-node.ensures.gone c.leave-node.ensures.others (x.before == x.after)
+    (λ told. subst (λ (y : Node). IsEmptyList l.width (list_of l.width y) new.nodes.items) c.leave-node.ensures.node
+    (rw c.leave-node.ensures.width at (c.leave-node.ensures.last (eqb-true x.before x.after told))))
+    (λ d q. c.clear_if.ensures.others d (λ e. q (e ∙ low)))
+    (on_false (x.before == x.after) (c.clear_if.new.self ≡ c.self.inside.marks) (c.clear_if.new.self.words ≡ c.self.inside.marks.words) (λ e. ap (λ (m : Marks). m.words) e) c.clear_if.ensures.same))
+
+pub floor_after-self-inside-requires-clause-from : goal.floor_after-self-inside-requires-clause-from
+floor_after-self-inside-requires-clause-from c =
+    let l = c.self.inside.lists in
+    let new = c.leave-node.new.self in
+    let p = c.args.place + 256 in
+    let some : is_some (key_at (keys_of l.nodes.items) c.args.place) ≡ true = rw c.self.view_is c.requires in
+    let key = key_of_some l.nodes.items c.args.place some in
+    let lists = rw c.leave-node.ensures.width at c.leave-node.ensures.lists in
+    left_from l.width c.self.inside.floor 0 p c.self.inside.marks.words c.clear_if.new.self.words l.nodes.items new.nodes.items key c.self.invariant lists c.leave-node.ensures.size
+    c.leave-node.ensures.gone c.leave-node.ensures.others
+
+pub floor_after-self-inside-requires-clause-stays : goal.floor_after-self-inside-requires-clause-stays
+floor_after-self-inside-requires-clause-stays c other =
+    let l = c.self.inside.lists in
+    let new = c.leave-node.new.self in
+    let p = c.args.place + 256 in
+    let some : is_some (key_at (keys_of l.nodes.items) c.args.place) ≡ true = rw c.self.view_is c.requires in
+    let key = key_of_some l.nodes.items c.args.place some in
+    let lists = rw c.leave-node.ensures.width at c.leave-node.ensures.lists in
+    left_floor l.width c.self.inside.floor 0 p c.self.inside.marks.words c.clear_if.new.self.words l.nodes.items new.nodes.items key c.self.invariant lists c.leave-node.ensures.size
+    c.leave-node.ensures.gone c.leave-node.ensures.others (λ q. other (ap (λ (y : Node). y.due) c.leave-node.ensures.node ∙ q))
+
+pub invariant_of-self : goal.invariant_of-self
+invariant_of-self c =
+    let l = c.self.inside.lists in
+    let new = c.leave-node.new.self in
+    let x = c.leave-node.result in
+    let p = c.args.place + 256 in
+    let some : is_some (key_at (keys_of l.nodes.items) c.args.place) ≡ true = rw c.self.view_is c.requires in
+    let key = key_of_some l.nodes.items c.args.place some in
+    let lists = rw c.leave-node.ensures.width at c.leave-node.ensures.lists in
+    let is : c.day.result ≡ day l.width (node l.nodes.items p).due = c.day.ensures ∙ ap (λ (n : ℕ). day n x.due) c.leave-node.ensures.width ∙ ap (λ (y : Node). day l.width y.due) c.leave-node.ensures.node in
+    let low : c.day.result % 256 ≡ day l.width (node l.nodes.items p).due % 256 = ap (λ (n : ℕ). n % 256) is in
+    let marked = left_marked l.width c.self.inside.floor 0 p c.self.inside.marks.words c.clear_if.new.self.words l.nodes.items new.nodes.items key c.self.invariant lists c.leave-node.ensures.size
+    c.leave-node.ensures.gone c.leave-node.ensures.others (x.before == x.after)
+    (λ told. subst (λ (y : Node). IsEmptyList l.width (list_of l.width y) new.nodes.items) c.leave-node.ensures.node
+    (rw c.leave-node.ensures.width at (c.leave-node.ensures.last (eqb-true x.before x.after told))))
+    (λ d q. c.clear_if.ensures.others d (λ e. q (e ∙ low)))
+    (on_false (x.before == x.after) (c.clear_if.new.self ≡ c.self.inside.marks) (c.clear_if.new.self.words ≡ c.self.inside.marks.words) (λ e. ap (λ (m : Marks). m.words) e) c.clear_if.ensures.same) in
+    rw c.leave-node.ensures.width
+    (left_wheel l.width c.self.inside.floor c.floor_after-self-inside.result p c.self.inside.marks.words c.clear_if.new.self.words l.nodes.items new.nodes.items key c.self.invariant lists
+    c.leave-node.ensures.size c.leave-node.ensures.gone c.leave-node.ensures.others marked c.floor_after-self-inside.ensures)
+
+pub returns-clause-others : goal.returns-clause-others
+returns-clause-others c k apart =
+    kept_keys c.self.inside.lists.nodes.items c.leave-node.new.self.nodes.items c.args.place c.leave-node.ensures.others k apart ∙ ap (λ xs. key_at xs k) c.self.view_is
