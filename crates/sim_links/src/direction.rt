@@ -24,8 +24,8 @@ impl<M> Model for Direction<M> {
 impl LinkState {
     ghost use Rattle.sim_links.specs.Link.{state_after};
 
-    // The state after a change, by the table.
-    fn after(self, change: Change) -> LinkState
+    /// The state after a change, by the table.
+    pub fn after(self, change: Change) -> LinkState
         ensures { result ≡ state_after change self }
     {
         match (change, self) {
@@ -74,6 +74,13 @@ impl<M> Direction<M> {
         ensures { result ≡ self.now.state }
     {
         self.state
+    }
+
+    /// The messages that it holds, the oldest first.
+    pub fn messages(&self) -> &[M]
+        ensures { result.now ≡ self.now.held }
+    {
+        &self.held
     }
 
     /// How many messages it holds.

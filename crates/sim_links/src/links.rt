@@ -76,6 +76,17 @@ impl<M> Links<M> {
         direction.count().min(u32::MAX as usize) as u32
     }
 
+    /// The messages that the direction from host a to host b holds, the oldest first. Both hosts are
+    /// below 32.
+    pub fn messages(&self, a: u16, b: u16) -> &[M]
+        requires from { a < 32 }
+        requires to { b < 32 }
+        ensures { result.now ≡ (link a b self.now).held }
+    {
+        let direction = self.table.direction(place(a, b));
+        direction.messages()
+    }
+
     /// Changes the direction from host a to host b, both below 32. Returns the record of the change
     /// and the messages that leave the direction, which a release delivers and a cut drops, in the
     /// order in which they were sent. Takes no memory.

@@ -91,6 +91,22 @@ module _ {State Msg : Type 0} (old new : Index) (c : ℕ) (w : World State Msg) 
           let n = counted_one (is_message x) (ap (λ z. elim z [ Body.Message s m ↦ true | _ ↦ false ]) is) in let l = left_messages in let f = idx.in_flight in omega arith
       go (Body.Sync count) is = tt
 
+  -- how many messages are in flight then
+  pub flight_took : IsIndex old w → count_by is_message (without_serial x.serial w.queue.items) ≡ flight_without x.body.body old.in_flight
+  flight_took idx = go x.body.body refl
+    where
+      plain : is_message x ≡ false → count_by is_message (without_serial x.serial w.queue.items) ≡ old.in_flight
+      plain none = let n = counted_none (is_message x) none in let l = left_messages in let f = idx.in_flight in omega arith
+
+      go : (body : Body Msg) → x.body.body ≡ body → count_by is_message (without_serial x.serial w.queue.items) ≡ flight_without x.body.body old.in_flight
+      go Body.Start is = plain (ap (λ z. elim z [ Body.Message s m ↦ true | _ ↦ false ]) is) ∙ sym (ap (λ z. flight_without z old.in_flight) is)
+      go Body.Timer is = plain (ap (λ z. elim z [ Body.Message s m ↦ true | _ ↦ false ]) is) ∙ sym (ap (λ z. flight_without z old.in_flight) is)
+      go (Body.Message sender msg) is =
+          let n = counted_one (is_message x) (ap (λ z. elim z [ Body.Message s m ↦ true | _ ↦ false ]) is) in let l = left_messages in let f = idx.in_flight in
+          let one : count_by is_message (without_serial x.serial w.queue.items) ≡ old.in_flight - 1 = omega arith in
+          one ∙ sym (ap (λ z. flight_without z old.in_flight) is)
+      go (Body.Sync count) is = plain (ap (λ z. elim z [ Body.Message s m ↦ true | _ ↦ false ]) is) ∙ sym (ap (λ z. flight_without z old.in_flight) is)
+
   same_timers : (k : ℕ) → is_timer_of k x ≡ false → timers_of k (without_serial x.serial w.queue.items) ≡ timers_of k w.queue.items
   same_timers k e = ap (map (λ (z : Item (Occurrence Msg)). z.serial)) (without_other (is_timer_of k) x 0 w.queue.items w.queue.next_serial rise i e)
 

@@ -1,3 +1,4 @@
+pub mod Accounts
 pub mod Applied
 pub mod Arrivals
 pub mod Bodies
@@ -17,6 +18,7 @@ pub mod FirstTakenOut
 pub mod Holds
 pub mod HostSteps
 pub mod Indexes
+pub mod Ledgers
 pub mod Looking
 pub mod LostIndex
 pub mod OneHost
@@ -40,6 +42,7 @@ pub mod Stable
 pub mod StartIsSound
 pub mod StartParts
 pub mod Steps
+pub mod Tears
 pub mod Trails
 pub mod Undoing
 pub mod Usual

@@ -5,6 +5,7 @@ pub mod Acts
 pub mod Clock
 pub mod Memory
 pub mod Looks
+pub mod Account
 pub mod Records
 pub mod Seeds
 pub mod Undone

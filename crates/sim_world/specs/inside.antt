@@ -1,5 +1,6 @@
 -- What serves the private functions alone: no crate above cites these files.
 pub mod Index
+pub mod Ledger
 pub mod Sound
 pub mod Held
 pub mod Packed

@@ -46,8 +46,10 @@
 //! `specs/inside/` serve the private functions: bounds, the index, the parts of a trail.
 #![tactic(auto)]
 
+mod account;
 mod changes;
 mod cluster;
+mod contents;
 mod copy;
 mod crash;
 mod effects;
@@ -69,6 +71,8 @@ mod undo;
 mod views;
 mod world;
 
+pub use account::{Fate, Reaction, ToldEffect};
+pub use occurrence::Occurrence;
 pub use packed::PackedWorld;
 pub use scenario::{BadLimits, Scenario};
 use sim_links::LinkState;
