@@ -7,3 +7,6 @@ pub mod Whole
 pub mod Plainly
 pub mod Front
 pub mod Places
+pub mod Judging
+pub mod StrictRuns
+pub mod WholeStrictly

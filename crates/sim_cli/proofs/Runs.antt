@@ -35,10 +35,10 @@ is_below n e = grind (arith, nat_tests)
 at_least : (n : ℕ) → nat_lt n 65536 ≡ false → 65536 ≤ n
 at_least n e = grind (arith, nat_tests)
 
-below : (n : ℕ) → n < 65536 → nat_lt n 65536 ≡ true
+pub below : (n : ℕ) → n < 65536 → nat_lt n 65536 ≡ true
 below n h = grind (arith, nat_tests)
 
-not_below : (n : ℕ) → 65536 ≤ n → nat_lt n 65536 ≡ false
+pub not_below : (n : ℕ) → 65536 ≤ n → nat_lt n 65536 ≡ false
 not_below n h = grind (arith, nat_tests)
 
 concat-append : (xs ys : List Text) → concat (xs ++ ys) ≡ concat xs ++ concat ys
@@ -77,7 +77,7 @@ finished P asked ended held mid holds waiting text p f is begins = elim f [
 
 module _ {State Msg : Type 0} (r : Rules State Msg) (names : Names) where
   -- one more line
-  Run-append : (old mid new : Course) (ls ts : List Text) (line text : Text) → Run r names old ls ts mid → Gives r names mid (script_line names line) text new →
+  pub Run-append : (old mid new : Course) (ls ts : List Text) (line text : Text) → Run r names old ls ts mid → Gives r names mid (script_line names line) text new →
       Run r names old (ls ++ line ∷ []) (ts ++ text ∷ []) new
   Run-append old mid new [] [] line text h g = (new, rw h at g, refl)
   Run-append old mid new [] (t ∷ ts) line text h g = absurd h
@@ -102,7 +102,7 @@ module _ {State Msg : Type 0} (r : Rules State Msg) (names : Names) where
   asked_by true old command h k = (Ok (plain_entry old command), (h refl, refl, refl, refl, inl (refl, refl)), refl)
   asked_by false old command h k = (Err HistoryFull, (k refl, refl), refl)
 
-  plain_gives : (old : Course) (line : ScriptLine) → Gives r names old line (plain_text r names old line) (plain_next r names old line)
+  pub plain_gives : (old : Course) (line : ScriptLine) → Gives r names old line (plain_text r names old line) (plain_next r names old line)
   plain_gives old Nothing = (refl, refl)
   plain_gives old Bad = (refl, refl)
   plain_gives old (Asked command) = asked_by (nat_lt old.taken 65536) old command (is_below old.taken) (at_least old.taken)
@@ -235,13 +235,13 @@ module _ {State Msg : Type 0} (r : Rules State Msg) (names : Names) where
   as_given old now held holds waiting course here script e f = subst (λ (o : Option Text). So o now held holds waiting course here) e f
 
   -- a part of what begins a text begins it too
-  begins_part : (course : Course) (ls : List Text) (text part more : Text) → Begins r names course ls text → text ≡ part ++ more → Begins r names course ls part
+  pub begins_part : (course : Course) (ls : List Text) (text part more : Text) → Begins r names course ls text → text ≡ part ++ more → Begins r names course ls part
   begins_part course ls text part more b e =
       let whole : part ++ (more ++ b.more) ≡ text ++ b.more = sym (append_assoc part more b.more) ∙ ap (λ xs. xs ++ b.more) (sym e) in
       record { more = more ++ b.more; tells = rw whole b.tells }
 
   -- a beginning, with the plain texts for the lines that are left
-  begins : (course here : Course) (all done more texts : List Text) → all ≡ done ++ more → Run r names course done texts here → Begins r names course all (concat texts)
+  pub begins : (course here : Course) (all done more texts : List Text) → all ≡ done ++ more → Run r names course done texts here → Begins r names course all (concat texts)
   begins course here all done more texts e h =
       let rest = rest_of here more in
       record {
@@ -330,7 +330,7 @@ module _ {State Msg : Type 0} (r : Rules State Msg) (names : Names) where
       (λ part more e. begins_part course (lines script) (concat texts) part more b e)
 
   -- the writer failed in the answer to a line
-  part_begins : (course next : Course) (all done more texts : List Text) (line text : Text) (held holds held' : Option Text) (waiting : Text) → all ≡ (done ++ line ∷ []) ++ more →
+  pub part_begins : (course next : Course) (all done more texts : List Text) (line text : Text) (held holds held' : Option Text) (waiting : Text) → all ≡ (done ++ line ∷ []) ++ more →
       Run r names course (done ++ line ∷ []) (texts ++ text ∷ []) next → Passes held holds [] (concat texts) waiting → PassesSome holds held' waiting text →
       Ended held held' (Begins r names course all)
   part_begins course next all done more texts line text held holds held' waiting e run p q =

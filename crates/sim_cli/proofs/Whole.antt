@@ -95,7 +95,7 @@ is_ok_of r scenario e = rw e refl
 matches_err : (r : Result ScenarioText Fault) (fault : Fault) (P : ScenarioText → Type 0) (text : Text) → r ≡ Err fault → text ≡ fault_line fault → MatchResult r P (λ f. text ≡ fault_line f)
 matches_err r fault P text e h = rw e h
 
-matches_ok : (r : Result ScenarioText Fault) (scenario : ScenarioText) (P : ScenarioText → Type 0) (Q : Fault → Type 0) → r ≡ Ok scenario → P scenario → MatchResult r P Q
+pub matches_ok : (r : Result ScenarioText Fault) (scenario : ScenarioText) (P : ScenarioText → Type 0) (Q : Fault → Type 0) → r ≡ Ok scenario → P scenario → MatchResult r P Q
 matches_ok r scenario P Q e h = rw e h
 
 nothing_left : (ahead : Text) (left : Option Text) → IsAtEnd (prepend_known ahead left) → IsAtEnd left
@@ -178,7 +178,7 @@ module _ (protocols : List Protocol) (nodes_of : ScenarioText → Nodes) where
   }
 
   module _ (given text : Text) (new : Option Text) (scenario : ScenarioText) (h : HeadIs given new text) (e : read_scenario protocols text ≡ Ok scenario) where
-    the_scenario : read_scenario protocols (head_of given).0 ≡ Ok scenario
+    pub the_scenario : read_scenario protocols (head_of given).0 ≡ Ok scenario
     the_scenario = ap (λ (p : Text × Text). read_scenario protocols p.0) (whole_cut given text new h) ∙ e
 
     all_told : (written : Text) → TellsLines (nodes_of scenario).rules (names_of nodes_of scenario) beginning (lines h.script) written → TellsAll protocols nodes_of given written
@@ -196,7 +196,7 @@ module _ (protocols : List Protocol) (nodes_of : ScenarioText → Nodes) where
         (ap (λ (p : Text × Text). read_scenario protocols p.0) cut ∙ e) (rw script t)
 
     -- what was played of the script was played of what was given
-    play_of : (ahead : Waiting) (left : Option Text) (last : Course) (status : Status) (written : Text) →
+    pub play_of : (ahead : Waiting) (left : Option Text) (last : Course) (status : Status) (written : Text) →
         Plays (nodes_of scenario).rules (names_of nodes_of scenario) beginning h.script last ahead left status written → Played protocols nodes_of given left status written
     play_of ahead left last Well written p = (is_ok_of (read_scenario protocols (head_of given).0) scenario the_scenario, nothing_left ahead.bytes left p.0, all_told written p.1.0)
     play_of ahead left last BadScenario written p = absurd p

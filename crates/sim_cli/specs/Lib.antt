@@ -7,3 +7,4 @@ pub mod Opens
 pub mod Subjects
 pub mod Plain
 pub mod Statuses
+pub mod Strict

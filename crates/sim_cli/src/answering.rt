@@ -32,7 +32,7 @@ fn hand<W: Write>(outlet: &mut Outlet, writer: &mut W, text: &[u8]) -> Answered
 }
 
 /// Writes all that waits.
-fn finish<W: Write>(outlet: &mut Outlet, writer: &mut W, status: Status) -> Status
+pub(crate) fn finish<W: Write>(outlet: &mut Outlet, writer: &mut W, status: Status) -> Status
     ensures { Finishes (W.contents writer.old) (W.contents writer.new) outlet.old status result }
 {
     match outlet.flush(writer) {
@@ -86,7 +86,7 @@ fn answer_line<N: Node, W: Write>(
 }
 
 /// Writes all that waits, where the next byte takes a read.
-fn flush_before_read<W: Write>(
+pub(crate) fn flush_before_read<W: Write>(
     ahead: &Ahead,
     outlet: &mut Outlet,
     writer: &mut W,

@@ -8,6 +8,8 @@
 //! - A [`Task`] is what is done over nodes of any type, as [`Playing`]. [`Subjects`] carries it out
 //!   over the nodes of the protocol that a scenario names, and [`open`] reads that scenario.
 //! - [`answer_lines`] is the loop over the lines of a script, on a book of the caller's.
+//! - [`play_strictly`] is a play that ends with the answer to the first line of its script that is at
+//!   fault: a [`ScriptFault`], which [`tell_fault`] tells on standard error.
 //! - [`Status`] says how a play ended; its number is the exit status of the program.
 //! - [`write_text`] writes a text and flushes the writer, as for the line of a scenario's fault.
 //!
@@ -34,15 +36,18 @@
 #![tactic(auto)]
 
 mod answering;
+mod fault;
 mod opened;
 mod opening;
 mod playing;
 mod scenario;
 mod shipped;
 mod status;
+mod strictly;
 mod subjects;
 
 pub use answering::{answer_lines, turn_of};
+pub use fault::{LineFault, ScriptFault, fault_of_turn, tell_fault, tells_want};
 pub use opened::Opened;
 pub use opening::{open, set_up, write_text};
 pub use playing::{Playing, play};
@@ -50,4 +55,5 @@ pub use scenario::{WasRead, read_scenario};
 pub use shipped::{AbdSubject, BackupSubject, CommitSubject, EchoSubject, Shipped};
 pub use sim_tally::Tally;
 pub use status::{Answered, Status};
+pub use strictly::{PlayingStrictly, answer_lines_strictly, play_strictly};
 pub use subjects::{Only, Subject, Subjects, Task, With};

@@ -17,6 +17,7 @@ module _ (P : Text → Status → Type 0) where
   told_whole export.Nowhere text p = p
   told_whole export.BadRange text p = p
   told_whole export.BadCondition text p = p
+  told_whole export.BadScript text p = p
   told_whole export.NoInput text p = p
 
   -- an export that is right was written, or a part of it

@@ -17,7 +17,7 @@ use Rattle.sim_cli.specs.Lines.{fault_line}
 use Rattle.sim_cli.specs.Play.{Ended, Nodes, names_of, read_scenario}
 use Rattle.sim_cli.specs.Subjects.{Ports}
 use Rattle.sim_export.specs.declared.export.Export.{Export}
-use Rattle.sim_export.specs.declared.export.Export.TheVariants.{Input, Nowhere, BadRange, BadCondition, NoInput}
+use Rattle.sim_export.specs.declared.export.Export.TheVariants.{Input, Nowhere, BadRange, BadCondition, BadScript, NoInput}
 
 -- Cut as a play cuts it, the input is this text of a scenario, with an end for its last line, and a
 -- script. Where each name is read as its host, the lines of the script are read as the commands that
@@ -40,6 +40,7 @@ export_text (Input text) = string_bytes text
 export_text Nowhere = codes "none\n"
 export_text BadRange = codes "bad range\n"
 export_text BadCondition = codes "bad condition\n"
+export_text BadScript = []
 export_text NoInput = codes "no input\n"
 
 abbrev pub export_status : Export → Status
@@ -47,6 +48,7 @@ export_status (Input text) = Well
 export_status Nowhere = Well
 export_status BadRange = BadRequest
 export_status BadCondition = BadRequest
+export_status BadScript = BadRequest
 export_status NoInput = BadRequest
 
 -- an export was written and its status given, or the writer failed and has a part from its front

@@ -11,7 +11,7 @@ use Rattle.sim_reseed.specs.Numbered.{numbered as numbered_scenario}
 use Rattle.sim_cli.specs.Play.{read_scenario}
 use Rattle.sim_export.specs.declared.planned.SeedRun.{SeedRun}
 use Rattle.sim_export.specs.declared.export.Export.{Export}
-use Rattle.sim_export.specs.declared.export.Export.TheVariants.{Input, Nowhere, BadRange, BadCondition, NoInput}
+use Rattle.sim_export.specs.declared.export.Export.TheVariants.{Input, Nowhere, BadRange, BadCondition, BadScript, NoInput}
 use Rattle.sim_export.specs.Exports.{IsInput, Right}
 
 -- how a run with these numbers is planned
@@ -42,6 +42,7 @@ module _ {State Msg : Type 0} (r : Rules State Msg) where
   IsExportOf run names text script Nowhere = ⊥
   IsExportOf run names text script BadRange = ¬ (IsPlan 0 (plan_of run))
   IsExportOf run names text script BadCondition = ⊥
+  IsExportOf run names text script BadScript = ⊥
   IsExportOf run names text script NoInput = IsPlan 0 (plan_of run)
 
 -- the exports of a run, over the nodes of any scenario

@@ -1,5 +1,5 @@
 -- The smallest failing run of a script as an input for a play.
-use Rattle.std.specs.Prelude.{◌≡◌, List, length, Option, None, Some, Ok, string_bytes}
+use Rattle.std.specs.Prelude.{◌≡◌, Bool, true, false, List, length, Option, None, Some, Ok, string_bytes}
 use Rattle.sim_world.specs.declared.Event.{Event}
 use Rattle.sim_world.specs.Events.{Rules}
 use Rattle.sim_watch.specs.Condition.{Cond}
@@ -8,10 +8,13 @@ use Rattle.sim_shrink.specs.Shrunk.{IsShrunk, failing, shrink_fault}
 use Rattle.sim_scenario.specs.Scenario.{Protocol, ScenarioText}
 use Rattle.sim_script.specs.Script.{Text, Names, words}
 use Rattle.sim_script.specs.Conditions.{condition}
+use Rattle.std.specs.Str.Lines.{lines}
+use Rattle.sim_cli.specs.Turns.{beginning}
 use Rattle.sim_cli.specs.Play.{read_scenario}
+use Rattle.sim_cli.specs.Strict.{are_well}
 use Rattle.sim_replay.specs.Played.{first_events}
 use Rattle.sim_export.specs.declared.export.Export.{Export}
-use Rattle.sim_export.specs.declared.export.Export.TheVariants.{Input, Nowhere, BadRange, BadCondition, NoInput}
+use Rattle.sim_export.specs.declared.export.Export.TheVariants.{Input, Nowhere, BadRange, BadCondition, BadScript, NoInput}
 use Rattle.sim_export.specs.Exports.{IsInput, Right}
 
 module _ {State Msg : Type 0} (r : Rules State Msg) (names : Names) (scenario : Text) (events : List Event) where
@@ -26,14 +29,21 @@ module _ {State Msg : Type 0} (r : Rules State Msg) (names : Names) (scenario : 
       shrink_fault (length events) r.scenario.setup.hosts r.probes c ≡ Some fault.BadRange
   IsShrinkOf c BadCondition =
       shrink_fault (length events) r.scenario.setup.hosts r.probes c ≡ Some fault.BadCondition
+  IsShrinkOf c BadScript = ⊥
   IsShrinkOf c NoInput = (run : List Event) × IsShrunk r c events run
 
+  -- the same, where no line of the script is at fault, or one is
+  abbrev pub IsShrinkIf : Bool → Cond → Export → Type 0
+  IsShrinkIf true c e = IsShrinkOf c e
+  IsShrinkIf false c e = e ≡ BadScript
+
   -- the same, where words are read as a condition or as none
-  abbrev pub IsShrinkFor : Option Cond → Export → Type 0
-  IsShrinkFor None e = e ≡ BadCondition
-  IsShrinkFor (Some c) e = IsShrinkOf c e
+  abbrev pub IsShrinkFor : Bool → Option Cond → Export → Type 0
+  IsShrinkFor well None e = e ≡ BadCondition
+  IsShrinkFor well (Some c) e = IsShrinkIf well c e
 
 -- the exports of the run that a script leaves, for the words of a condition
 abbrev pub shrink_right : Text → Right
 shrink_right cond State Msg r names scenario script e =
-    IsShrinkFor r names scenario (first_events r names script) (condition names (words cond)) e
+    IsShrinkFor r names scenario (first_events r names script)
+    (are_well r names beginning (lines script)) (condition names (words cond)) e

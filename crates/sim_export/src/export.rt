@@ -16,6 +16,8 @@ pub enum Export {
     BadRange,
     /// The words are no condition, or the scenario has no such host or probe.
     BadCondition,
+    /// A line of the script is at fault. That is told on standard error, and nothing is written.
+    BadScript,
     /// The run has no input: no line of a script makes one of its events, or the scenario's text
     /// cannot stand before a script.
     NoInput,
@@ -31,6 +33,7 @@ impl Export {
             Export::Nowhere => b"none\n",
             Export::BadRange => b"bad range\n",
             Export::BadCondition => b"bad condition\n",
+            Export::BadScript => b"",
             Export::NoInput => b"no input\n",
         }
     }
@@ -41,7 +44,9 @@ impl Export {
     {
         match self {
             Export::Input(_) | Export::Nowhere => Status::Well,
-            Export::BadRange | Export::BadCondition | Export::NoInput => Status::BadRequest,
+            Export::BadRange | Export::BadCondition | Export::BadScript | Export::NoInput => {
+                Status::BadRequest
+            }
         }
     }
 }

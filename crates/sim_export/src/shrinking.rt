@@ -10,10 +10,10 @@ ghost use Rattle.sim_export.specs.Shrinks.{IsShrinkOf, shrink_right};
 
 use crate::export::{Export, write_export};
 use crate::input::{InputError, input_of};
-use sim_cli::{Opened, Status, Subjects, Tally, Task, open};
+use sim_cli::{Opened, Status, Subjects, Tally, Task, open, tell_fault};
 use sim_lines::Ahead;
 use sim_node::{NoMemory, Node};
-use sim_replay::given_events;
+use sim_replay::{ScriptStop, given_events};
 use sim_reseed::ends_its_lines;
 use sim_script::{Names, condition_of};
 use sim_search::SearchFault;
@@ -129,9 +129,13 @@ impl<'a, H: Eprint> Task for Shrinking<'a, H> {
         let Some(cond) = condition_of(&opened.names, self.asked.cond.as_bytes()) else {
             return write_export(writer, &Export::BadCondition);
         };
-        let events = match given_events::<N, R>(self.alloc, opened, true, reader, ahead) {
+        let events = match given_events::<N, R>(self.alloc, opened, true, true, reader, ahead) {
             Ok(events) => events,
-            Err(status) => return status,
+            Err(ScriptStop::Ended(status)) => return status,
+            Err(ScriptStop::Fault(fault)) => {
+                tell_fault(self.host, opened, &fault);
+                return write_export(writer, &Export::BadScript);
+            }
         };
         let mut listener = Reporter {
             host: self.host,
@@ -159,7 +163,9 @@ impl<'a, H: Eprint> Task for Shrinking<'a, H> {
 ///
 /// It writes `none` if the condition fails nowhere, `bad condition` with status 2 if the words are
 /// none or the scenario has no such host or probe, and `no input` with status 2 if no line of a
-/// script makes some event of the run. If the reader fails or memory is wanted, it writes nothing.
+/// script makes some event of the run. If a line of the script is no command, or its command is
+/// refused or not taken, it tells that on standard error and writes nothing, with status 2. If the
+/// reader fails or memory is wanted, it writes nothing either.
 /// There are at most 255 subjects.
 pub fn write_shrunk<L: Subjects, H: Eprint, R: Read, W: Write>(
     host: &H,

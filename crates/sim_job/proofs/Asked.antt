@@ -96,23 +96,23 @@ module _ (rows : List Row) where
 
   -- a subcommand asks for no job where there can be no values for it
   not_search : ((team : Team) (lo hi : ℕ) → HasTeam rows team → HasNumber (codes "lo") rows lo → HasNumber (codes "hi") rows hi → ⊥) → (asked : Job) → ¬ Asks (codes "search") rows asked
-  not_search none job.Play h = apart (codes "search") (codes "play") h refl refl
-  not_search none (job.Search team lo hi cond) h = none team lo hi h.1 h.2 h.3
-  not_search none (job.Sweep team plan at_end script first count events cond) h = apart (codes "search") (codes "sweep") h.0 refl refl
+  not_search none (job.Play strict) h = apart (codes "search") (codes "play") h.0 refl refl
+  not_search none (job.Search team strict lo hi cond) h = none team lo hi h.1 h.3 h.4
+  not_search none (job.Sweep team plan at_end script strict first count events cond) h = apart (codes "search") (codes "sweep") h.0 refl refl
   not_search none (job.Script plan seed events) h = apart (codes "search") (codes "script") h.0 refl refl
   not_search none (job.Shrink progress cond) h = apart (codes "search") (codes "shrink") h.0 refl refl
 
   not_sweep : ((team : Team) (plan : FaultPlan) (first count events : ℕ) → HasTeam rows team → HasFaultPlan rows plan → HasNumber (codes "first") rows first → HasNumber (codes "count") rows count → HasNumber (codes "events") rows events → ⊥) → (asked : Job) → ¬ Asks (codes "sweep") rows asked
-  not_sweep none job.Play h = apart (codes "sweep") (codes "play") h refl refl
-  not_sweep none (job.Search team lo hi cond) h = apart (codes "sweep") (codes "search") h.0 refl refl
-  not_sweep none (job.Sweep team plan at_end script first count events cond) h = none team plan first count events h.1 h.2 h.5 h.6 h.7
+  not_sweep none (job.Play strict) h = apart (codes "sweep") (codes "play") h.0 refl refl
+  not_sweep none (job.Search team strict lo hi cond) h = apart (codes "sweep") (codes "search") h.0 refl refl
+  not_sweep none (job.Sweep team plan at_end script strict first count events cond) h = none team plan first count events h.1 h.2 h.6 h.7 h.8
   not_sweep none (job.Script plan seed events) h = apart (codes "sweep") (codes "script") h.0 refl refl
   not_sweep none (job.Shrink progress cond) h = apart (codes "sweep") (codes "shrink") h.0 refl refl
 
   not_script : ((plan : FaultPlan) (seed events : ℕ) → HasFaultPlan rows plan → HasNumber (codes "seed") rows seed → HasNumber (codes "events") rows events → ⊥) → (asked : Job) → ¬ Asks (codes "script") rows asked
-  not_script none job.Play h = apart (codes "script") (codes "play") h refl refl
-  not_script none (job.Search team lo hi cond) h = apart (codes "script") (codes "search") h.0 refl refl
-  not_script none (job.Sweep team plan at_end script first count events cond) h = apart (codes "script") (codes "sweep") h.0 refl refl
+  not_script none (job.Play strict) h = apart (codes "script") (codes "play") h.0 refl refl
+  not_script none (job.Search team strict lo hi cond) h = apart (codes "script") (codes "search") h.0 refl refl
+  not_script none (job.Sweep team plan at_end script strict first count events cond) h = apart (codes "script") (codes "sweep") h.0 refl refl
   not_script none (job.Script plan seed events) h = none plan seed events h.1 h.2 h.3
   not_script none (job.Shrink progress cond) h = apart (codes "script") (codes "shrink") h.0 refl refl
 
@@ -152,8 +152,8 @@ module _ (rows : List Row) where
 
 -- the workers of a job that is asked are few
 pub asks_few : (name : Text) (rows : List Row) (asked : Job) → Asks name rows asked → HasFewWorkers asked
-asks_few name rows job.Play h = tt
-asks_few name rows (job.Search team lo hi cond) h = (h.1.workers.1, h.1.workers.2)
-asks_few name rows (job.Sweep team plan at_end script first count events cond) h = (h.1.workers.1, h.1.workers.2)
+asks_few name rows (job.Play strict) h = tt
+asks_few name rows (job.Search team strict lo hi cond) h = (h.1.workers.1, h.1.workers.2)
+asks_few name rows (job.Sweep team plan at_end script strict first count events cond) h = (h.1.workers.1, h.1.workers.2)
 asks_few name rows (job.Script plan seed events) h = tt
 asks_few name rows (job.Shrink progress cond) h = tt

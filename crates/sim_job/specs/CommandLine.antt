@@ -38,6 +38,9 @@ progress = flag (codes "progress")
 abbrev pub with_script : Rule
 with_script = flag (codes "script")
 
+abbrev pub strict : Rule
+strict = flag (codes "strict")
+
 abbrev pub at_end : Rule
 at_end = flag (codes "at-end")
 
@@ -75,15 +78,15 @@ abbrev pub command : Text → List Rule → Shape
 command name rules = record (new_shape name) { rules = rules }
 
 abbrev pub play : Shape
-play = command (codes "play") []
+play = command (codes "play") (strict ∷ [])
 
 abbrev pub search : Shape
 search = command (codes "search")
-    (workers ∷ progress ∷ number (codes "lo") ∷ number (codes "hi") ∷ word (codes "cond") ∷ [])
+    (workers ∷ progress ∷ strict ∷ number (codes "lo") ∷ number (codes "hi") ∷ word (codes "cond") ∷ [])
 
 abbrev pub sweep : Shape
 sweep = command (codes "sweep")
-    (workers ∷ progress ∷ with_script ∷ faults ∷ quiet ∷ at_end
+    (workers ∷ progress ∷ with_script ∷ strict ∷ faults ∷ quiet ∷ at_end
     ∷ number (codes "first") ∷ number (codes "count") ∷ number (codes "events") ∷ word (codes "cond") ∷ [])
 
 abbrev pub script : Shape
@@ -152,13 +155,13 @@ pub record HasFaultPlan (rows : List Row) (plan : FaultPlan) : Type 0 where
 
 -- the subcommand with its matches asks for the job
 abbrev pub Asks : Text → List Row → Job → Type 0
-Asks name rows job.Play = name ≡ codes "play"
-Asks name rows (job.Search team lo hi cond) = (name ≡ codes "search") × HasTeam rows team
-    × HasNumber (codes "lo") rows lo × HasNumber (codes "hi") rows hi × HasWord (codes "cond") rows cond.now
-Asks name rows (job.Sweep team plan at_end script first count events cond) = (name ≡ codes "sweep") × HasTeam rows team
+Asks name rows (job.Play strict) = (name ≡ codes "play") × HasFlag (codes "strict") rows strict
+Asks name rows (job.Search team strict lo hi cond) = (name ≡ codes "search") × HasTeam rows team
+    × HasFlag (codes "strict") rows strict × HasNumber (codes "lo") rows lo × HasNumber (codes "hi") rows hi × HasWord (codes "cond") rows cond.now
+Asks name rows (job.Sweep team plan at_end script strict first count events cond) = (name ≡ codes "sweep") × HasTeam rows team
     × HasFaultPlan rows plan × HasFlag (codes "at-end") rows at_end × HasFlag (codes "script") rows script
-    × HasNumber (codes "first") rows first × HasNumber (codes "count") rows count × HasNumber (codes "events") rows events
-    × HasWord (codes "cond") rows cond.now
+    × HasFlag (codes "strict") rows strict × HasNumber (codes "first") rows first × HasNumber (codes "count") rows count
+    × HasNumber (codes "events") rows events × HasWord (codes "cond") rows cond.now
 Asks name rows (job.Script plan seed events) = (name ≡ codes "script") × HasFaultPlan rows plan
     × HasNumber (codes "seed") rows seed × HasNumber (codes "events") rows events
 Asks name rows (job.Shrink progress cond) = (name ≡ codes "shrink")
@@ -166,9 +169,9 @@ Asks name rows (job.Shrink progress cond) = (name ≡ codes "shrink")
 
 -- the job's workers, if it has any, are 1 to 16
 abbrev pub HasFewWorkers : Job → Type 0
-HasFewWorkers job.Play = ⊤
-HasFewWorkers (job.Search team _ _ _) = (1 ≤ team.workers) × (team.workers ≤ 16)
-HasFewWorkers (job.Sweep team _ _ _ _ _ _ _) = (1 ≤ team.workers) × (team.workers ≤ 16)
+HasFewWorkers (job.Play _) = ⊤
+HasFewWorkers (job.Search team _ _ _ _) = (1 ≤ team.workers) × (team.workers ≤ 16)
+HasFewWorkers (job.Sweep team _ _ _ _ _ _ _ _) = (1 ≤ team.workers) × (team.workers ≤ 16)
 HasFewWorkers (job.Script _ _ _) = ⊤
 HasFewWorkers (job.Shrink _ _) = ⊤
 

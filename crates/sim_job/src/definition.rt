@@ -85,6 +85,17 @@ fn with_script<'a>(alloc: Global) -> Arg<'a>
     )
 }
 
+/// `--strict`.
+fn strict<'a>(alloc: Global) -> Arg<'a>
+    ensures { IsArgument line.strict result }
+{
+    flag(
+        alloc,
+        "strict",
+        "Stop at the first line of the script that is bad or refused, with status 2",
+    )
+}
+
 /// A number that has to be given.
 fn number<'a>(alloc: Global, id: &'a str, name: &'a str, help: &'a str) -> Arg<'a>
     ensures { IsArgument (line.number id.entry.now) result }
@@ -106,12 +117,13 @@ fn cond<'a>(alloc: Global) -> Arg<'a>
         .help("The condition, as one word, such as \"w.next <= 3\"")
 }
 
-fn play<'a>(alloc: Global) -> Command<'a>
-    ensures { IsCommand line.play result }
+fn play<'a>(alloc: Global) -> Result<Command<'a>, AllocError>
+    ensures { IfOk result (IsCommand line.play) }
 {
     Command::new(alloc, "play")
         .about("Play the script on standard input, and write one line for each command")
         .after_help("Example: simback play < examples/first-run.play")
+        .arg(strict(alloc))
 }
 
 fn search<'a>(alloc: Global) -> Result<Command<'a>, AllocError>
@@ -124,6 +136,7 @@ fn search<'a>(alloc: Global) -> Result<Command<'a>, AllocError>
         )
         .arg(workers(alloc))?
         .arg(progress(alloc))?
+        .arg(strict(alloc))?
         .arg(number(alloc, "lo", "LO", "The first place to look at"))?
         .arg(number(alloc, "hi", "HI", "The last place to look at"))?
         .arg(cond(alloc))
@@ -138,6 +151,7 @@ fn sweep<'a>(alloc: Global) -> Result<Command<'a>, AllocError>
         .arg(workers(alloc))?
         .arg(progress(alloc))?
         .arg(with_script(alloc))?
+        .arg(strict(alloc))?
         .arg(faults(alloc))?
         .arg(quiet(alloc))?
         .arg(at_end(alloc))?
@@ -183,7 +197,7 @@ pub(crate) fn program<'a>(alloc: Global) -> Result<Command<'a>, AllocError>
         .about("A simulated cluster that can be walked backwards")
         .subcommand_required(true)
         .disable_help_subcommand(true)
-        .subcommand(play(alloc))?
+        .subcommand(play(alloc)?)?
         .subcommand(search(alloc)?)?
         .subcommand(sweep(alloc)?)?
         .subcommand(script(alloc)?)?

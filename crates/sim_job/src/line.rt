@@ -101,6 +101,15 @@ fn fault_plan_of(matches: &ArgMatches<'_>) -> Option<FaultPlan>
     })
 }
 
+/// The play that is asked for.
+fn play_of<'a>(matches: &ArgMatches<'a>) -> Job<'a>
+    ensures { Asks (codes "play") (rows_of (found_of matches.now)) result }
+{
+    Job::Play {
+        strict: flag_of(matches, "strict"),
+    }
+}
+
 /// The search that is asked for, or none where a value is missing.
 fn search_of<'a>(matches: &ArgMatches<'a>) -> Option<Job<'a>>
     ensures { MatchOption result ((asked : Job) → ¬ Asks (codes "search") (rows_of (found_of matches.now)) asked)
@@ -108,6 +117,7 @@ fn search_of<'a>(matches: &ArgMatches<'a>) -> Option<Job<'a>>
 {
     Some(Job::Search {
         team: team_of(matches)?,
+        strict: flag_of(matches, "strict"),
         lo: number_of(matches, "lo")?,
         hi: number_of(matches, "hi")?,
         cond: word_of(matches, "cond")?,
@@ -124,6 +134,7 @@ fn sweep_of<'a>(matches: &ArgMatches<'a>) -> Option<Job<'a>>
         plan: fault_plan_of(matches)?,
         at_end: flag_of(matches, "at-end"),
         script: flag_of(matches, "script"),
+        strict: flag_of(matches, "strict"),
         first: number_of(matches, "first")?,
         count: number_of(matches, "count")?,
         events: number_of(matches, "events")?,
@@ -160,7 +171,7 @@ fn asked_by<'a>(name: &str, matches: &ArgMatches<'a>) -> Option<Job<'a>>
         (Asks name.now (rows_of (found_of matches.now))) }
 {
     match name {
-        "play" => Some(Job::Play),
+        "play" => Some(play_of(matches)),
         "search" => search_of(matches),
         "sweep" => sweep_of(matches),
         "script" => script_of(matches),

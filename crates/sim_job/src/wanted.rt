@@ -19,23 +19,29 @@ pub struct FaultPlan {
 /// What the program is to do.
 #[derive(Clone, Copy, Debug, PartialEq, Eq)]
 pub enum Job<'a> {
-    /// Plays a script.
-    Play,
+    /// Plays a script: with `strict` up to the first line at fault.
+    Play {
+        strict: bool,
+    },
     /// Plays a script, and looks for the first place from `lo` to `hi` where the condition fails.
+    /// With `strict` no line of the script may be at fault.
     Search {
         team: Team,
+        strict: bool,
         lo: u64,
         hi: u64,
         cond: &'a str,
     },
     /// Looks for the first of `count` seeds from `first` on whose run fails the condition: at a
     /// place of its first `events` events and its quiet end, or with `at_end` at its last place.
-    /// With `script` each run begins with the events that the script leaves.
+    /// With `script` each run begins with the events that the script leaves, of which with `strict`
+    /// no line may be at fault.
     Sweep {
         team: Team,
         plan: FaultPlan,
         at_end: bool,
         script: bool,
+        strict: bool,
         first: u64,
         count: u64,
         events: u64,

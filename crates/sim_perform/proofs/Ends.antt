@@ -1,5 +1,5 @@
 -- What was written is what a job's status says.
-use Rattle.std.proofs.Common.{◌≡◌, ℕ, List, [], Option, sym, ap, subst, ◌∙◌, refl, inl, inr, Result, Ok}
+use Rattle.std.proofs.Common.{◌≡◌, ℕ, List, [], ◌++◌, codes, Option, sym, ap, subst, ◌∙◌, refl, inl, inr, Result, Ok}
 use Rattle.std.specs.Prelude.{⊤}
 use Rattle.sim_lines.specs.Cut.{head_of}
 use Rattle.sim_lines.specs.Waiting.{Waiting}
@@ -20,7 +20,7 @@ use Rattle.sim_cli.proofs.Whole.{whole_cut}
 use Rattle.sim_perform.specs.declared.answer.Answer.{Answer}
 use Rattle.sim_perform.specs.declared.answer.Answer.TheVariants as answer
 use Rattle.sim_perform.specs.declared.hunting.Area.{Area}
-use Rattle.sim_perform.specs.Answers.{status_of}
+use Rattle.sim_perform.specs.Answers.{answer_line, answer_words, status_of}
 use Rattle.sim_replay.specs.Following.{Stops}
 use Rattle.sim_perform.specs.Hunts.{hunt_answer}
 use Rattle.sim_perform.specs.Outcomes.{Outcome, EndsBy, WritesOutcome, WritesAnswer, Hunted, Performed, answered, faulty, outcome, outcome_of}
@@ -41,6 +41,7 @@ answered_has_line (answer.Seed i p) = tt
 answered_has_line answer.Nowhere = tt
 answered_has_line answer.BadRange = tt
 answered_has_line answer.BadCondition = tt
+answered_has_line answer.BadScript = tt
 
 ends_line : (o : Outcome) (ended : Status) → ended ≡ o.status → HasLine ended → EndsBy o ended o.line
 unfolding HasLine
@@ -58,6 +59,15 @@ ends_empty o BadRequest s = absurd s
 ends_empty o ReaderFailed s = refl
 ends_empty o WriterFailed s = absurd s
 ends_empty o MemoryWanted s = refl
+
+-- the line of an answer is its words
+pub line_is : (a : Answer) → (a ≡ answer.BadScript → ⊥) → answer_words a ++ codes "\n" ≡ answer_line a
+line_is (answer.Place p) other = refl
+line_is (answer.Seed i p) other = refl
+line_is answer.Nowhere other = refl
+line_is answer.BadRange other = refl
+line_is answer.BadCondition other = refl
+line_is answer.BadScript other = absurd (other refl)
 
 -- nothing was written
 pub nothing : (o : Outcome) (ended : Status) (held : Option Text) → Stops ended → Ended held held (EndsBy o ended)

@@ -1,12 +1,12 @@
 -- What a search and a sweep answer, and the lines that tell it.
-use Rattle.std.specs.Prelude.{ℕ, codes, List, ◌++◌, Option, Some, None, Result, Ok, Err, ◌≡◌}
+use Rattle.std.specs.Prelude.{ℕ, codes, List, [], ◌++◌, Option, Some, None, Result, Ok, Err, ◌≡◌}
 use Rattle.std.specs.Fmt.{decimal}
 use Rattle.sim_search.specs.declared.SearchFault.{SearchFault}
 use Rattle.sim_search.specs.declared.SearchFault.TheVariants as fault
 use Rattle.sim_cli.specs.declared.status.Status.{Status}
 use Rattle.sim_cli.specs.declared.status.Status.TheVariants.{Well, BadRequest}
 use Rattle.sim_perform.specs.declared.answer.Answer.{Answer}
-use Rattle.sim_perform.specs.declared.answer.Answer.TheVariants.{Place, Seed, Nowhere, BadRange, BadCondition}
+use Rattle.sim_perform.specs.declared.answer.Answer.TheVariants.{Place, Seed, Nowhere, BadRange, BadCondition, BadScript}
 
 abbrev pub answer_words : Answer → List ℕ
 answer_words (Place p) = codes "first " ++ decimal p
@@ -14,14 +14,18 @@ answer_words (Seed i p) = codes "seed " ++ decimal i ++ codes " place " ++ decim
 answer_words Nowhere = codes "none"
 answer_words BadRange = codes "bad range"
 answer_words BadCondition = codes "bad condition"
+answer_words BadScript = codes "bad script"
 
+-- A line of the script that is at fault is told elsewhere.
 abbrev pub answer_line : Answer → List ℕ
+answer_line BadScript = []
 answer_line a = answer_words a ++ codes "\n"
 
 -- the status after an answer: a wrong request is told apart
 abbrev pub status_of : Answer → Status
 status_of BadRange = BadRequest
 status_of BadCondition = BadRequest
+status_of BadScript = BadRequest
 status_of _ = Well
 
 -- the first place, or nowhere

@@ -1,5 +1,6 @@
 -- What a search and a sweep find, by the definitions of a first failing place and of their faults.
-use Rattle.std.specs.Prelude.{◌≡◌, ℕ, zero, suc, ◌≤◌, ◌==◌, ◌&&◌, Bool, not, is_none, List, [], ◌∷◌, length, Option, None, Some, ⊤, if◌then◌else◌}
+use Rattle.std.specs.Prelude.{◌≡◌, ℕ, zero, suc, ◌≤◌, ◌==◌, ◌&&◌, Bool, not, is_none, List, [], ◌∷◌, length, Option, None, Some, Result, Ok, Err, ⊤, if◌then◌else◌}
+use Rattle.std.specs.Str.Lines.{lines}
 use Rattle.sim_world.specs.declared.Event.{Event}
 use Rattle.sim_node.specs.Node.{NodeLaws}
 use Rattle.sim_world.specs.World.{Scenario}
@@ -17,10 +18,15 @@ use Rattle.sim_script.specs.Script.{Text, Names, words}
 use Rattle.sim_script.specs.Conditions.{condition}
 use Rattle.sim_export.specs.SeedRuns.{plan_with}
 use Rattle.sim_replay.specs.Played.{first_events, given_events}
+use Rattle.sim_cli.specs.Turns.{beginning}
 use Rattle.sim_cli.specs.Play.{Nodes}
+use Rattle.sim_cli.specs.Strict.{are_well}
+use Rattle.sim_cli.specs.declared.status.Status.{Status}
+use Rattle.sim_replay.specs.declared.stop.ScriptStop.{ScriptStop}
+use Rattle.sim_replay.specs.declared.stop.ScriptStop.TheVariants as stop
 use Rattle.sim_job.specs.declared.wanted.FaultPlan.{FaultPlan}
 use Rattle.sim_perform.specs.declared.answer.Answer.{Answer}
-use Rattle.sim_perform.specs.declared.answer.Answer.TheVariants.{BadRange, BadCondition}
+use Rattle.sim_perform.specs.declared.answer.Answer.TheVariants.{BadRange, BadCondition, BadScript}
 use Rattle.sim_perform.specs.declared.hunting.Area.{Area}
 use Rattle.sim_perform.specs.declared.hunting.Area.TheVariants.{Places, Seeds, Planned}
 use Rattle.sim_perform.specs.declared.hunting.PlannedRuns.{PlannedRuns}
@@ -37,21 +43,27 @@ answer_by (Some fault.BadRange) found = BadRange
 answer_by (Some fault.BadCondition) found = BadCondition
 answer_by (Some fault.NoMemory) found = found
 
-abbrev pub planned_runs : FaultPlan → Bool → Bool → ℕ → ℕ → ℕ → PlannedRuns
-planned_runs plan at_end script first count events = record {
+-- a hunt ends as its script did, or with the answer that a line is at fault
+abbrev pub StopIs : ScriptStop → Result Answer Status → Type 0
+StopIs (stop.Ended ended) result = result ≡ Err ended
+StopIs (stop.Fault fault) result = result ≡ Ok BadScript
+
+abbrev pub planned_runs : FaultPlan → Bool → Bool → Bool → ℕ → ℕ → ℕ → PlannedRuns
+planned_runs plan at_end script strict first count events = record {
   first = first;
   count = count;
   events = events;
   plan = plan;
   at_end = at_end;
   script = script;
+  strict = strict;
 }
 
 -- how the runs of a sweep are planned
 abbrev pub plan_of : PlannedRuns → Plan
 plan_of runs = plan_with runs.plan.faults runs.events runs.plan.quiet runs.at_end
 
--- A sweep is of steps alone where nothing else is asked.
+-- A sweep is of steps alone where nothing else is asked. Without a script none is at fault.
 abbrev pub is_plain : PlannedRuns → Bool
 is_plain runs =
     is_none runs.plan.faults && ((runs.plan.quiet == 0) && (not runs.at_end && not runs.script))
@@ -78,12 +90,18 @@ module _ {State Msg : Type 0} (r : Rules State Msg) where
       (at_seed (first_failing_planned_seed r.node r.probes r.scenario given (plan_of runs) c
       runs.first runs.count))
 
+  -- what was found, or that a line of the script is at fault, where that is asked
+  abbrev pub if_well : Bool → Names → Text → Answer → Answer
+  if_well strict names script found =
+      if strict && not (are_well r names beginning (lines script)) then BadScript else found
+
   -- what is found in a range of places of the run that a script leaves, or in a range of seeds
   abbrev pub found_on : Names → Area → Text → Cond → Answer
-  found_on names (Places lo hi) script c = search_answer c (first_events r names script) lo hi
+  found_on names (Places lo hi strict) script c =
+      if_well strict names script (search_answer c (first_events r names script) lo hi)
   found_on names (Seeds first count events) script c = sweep_answer c first count events
-  found_on names (Planned runs) script c =
-      planned_answer c (given_events r runs.script names script) runs
+  found_on names (Planned runs) script c = if_well (runs.script && runs.strict) names script
+      (planned_answer c (given_events r runs.script names script) runs)
 
   -- the same, where the words of the condition are none or this condition
   abbrev pub found_for : Names → Area → Text → Option Cond → Answer

@@ -1,5 +1,5 @@
 -- What a job writes, and the status with which it ends.
-use Rattle.std.specs.Prelude.{◌≡◌, ℕ, List, [], ◌++◌, Option, Result, Ok, Err, ◌⊎◌}
+use Rattle.std.specs.Prelude.{◌≡◌, ℕ, Bool, true, false, List, [], ◌++◌, Option, Result, Ok, Err, ◌⊎◌}
 use Rattle.std.specs.Io.KnownBytes.{Appends}
 use Rattle.sim_lines.specs.Cut.{head_of}
 use Rattle.sim_lines.specs.Left.{AppendsPart}
@@ -11,6 +11,7 @@ use Rattle.sim_cli.specs.declared.status.Status.{Status}
 use Rattle.sim_cli.specs.declared.status.Status.TheVariants.{Well, BadScenario, BadRequest, ReaderFailed, WriterFailed, MemoryWanted}
 use Rattle.sim_cli.specs.Lines.{fault_line}
 use Rattle.sim_cli.specs.Play.{Nodes, Played, names_of, read_scenario}
+use Rattle.sim_cli.specs.Strict.{PlayedStrictly}
 use Rattle.sim_job.specs.declared.wanted.FaultPlan.{FaultPlan}
 use Rattle.sim_export.specs.declared.planned.SeedRun.{SeedRun}
 use Rattle.sim_export.specs.Exports.{Written}
@@ -75,13 +76,20 @@ module _ (protocols : List Protocol) (nodes_of : ScenarioText → Nodes) where
     abbrev pub Hunted : Text → Status → Text → Type 0
     Hunted given ended written = EndsBy (outcome given) ended written
 
+  -- what a play writes, which may be strict
+  abbrev pub PlayedBy : Bool → Text → Option Text → Status → Text → Type 0
+  PlayedBy false given left ended written = Played protocols nodes_of given left ended written
+  PlayedBy true given left ended written =
+      PlayedStrictly protocols nodes_of given left ended written
+
   -- what a job writes for what is given, and what is left of it, by its status
   abbrev pub Performed : Job → Text → Option Text → Status → Text → Type 0
-  Performed jobs.Play given left ended written = Played protocols nodes_of given left ended written
-  Performed (jobs.Search team lo hi cond) given left ended written =
-      Hunted (Places lo hi) cond.now given ended written
-  Performed (jobs.Sweep team plan at_end script first count events cond) given left ended written =
-      Hunted (area_of (planned_runs plan at_end script first count events)) cond.now
+  Performed (jobs.Play strict) given left ended written =
+      PlayedBy strict given left ended written
+  Performed (jobs.Search team strict lo hi cond) given left ended written =
+      Hunted (Places lo hi strict) cond.now given ended written
+  Performed (jobs.Sweep team plan at_end script strict first count events cond) given left ended
+      written = Hunted (area_of (planned_runs plan at_end script strict first count events)) cond.now
       given ended written
   Performed (jobs.Script plan seed events) given left ended written =
       Written (seed_run_right (seed_run plan seed events)) protocols nodes_of given ended written

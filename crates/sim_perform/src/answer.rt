@@ -20,6 +20,8 @@ pub enum Answer {
     BadRange,
     /// The words are no condition, or the scenario has no such host or probe.
     BadCondition,
+    /// A line of the script is at fault. That is told on standard error, and no line is written.
+    BadScript,
 }
 
 impl fmt::Display for Answer {
@@ -32,6 +34,7 @@ impl fmt::Display for Answer {
             Answer::Nowhere => write!(f, "none"),
             Answer::BadRange => write!(f, "bad range"),
             Answer::BadCondition => write!(f, "bad condition"),
+            Answer::BadScript => write!(f, "bad script"),
         }
     }
 }
@@ -42,7 +45,7 @@ impl Answer {
         ensures { result ≡ status_of self }
     {
         match self {
-            Answer::BadRange | Answer::BadCondition => Status::BadRequest,
+            Answer::BadRange | Answer::BadCondition | Answer::BadScript => Status::BadRequest,
             Answer::Place(_) | Answer::Seed(_, _) | Answer::Nowhere => Status::Well,
         }
     }

@@ -3,17 +3,17 @@ ghost use Rattle.std.specs.Prelude.{◌≡◌, ◌<◌, ℕ, List, IfOk, IfErr, 
 ghost use Rattle.std.specs.Io.KnownBytes.{prepend_known};
 ghost use Rattle.sim_world.specs.Events.{rules};
 ghost use Rattle.sim_replay.specs.Following.{Stops};
-ghost use Rattle.sim_perform.specs.Hunts.{IsTeam, found_on, search_answer, sweep_answer};
+ghost use Rattle.sim_perform.specs.Hunts.{IsTeam, StopIs, found_on, search_answer, sweep_answer};
 
 use crate::Status;
 use crate::answer::{Answer, of_search, of_sweep};
 use crate::planned::sweep_runs;
 use crate::progress::Progress;
-use sim_cli::Opened;
+use sim_cli::{Opened, tell_fault};
 use sim_job::{FaultPlan, Team};
 use sim_lines::Ahead;
 use sim_node::{NoMemory, Node};
-use sim_replay::{given_events, played};
+use sim_replay::{ScriptStop, given_events, played};
 use sim_search::{OpenGate, search, sweep};
 use sim_tally::Tally;
 use sim_tape::Frozen;
@@ -35,8 +35,9 @@ pub struct Hunt<'a> {
 /// Where a condition is looked for.
 #[derive(Clone, Copy)]
 pub enum Area {
-    /// in the places from `lo` to `hi` of the first branch
-    Places { lo: u64, hi: u64 },
+    /// in the places from `lo` to `hi` of the first branch, of a script in which with `strict` no
+    /// line may be at fault
+    Places { lo: u64, hi: u64, strict: bool },
     /// in the runs of at most `events` steps of `count` seeds, from number `first` on
     Seeds { first: u64, count: u64, events: u64 },
     /// in the runs of seeds whose events are planned
@@ -55,6 +56,8 @@ pub struct PlannedRuns {
     pub at_end: bool,
     /// Whether each run begins with the events that the script leaves.
     pub script: bool,
+    /// Whether no line of the script may be at fault.
+    pub strict: bool,
 }
 
 /// A hunt in a scenario that was read: the condition's words are read too, by the names of the
@@ -152,6 +155,20 @@ fn told(answer: Result<Answer, NoMemory>) -> Result<Answer, Status>
     }
 }
 
+// How a hunt ends whose script was not carried out to its end. A line at fault is told on standard
+// error.
+fn at_stop<H: Eprint>(rt: &H, opened: &Opened, stop: ScriptStop) -> Result<Answer, Status>
+    ensures { StopIs stop result }
+{
+    match stop {
+        ScriptStop::Ended(status) => Err(status),
+        ScriptStop::Fault(fault) => {
+            tell_fault(rt, opened, &fault);
+            Ok(Answer::BadScript)
+        }
+    }
+}
+
 /// Hunts over nodes of a type. The script's answers are not written, and a sweep reads no script.
 pub fn hunt_nodes<
     N: Node<Meter = Tally> + Send + Sync,
@@ -175,10 +192,13 @@ where
     ensures stops { IfErr result Stops }
 {
     match quest.hunt.area {
-        Area::Places { lo, hi } => {
+        Area::Places { lo, hi, strict } => {
             let opened = quest.opened;
-            let frozen = played::<N, R>(alloc, &opened.scenario, &opened.names, reader, ahead)?;
-            told(search_run(rt, alloc, &frozen, lo, hi, quest))
+            let (scenario, names) = (&opened.scenario, &opened.names);
+            match played::<N, R>(alloc, scenario, names, reader, ahead, strict) {
+                Ok(frozen) => told(search_run(rt, alloc, &frozen, lo, hi, quest)),
+                Err(stop) => at_stop(rt, opened, stop),
+            }
         }
         Area::Seeds {
             first,
@@ -186,8 +206,12 @@ where
             events,
         } => told(sweep_seeds::<N, H>(rt, alloc, first, count, events, quest)),
         Area::Planned(runs) => {
-            let given = given_events::<N, R>(alloc, quest.opened, runs.script, reader, ahead)?;
-            told(sweep_runs::<N, H>(rt, alloc, &runs, given.as_slice(), quest))
+            let opened = quest.opened;
+            let (script, strict) = (runs.script, runs.strict);
+            match given_events::<N, R>(alloc, opened, script, strict, reader, ahead) {
+                Ok(given) => told(sweep_runs::<N, H>(rt, alloc, &runs, given.as_slice(), quest)),
+                Err(stop) => at_stop(rt, opened, stop),
+            }
         }
     }
 }

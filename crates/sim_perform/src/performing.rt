@@ -1,5 +1,5 @@
 //! A job is carried out over any reader and any writer.
-ghost use Rattle.std.specs.Prelude.{◌≡◌, ◌<◌, ◌≤◌, ℕ, List, Some, IfOk, IfErr, length};
+ghost use Rattle.std.specs.Prelude.{◌≡◌, ◌<◌, ◌≤◌, ℕ, Bool, false, List, Some, IfOk, IfErr, length};
 ghost use Rattle.std.specs.Io.KnownBytes.{prepend_known};
 ghost use Rattle.sim_job.specs.CommandLine.{HasFewWorkers};
 ghost use Rattle.sim_job.specs.declared.wanted.Job.TheVariants as jobs;
@@ -15,7 +15,7 @@ use crate::Status;
 use crate::answer::Answer;
 use crate::hunting::{Area, Hunt, PlannedRuns, Quest, hunt_nodes};
 use crate::searchable::Searchable;
-use sim_cli::{Answered, Opened, Subject, open, play, write_text};
+use sim_cli::{Answered, Opened, Subject, open, play, play_strictly, write_text};
 use sim_export::{SeedRun, Shrink, write_run, write_shrunk};
 use sim_job::Job;
 use sim_lines::Ahead;
@@ -149,10 +149,13 @@ fn end_with<W: Write>(writer: &mut W, line: &[u8], status: Status) -> Status
     }
 }
 
-// Writes the line of an answer.
+// Writes the line of an answer, or nothing where the script was told to be at fault.
 fn write_answer<W: Write>(alloc: Global, writer: &mut W, answer: Answer) -> Status
     ensures { WritesAnswer (W.contents writer.old) (W.contents writer.new) answer result }
 {
+    if let Answer::BadScript = answer {
+        return end_with(writer, b"", Status::BadRequest);
+    }
     match format!(in alloc; "{answer}\n") {
         Ok(line) => end_with(writer, line.as_bytes(), answer.status()),
         Err(_) => Status::MemoryWanted,
@@ -205,8 +208,12 @@ fn area_of(runs: PlannedRuns) -> Area
 /// A play writes one line for each command of the script. A search or a sweep writes one line: what
 /// it found, or why it was refused. A fault of the scenario is reported first, then words that are
 /// no condition, then a bad range, and last a host or probe of the condition that the scenario does
-/// not have. If the reader fails or memory is wanted, a search or a sweep writes nothing. Progress,
-/// if asked for, is reported on standard error at most twice a second.
+/// not have. If the reader fails or memory is wanted, a search or a sweep writes nothing.
+///
+/// A strict play ends with the answer to the first line of its script that is at fault: one that is
+/// no command, or whose command is refused or not taken. A strict search or sweep, and each
+/// shrinking, writes nothing then. The line is told on standard error, and the status is
+/// `BadRequest`. Progress, if asked for, is reported on standard error at most twice a second.
 pub fn perform<L: Searchable, H: Threads + Wait + Sync + Clock + Eprint, R: Read, W: Write>(
     rt: &H,
     alloc: Global,
@@ -219,17 +226,29 @@ pub fn perform<L: Searchable, H: Threads + Wait + Sync + Clock + Eprint, R: Read
     ensures performed { (given : List ℕ) → R.remaining reader.old ≡ Some given →
         Ended (W.contents writer.old) (W.contents writer.new)
         (Performed L.listed (nodes_by L.nodes) job.now given (R.remaining reader.new) result) }
-    ensures plain { job.now ≡ jobs.Play →
+    ensures plain { job.now ≡ jobs.Play false →
         (given : List ℕ) → R.remaining reader.old ≡ Some given → IsDone result →
         Ended (W.contents writer.old) (W.contents writer.new)
         (IsPlain L.listed (nodes_by L.nodes) given) }
-    ensures within { job.now ≡ jobs.Play →
+    ensures within { (strict : Bool) → job.now ≡ jobs.Play strict →
         IsWithinReads (R.remaining reader.old) (R.remaining reader.new) }
 {
     match *job {
-        Job::Play => play::<L, R, W>(alloc, reader, writer),
-        Job::Search { team, lo, hi, cond } => {
-            let area = Area::Places { lo, hi };
+        Job::Play { strict } => {
+            if strict {
+                play_strictly::<L, H, R, W>(rt, alloc, reader, writer)
+            } else {
+                play::<L, R, W>(alloc, reader, writer)
+            }
+        }
+        Job::Search {
+            team,
+            strict,
+            lo,
+            hi,
+            cond,
+        } => {
+            let area = Area::Places { lo, hi, strict };
             hunt_scenario::<L, H, R, W>(rt, alloc, &Hunt { area, cond, team }, reader, writer)
         }
         Job::Sweep {
@@ -237,6 +256,7 @@ pub fn perform<L: Searchable, H: Threads + Wait + Sync + Clock + Eprint, R: Read
             plan,
             at_end,
             script,
+            strict,
             first,
             count,
             events,
@@ -249,6 +269,7 @@ pub fn perform<L: Searchable, H: Threads + Wait + Sync + Clock + Eprint, R: Read
                 plan,
                 at_end,
                 script,
+                strict,
             });
             hunt_scenario::<L, H, R, W>(rt, alloc, &Hunt { area, cond, team }, reader, writer)
         }

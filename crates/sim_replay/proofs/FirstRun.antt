@@ -1,5 +1,5 @@
 -- The run that a script leaves.
-use Rattle.std.proofs.Common.{◌≡◌, ◌<◌, ℕ, List, [], ◌∷◌, refl, sym, ap, subst, ◌∙◌, slice_index_or, length, arith, Bool, true, false}
+use Rattle.std.proofs.Common.{◌≡◌, ◌<◌, ℕ, List, [], ◌∷◌, refl, sym, ap, subst, ◌∙◌, slice_index_or, length, arith, Bool, true, false, ◌&&◌, Result, Err}
 use Rattle.std.proofs.lemmas.List.{length-map}
 use Rattle.std.specs.Str.Lines.{lines}
 use Rattle.sim_world.specs.declared.Event.{Event}
@@ -10,7 +10,11 @@ use Rattle.sim_book.specs.Kept.{Kept, all_shown, first_kept, shown}
 use Rattle.sim_script.specs.Script.{Text, Names}
 use Rattle.sim_cli.specs.Turns.{Course, beginning}
 use Rattle.sim_cli.specs.Play.{end_from}
-use Rattle.sim_replay.specs.Played.{first_events, given_events}
+use Rattle.sim_cli.specs.Strict.{IsFirstFault, are_well}
+use Rattle.sim_replay.specs.declared.stop.ScriptStop.{ScriptStop}
+use Rattle.sim_replay.specs.declared.stop.ScriptStop.TheVariants as stops
+use Rattle.sim_replay.specs.Following.{Follows}
+use Rattle.sim_replay.specs.Played.{IsFault, IsWellIf, first_events, given_events}
 
 -- a book that opens has a branch
 pub some_first : (kept : List Kept) → all_shown kept ≡ opening → 0 < length kept
@@ -32,8 +36,34 @@ module _ {State Msg : Type 0} (r q : Rules State Msg) (names : Names) where
       ∙ (ap (λ (p : Rules State Msg). (branch 0 (end_from p names start (lines script)).branches).events) same
       ∙ ap (λ (c : Course). (branch 0 (end_from r names c (lines script)).branches).events) begun))))
 
--- the events of the script, which were asked for
-pub asked : {State Msg : Type 0} (r : Rules State Msg) (names : Names) (script : Text) (with_script : Bool) (events : List Event)
-    → with_script ≡ true → events ≡ first_events r names script → events ≡ given_events r with_script names script
-asked r names script true events is e = e
-asked r names script false events is e = absurd (cc)
+module _ {State Msg : Type 0} (r q : Rules State Msg) (names : Names) (strict : Bool) (start : Course) (script : Text) (same : q ≡ r) (begun : start ≡ beginning) where
+  -- no line of the script is at fault
+  pub well_begun : (strict ≡ true → are_well q names start (lines script) ≡ true) → IsWellIf r strict names script
+  well_begun h = λ s.
+      subst (λ (c : Course). are_well r names c (lines script) ≡ true) begun
+      (subst (λ (p : Rules State Msg). are_well p names start (lines script) ≡ true) same (h s))
+
+  -- or the first one that is
+  pub fault_begun : (T : Type 0) (new : Course) (stop : ScriptStop) → Follows q names strict {T = T} start new (lines script) (Err stop) → IsFault r strict names script stop
+  fault_begun T new (stops.Ended ended) h = tt
+  fault_begun T new (stops.Fault fault) h = (
+    h.0,
+    subst (λ (c : Course). IsFirstFault r names c (lines script) fault) begun
+        (subst (λ (p : Rules State Msg). IsFirstFault p names start (lines script) fault) same h.1),
+  )
+
+module _ {State Msg : Type 0} (r : Rules State Msg) (names : Names) (script : Text) where
+  -- the events of the script, which were asked for
+  pub asked : (with_script strict : Bool) (events : List Event) → with_script ≡ true → events ≡ first_events r names script → IsWellIf r strict names script
+      → (events ≡ given_events r with_script names script) × IsWellIf r (with_script && strict) names script
+  asked true strict events is e w = (e, w)
+  asked false strict events is e w = absurd (let bad : false ≡ true = is in cc)
+
+  pub asked_not : (with_script strict : Bool) (events : List Event) → with_script ≡ false → events ≡ []
+      → (events ≡ given_events r with_script names script) × IsWellIf r (with_script && strict) names script
+  asked_not true strict events is e = absurd (let bad : true ≡ false = is in cc)
+  asked_not false strict events is e = (e, λ s. absurd (let bad : false ≡ true = s in cc))
+
+  pub asked_fault : (with_script strict : Bool) (stop : ScriptStop) → with_script ≡ true → IsFault r strict names script stop → IsFault r (with_script && strict) names script stop
+  asked_fault true strict stop is h = h
+  asked_fault false strict stop is h = absurd (let bad : false ≡ true = is in cc)

@@ -1,28 +1,18 @@
 -- What a script leaves of which the answers are not told.
-use Rattle.std.specs.Prelude.{◌≡◌, Bool, true, false, Option, Some, Result, Ok, Err, ⊤}
+use Rattle.std.specs.Prelude.{◌≡◌, ◌++◌, ◌-◌, ◌^◌, ℕ, Bool, true, List, Option, Some, Result, Ok, Err, ⊤, length, min}
 use Rattle.std.specs.Str.Lines.{lines}
 use Rattle.sim_world.specs.Events.{Rules}
-use Rattle.sim_book.specs.declared.Entry.{Entry}
-use Rattle.sim_book.specs.declared.NotTaken.{NotTaken}
-use Rattle.sim_book.specs.declared.NotTaken.TheVariants.{HistoryFull, NoMemory}
-use Rattle.sim_book.specs.declared.Reply.{Reply}
-use Rattle.sim_book.specs.declared.Reply.TheVariants.{Refused}
-use Rattle.sim_book.specs.declared.Refusal.TheVariants as refusal
+use Rattle.sim_script.specs.declared.script.ScriptLine.{ScriptLine}
 use Rattle.sim_script.specs.Script.{Text, Names}
 use Rattle.sim_cli.specs.declared.status.Status.{Status}
 use Rattle.sim_cli.specs.declared.status.Status.TheVariants as status
 use Rattle.sim_cli.specs.Turns.{Course}
-use Rattle.sim_cli.specs.Play.{end_from}
-
--- whether a reply, or a turn, tells of want of memory
-abbrev pub reply_wants : Reply → Bool
-reply_wants (Refused refusal.NoMemory) = true
-reply_wants _ = false
-
-abbrev pub turn_wants : Result Entry NotTaken → Bool
-turn_wants (Ok e) = reply_wants e.reply
-turn_wants (Err HistoryFull) = false
-turn_wants (Err NoMemory) = true
+use Rattle.sim_cli.specs.Play.{end_from, plain_next}
+use Rattle.sim_cli.specs.Strict.{Explains, IsFirstFault, are_well, is_well}
+use Rattle.sim_replay.specs.declared.stop.LineStop.{LineStop}
+use Rattle.sim_replay.specs.declared.stop.LineStop.TheVariants as line
+use Rattle.sim_replay.specs.declared.stop.ScriptStop.{ScriptStop}
+use Rattle.sim_replay.specs.declared.stop.ScriptStop.TheVariants as whole
 
 -- a hunt ends without an answer: the reader failed, or memory was wanted
 abbrev pub Stops : Status → Type 0
@@ -33,8 +23,44 @@ Stops status.ReaderFailed = ⊤
 Stops status.WriterFailed = ⊥
 Stops status.MemoryWanted = ⊤
 
--- From one course a script leaves what the rest of it, which is left to be read, leaves from another.
-pub record Followed {State Msg : Type 0} (r : Rules State Msg) (names : Names) (start : Course) (script : Text) (here : Course) (left : Option Text) : Type 0 where
+-- the same, or a line is at fault
+abbrev pub StopsScript : ScriptStop → Type 0
+StopsScript (whole.Ended ended) = Stops ended
+StopsScript (whole.Fault fault) = ⊤
+
+-- a line with this number, of which this text is kept, ends its script
+abbrev pub StopsAt : LineStop → ℕ → Text → ScriptStop → Type 0
+StopsAt (line.Fault why) number text (whole.Fault f) =
+    (f.number ≡ number) × (f.text.items ≡ text) × (f.why ≡ why)
+StopsAt (line.Fault why) number text (whole.Ended ended) = ⊥
+StopsAt line.MemoryWanted number text (whole.Fault f) = ⊥
+StopsAt line.MemoryWanted number text (whole.Ended ended) = ended ≡ status.MemoryWanted
+
+module _ {State Msg : Type 0} (r : Rules State Msg) (names : Names) (strict : Bool) where
+  -- What following a line leaves, and that it is not at fault where that is asked; or that it is.
+  abbrev pub FollowsLine : {T : Type 0} → Course → Course → ScriptLine → Result T LineStop → Type 0
+  FollowsLine old new asked (Ok _) = (new ≡ plain_next r names old asked)
+      × (strict ≡ true → is_well r names old asked ≡ true)
+  FollowsLine old new asked (Err (line.Fault why)) =
+      (strict ≡ true) × Explains r names old asked why
+  FollowsLine old new asked (Err line.MemoryWanted) = ⊤
+
+  -- What following the lines of a script leaves, and that none is at fault where that is asked; or
+  -- the first that is.
+  abbrev pub Follows : {T : Type 0} → Course → Course → List Text → Result T ScriptStop → Type 0
+  Follows old new ls (Ok _) = (new ≡ end_from r names old ls)
+      × (strict ≡ true → are_well r names old ls ≡ true)
+  Follows old new ls (Err (whole.Fault f)) = (strict ≡ true) × IsFirstFault r names old ls f
+  Follows old new ls (Err (whole.Ended ended)) = ⊤
+
+-- The lines of a script up to here were followed from one course to another, and so many were counted.
+-- None is at fault where that is asked, and the rest of the script is left to be read.
+pub record Followed {State Msg : Type 0} (r : Rules State Msg) (names : Names) (strict : Bool) (start : Course) (script : Text)
+    (here : Course) (left : Option Text) (number : ℕ) : Type 0 where
+  pub done : List Text
   pub rest : Text
   pub is_left : left ≡ Some rest
-  pub same : end_from r names start (lines script) ≡ end_from r names here (lines rest)
+  pub cut : lines script ≡ done ++ lines rest
+  pub at : here ≡ end_from r names start done
+  pub well : strict ≡ true → are_well r names start done ≡ true
+  pub count : number ≡ min (length done) (2 ^ 64 - 1)

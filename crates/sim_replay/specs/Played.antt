@@ -1,5 +1,5 @@
 -- The run that a script leaves on the first branch.
-use Rattle.std.specs.Prelude.{Bool, List, [], if◌then◌else◌}
+use Rattle.std.specs.Prelude.{◌≡◌, Bool, true, List, [], if◌then◌else◌, ⊤}
 use Rattle.std.specs.Str.Lines.{lines}
 use Rattle.sim_world.specs.declared.Event.{Event}
 use Rattle.sim_world.specs.Events.{Rules}
@@ -7,6 +7,9 @@ use Rattle.sim_book.specs.Book.{branch}
 use Rattle.sim_script.specs.Script.{Text, Names}
 use Rattle.sim_cli.specs.Turns.{beginning}
 use Rattle.sim_cli.specs.Play.{end_from}
+use Rattle.sim_cli.specs.Strict.{IsFirstFault, are_well}
+use Rattle.sim_replay.specs.declared.stop.ScriptStop.{ScriptStop}
+use Rattle.sim_replay.specs.declared.stop.ScriptStop.TheVariants.{Ended, Fault}
 
 module _ {State Msg : Type 0} (r : Rules State Msg) where
   -- all kept events of the first branch that a script leaves
@@ -16,3 +19,14 @@ module _ {State Msg : Type 0} (r : Rules State Msg) where
   -- the events that begin each planned run: those that the script leaves, if it is asked for
   abbrev pub given_events : Bool → Names → Text → List Event
   given_events with_script names script = if with_script then first_events names script else []
+
+  -- no line of a script is at fault, where that is asked
+  abbrev pub IsWellIf : Bool → Names → Text → Type 0
+  IsWellIf strict names script =
+      strict ≡ true → are_well r names beginning (lines script) ≡ true
+
+  -- where that is asked, this line is the first at fault, or nothing is told of the script's lines
+  abbrev pub IsFault : Bool → Names → Text → ScriptStop → Type 0
+  IsFault strict names script (Ended ended) = ⊤
+  IsFault strict names script (Fault fault) =
+      (strict ≡ true) × IsFirstFault r names beginning (lines script) fault

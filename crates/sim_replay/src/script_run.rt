@@ -1,13 +1,14 @@
 //! The run that a script leaves on the first branch.
-ghost use Rattle.std.specs.Prelude.{◌≡◌, ◌<◌, ℕ, List, IfOk, IfErr, Some, length, slice_index_or};
+ghost use Rattle.std.specs.Prelude.{◌≡◌, ◌<◌, ◌&&◌, ℕ, List, IfOk, IfErr, MatchResult, Some, length, slice_index_or};
 ghost use Rattle.std.specs.Io.KnownBytes.{prepend_known};
 ghost use Rattle.sim_world.specs.Events.{rules};
-ghost use Rattle.sim_replay.specs.Following.{Stops};
-ghost use Rattle.sim_replay.specs.Played.{first_events, given_events};
+ghost use Rattle.sim_replay.specs.Following.{Stops, StopsScript};
+ghost use Rattle.sim_replay.specs.Played.{IsFault, IsWellIf, first_events, given_events};
 ghost use Rattle.sim_book.specs.Kept.{Kept as KeptValue};
 
 use crate::Status;
 use crate::following::follow;
+use crate::stop::ScriptStop;
 use sim_book::Book;
 use sim_cli::Opened;
 use sim_lines::Ahead;
@@ -19,25 +20,36 @@ use sim_world::{Event, Scenario};
 use std::alloc::Global;
 use std::io::Read;
 
-/// All kept events of the first branch, once a script was carried out.
+/// All kept events of the first branch, once a script was carried out. Strictly, no line of the script
+/// may be at fault.
 pub fn played<N: Node<Meter = Tally>, R: Read>(
     alloc: Global,
     scenario: &Scenario,
     names: &Names,
     reader: &mut R,
     ahead: &mut Ahead,
-) -> Result<Frozen<N>, Status>
+    strict: bool,
+) -> Result<Frozen<N>, ScriptStop>
     ensures run { (script : List ℕ) →
         prepend_known ahead.old.bytes (R.remaining reader.old) ≡ Some script →
-        IfOk result (λ f. (f.scenario ≡ scenario.now)
-        × (f.events ≡ first_events (rules N.laws N.PROBES scenario.now) names.now script)) }
-    ensures stops { IfErr result Stops }
+        MatchResult result
+        (λ f. (f.scenario ≡ scenario.now)
+        × (f.events ≡ first_events (rules N.laws N.PROBES scenario.now) names.now script)
+        × IsWellIf (rules N.laws N.PROBES scenario.now) strict names.now script)
+        (IsFault (rules N.laws N.PROBES scenario.now) strict names.now script) }
+    ensures stops { IfErr result StopsScript }
 {
     let Ok(mut book) = Book::<N>::new(alloc, scenario, Tally::new()) else {
-        return Err(Status::MemoryWanted);
+        return Err(ScriptStop::Ended(Status::MemoryWanted));
     };
-    follow(alloc, &mut book, names, reader, ahead)?;
-    first_run(alloc, &book)
+    match follow(alloc, &mut book, names, reader, ahead, strict) {
+        Ok(()) => {}
+        Err(stop) => return Err(stop),
+    }
+    match first_run(alloc, &book) {
+        Ok(frozen) => Ok(frozen),
+        Err(status) => Err(ScriptStop::Ended(status)),
+    }
 }
 
 // All kept events of the first branch.
@@ -67,26 +79,36 @@ fn listed(alloc: Global, list: &EventList) -> Result<Vec<Event>, NoMemory>
 }
 
 /// The events that begin each run of a sweep: those that the script leaves if it is asked for, and
-/// else none. Without a script nothing is read.
+/// else none. Without a script nothing is read. Strictly, no line of the script may be at fault.
 pub fn given_events<N: Node<Meter = Tally>, R: Read>(
     alloc: Global,
     opened: &Opened,
     with_script: bool,
+    strict: bool,
     reader: &mut R,
     ahead: &mut Ahead,
-) -> Result<Vec<Event>, Status>
+) -> Result<Vec<Event>, ScriptStop>
     ensures given { (script : List ℕ) →
         prepend_known ahead.old.bytes (R.remaining reader.old) ≡ Some script →
-        IfOk result (λ v. v.items ≡ given_events (rules N.laws N.PROBES opened.now.scenario)
-        with_script opened.now.names script) }
-    ensures stops { IfErr result Stops }
+        MatchResult result
+        (λ v. (v.items ≡ given_events (rules N.laws N.PROBES opened.now.scenario)
+        with_script opened.now.names script)
+        × IsWellIf (rules N.laws N.PROBES opened.now.scenario) (with_script && strict)
+        opened.now.names script)
+        (IsFault (rules N.laws N.PROBES opened.now.scenario) (with_script && strict)
+        opened.now.names script) }
+    ensures stops { IfErr result StopsScript }
 {
     if !with_script {
         return Ok(Vec::new(alloc));
     }
-    let frozen = played::<N, R>(alloc, &opened.scenario, &opened.names, reader, ahead)?;
+    let (scenario, names) = (&opened.scenario, &opened.names);
+    let frozen = match played::<N, R>(alloc, scenario, names, reader, ahead, strict) {
+        Ok(frozen) => frozen,
+        Err(stop) => return Err(stop),
+    };
     match listed(alloc, frozen.events()) {
         Ok(events) => Ok(events),
-        Err(_) => Err(Status::MemoryWanted),
+        Err(_) => Err(ScriptStop::Ended(Status::MemoryWanted)),
     }
 }

@@ -3,3 +3,4 @@ pub mod Words
 pub mod Conditions
 pub mod Asks
 pub mod Script
+pub mod Mistakes

@@ -12,14 +12,14 @@ use crate::words::{next_word, parse_number};
 use sim_watch::{Comparison, Cond, Op, Term, Value};
 
 /// The most digits of the number in a term.
-const MAX_DIGITS: usize = 19;
+pub(crate) const MAX_DIGITS: usize = 19;
 
 /// The most terms of a condition.
-const MAX_TERMS: usize = 8;
+pub(crate) const MAX_TERMS: usize = 8;
 
 /// How a number is compared.
 #[tactic(auto, unfolding(crate::specs::Conditions::op_of))]
-fn parse_op(word: &[u8]) -> Option<Op>
+pub(crate) fn parse_op(word: &[u8]) -> Option<Op>
     ensures { result ≡ op_of word.now }
 {
     if word == b"<".as_slice() {
@@ -55,7 +55,7 @@ fn first_dot(word: &[u8]) -> Option<usize>
 }
 
 /// A host and a probe, joined by a dot.
-fn parse_probe(names: &Names, word: &[u8]) -> Option<(u16, u8)>
+pub(crate) fn parse_probe(names: &Names, word: &[u8]) -> Option<(u16, u8)>
     ensures { result ≡ host_and_probe names.now word.now }
 {
     let dot = first_dot(word)?;
@@ -65,7 +65,7 @@ fn parse_probe(names: &Names, word: &[u8]) -> Option<(u16, u8)>
 }
 
 /// A number, or the probe of a host whose value it is.
-fn parse_value(names: &Names, word: &[u8]) -> Option<Value>
+pub(crate) fn parse_value(names: &Names, word: &[u8]) -> Option<Value>
     ensures { result ≡ value names.now word.now }
 {
     if let Some(number) = parse_bound(word) {

@@ -12,10 +12,10 @@ use sim_book::Command;
 use sim_world::{Fault, Query};
 
 /// A longer line is bad (bytes).
-const MAX_LINE: usize = 256;
+pub(crate) const MAX_LINE: usize = 256;
 
 /// The most digits of a number that is no bound of a term.
-const MAX_DIGITS: usize = 9;
+pub(crate) const MAX_DIGITS: usize = 9;
 
 /// What a line of a script asks.
 #[derive(Drop)]

@@ -2,4 +2,6 @@
 #![tactic(auto)]
 
 #[cfg(test)]
+mod mistakes;
+#[cfg(test)]
 mod tests;

@@ -4,6 +4,7 @@
 //!   an event that is refused though it has a line.
 //! * `conditions`: a condition that is written otherwise than the page of scripts says, as with two
 //!   spaces, or is refused though it can be written.
+//! * `mistakes::mistakes`: a bad line that is told to be bad at another word, or for another reason.
 ghost use Rattle.std.specs.Prelude.{◌≡◌, codes, [], ◌∷◌, vec_len, IfOk};
 
 use sim_input::{LineError, push_condition, script};
@@ -94,7 +95,7 @@ fn probes(alloc: Global) -> Result<Vec<String>, AllocError>
     Ok(probes)
 }
 
-fn names(alloc: Global) -> Result<Names, AllocError> {
+pub fn names(alloc: Global) -> Result<Names, AllocError> {
     let probes = probes(alloc)?;
     match sim_scenario::read::<Echo>(alloc, SCENARIO) {
         Ok(text) => Ok(Names::new(text.names, probes)),

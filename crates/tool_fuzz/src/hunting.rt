@@ -276,6 +276,7 @@ impl Hunt {
         match self.ground {
             Ground::Places { lo, hi } => Job::Search {
                 team: self.team(),
+                strict: false,
                 lo: u64::from(lo),
                 hi: u64::from(hi),
                 cond,
@@ -292,6 +293,7 @@ impl Hunt {
                 },
                 at_end: false,
                 script: false,
+                strict: false,
                 first,
                 count,
                 events: u64::from(events),

@@ -53,6 +53,7 @@ pub fn all<R: Threads + Wait + Sync + Clock + Eprint>(
     let input = again(|| input(alloc))?;
     let search = Job::Search {
         team: TEAM,
+        strict: false,
         lo: 0,
         hi: 9,
         cond: "c.next <= 1",
@@ -69,6 +70,7 @@ pub fn all<R: Threads + Wait + Sync + Clock + Eprint>(
         },
         at_end: false,
         script: false,
+        strict: false,
         first: 5,
         count: 3,
         events: 30,

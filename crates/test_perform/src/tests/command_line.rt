@@ -38,12 +38,13 @@ fn status_of(rt: &HostRuntime, words: &[&str]) -> Option<u8> {
 
 #[test]
 fn jobs(rt: HostRuntime) {
-    assert!(rt; asks(&rt, &["simback", "play"], Job::Play));
+    assert!(rt; asks(&rt, &["simback", "play"], Job::Play { strict: false }));
     let plain = Job::Search {
         team: Team {
             workers: 2,
             progress: false,
         },
+        strict: false,
         lo: 0,
         hi: 6,
         cond: "w.next <= 1",
@@ -54,6 +55,7 @@ fn jobs(rt: HostRuntime) {
             workers: 3,
             progress: true,
         },
+        strict: true,
         lo: 1,
         hi: 7,
         cond: "up a",
@@ -64,6 +66,7 @@ fn jobs(rt: HostRuntime) {
         "--workers=3",
         "1",
         "--progress",
+        "--strict",
         "7",
         "up a",
     ];
@@ -79,6 +82,7 @@ fn jobs(rt: HostRuntime) {
         },
         at_end: false,
         script: false,
+        strict: false,
         first: 18446744073709551615,
         count: 2,
         events: 6,

@@ -10,7 +10,7 @@ use std::rt::Clock;
 use std::sync::Wait;
 use std::thread::Threads;
 
-const BASE: &str = r#"format = 1
+pub const BASE: &str = r#"format = 1
 seed = "0000000000000000000000000000000000000000000000000000000000000000"
 protocol = "echo"
 tick = 100
@@ -45,6 +45,7 @@ fn search(workers: u64, lo: u64, hi: u64, cond: &str) -> Job<'_>
             workers,
             progress: false,
         },
+        strict: false,
         lo,
         hi,
         cond,
@@ -67,6 +68,7 @@ pub fn sweep(workers: u64, first: u64, count: u64, events: u64, cond: &str) -> J
         },
         at_end: false,
         script: false,
+        strict: false,
         first,
         count,
         events,

@@ -7,6 +7,7 @@ returns c =
     let none = named _ _ c.after_help.result c.new.ensures.app c.new.ensures.local c.about.ensures c.after_help.ensures in
     let one = with_argument c.in_ok-arg.ensures none c.workers.ensures in
     let two = with_argument c.in_ok-arg-2.ensures one c.progress.ensures in
-    let three = with_argument c.in_ok-arg-3.ensures two c.number.ensures in
-    let four = with_argument c.in_ok-arg-4.ensures three c.number-2.ensures in
-    IfOk-weaker c.arg-5.result _ _ (λ made adds. with_argument adds four c.cond.ensures) c.arg-5.ensures
+    let three = with_argument c.in_ok-arg-3.ensures two c.strict.ensures in
+    let four = with_argument c.in_ok-arg-4.ensures three c.number.ensures in
+    let five = with_argument c.in_ok-arg-5.ensures four c.number-2.ensures in
+    IfOk-weaker c.arg-6.result _ _ (λ made adds. with_argument adds five c.cond.ensures) c.arg-6.ensures

@@ -8,10 +8,11 @@ returns c =
     let one = with_argument c.in_ok-arg.ensures none c.workers.ensures in
     let two = with_argument c.in_ok-arg-2.ensures one c.progress.ensures in
     let three = with_argument c.in_ok-arg-3.ensures two c.with_script.ensures in
-    let four = with_argument c.in_ok-arg-4.ensures three c.faults.ensures in
-    let five = with_argument c.in_ok-arg-5.ensures four c.quiet.ensures in
-    let six = with_argument c.in_ok-arg-6.ensures five c.at_end.ensures in
-    let seven = with_argument c.in_ok-arg-7.ensures six c.number.ensures in
-    let eight = with_argument c.in_ok-arg-8.ensures seven c.number-2.ensures in
-    let nine = with_argument c.in_ok-arg-9.ensures eight c.number-3.ensures in
-    IfOk-weaker c.arg-10.result _ _ (λ made adds. with_argument adds nine c.cond.ensures) c.arg-10.ensures
+    let four = with_argument c.in_ok-arg-4.ensures three c.strict.ensures in
+    let five = with_argument c.in_ok-arg-5.ensures four c.faults.ensures in
+    let six = with_argument c.in_ok-arg-6.ensures five c.quiet.ensures in
+    let seven = with_argument c.in_ok-arg-7.ensures six c.at_end.ensures in
+    let eight = with_argument c.in_ok-arg-8.ensures seven c.number.ensures in
+    let nine = with_argument c.in_ok-arg-9.ensures eight c.number-2.ensures in
+    let ten = with_argument c.in_ok-arg-10.ensures nine c.number-3.ensures in
+    IfOk-weaker c.arg-11.result _ _ (λ made adds. with_argument adds ten c.cond.ensures) c.arg-11.ensures

@@ -1,4 +1,4 @@
-use Rattle.std.proofs.Common.{subst}
+use Rattle.std.proofs.Common.{◌∙◌, Bool, true, false, ap, subst}
 use Rattle.sim_cli.specs.Play.{Ended}
 use Rattle.sim_perform.specs.declared.hunting.Area.{Area}
 use Rattle.sim_perform.specs.Outcomes.{Hunted}
@@ -7,22 +7,27 @@ use Rattle.sim_cli.specs.Subjects.{nodes_by}
 use Rattle.sim_perform.proofs.Ends.{as_job}
 use Rattle.sim_perform.proofs.performing.perform.Goals as goal
 
-pub returns-in-Play-clause-performed : goal.returns-in-Play-clause-performed
-returns-in-Play-clause-performed g c = λ given e.
-    as_job g.L.Protocols.listed (nodes_by g.L.Subjects.nodes) c.args.job.now jobs.Play given _ _ _ c.play.result
-    c.in-Play.is (c.play.ensures.played given e)
+pub returns-then-strict-clause-performed : goal.returns-then-strict-clause-performed
+returns-then-strict-clause-performed g c = λ given e.
+    as_job g.L.Protocols.listed (nodes_by g.L.Subjects.nodes) c.args.job.now (jobs.Play true) given _ _ _ c.play_strictly.result
+    (c.in-Play.is ∙ ap (λ (b : Bool). jobs.Play b) c.if-strict.true) (c.play_strictly.ensures.played given e)
+
+pub returns-else-strict-clause-performed : goal.returns-else-strict-clause-performed
+returns-else-strict-clause-performed g c = λ given e.
+    as_job g.L.Protocols.listed (nodes_by g.L.Subjects.nodes) c.args.job.now (jobs.Play false) given _ _ _ c.play.result
+    (c.in-Play.is ∙ ap (λ (b : Bool). jobs.Play b) c.if-strict.false) (c.play.ensures.played given e)
 
 pub returns-in-Search-clause-performed : goal.returns-in-Search-clause-performed
 returns-in-Search-clause-performed g c = λ given e.
     as_job g.L.Protocols.listed (nodes_by g.L.Subjects.nodes) c.args.job.now
-    (jobs.Search c.in-Search.team c.in-Search.lo c.in-Search.hi c.in-Search.cond) given _ _ _ c.hunt_scenario.result
+    (jobs.Search c.in-Search.team c.in-Search.strict c.in-Search.lo c.in-Search.hi c.in-Search.cond) given _ _ _ c.hunt_scenario.result
     c.in-Search.is (c.hunt_scenario.ensures given e)
 
 pub returns-in-Sweep-clause-performed : goal.returns-in-Sweep-clause-performed
 returns-in-Sweep-clause-performed g c = λ given e.
     let s = c.in-Sweep in
     as_job g.L.Protocols.listed (nodes_by g.L.Subjects.nodes) c.args.job.now
-    (jobs.Sweep s.team s.plan s.at_end s.script s.first s.count s.events s.cond) given _ _ _ c.hunt_scenario-in-Sweep.result s.is
+    (jobs.Sweep s.team s.plan s.at_end s.script s.strict s.first s.count s.events s.cond) given _ _ _ c.hunt_scenario-in-Sweep.result s.is
     (subst (λ (a : Area). Ended (g.W.Write.contents c.args.writer.now) (g.W.Write.contents c.hunt_scenario-in-Sweep.new.writer) (Hunted g.L.Protocols.listed (nodes_by g.L.Subjects.nodes) a s.cond.now given c.hunt_scenario-in-Sweep.result))
     c.area_of-area.ensures (c.hunt_scenario-in-Sweep.ensures given e))
 

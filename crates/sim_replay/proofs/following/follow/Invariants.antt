@@ -12,7 +12,7 @@ invariant-loop-book g l = record {
   scenario : l.book.scenario ≡ l.fn.book.scenario;
   some : 0 < length l.fn.book.kept → 0 < length l.book.kept;
   so : (script : List ℕ) → prepend_known l.fn.ahead.bytes (g.R.Read.remaining l.fn.reader) ≡ Some script →
-      Followed (rules g.N.Node.laws g.N.Node.PROBES l.fn.book.scenario) l.names (course_of l.fn.book) script (course_of l.book) (prepend_known l.ahead.bytes (g.R.Read.remaining l.reader));
+      Followed (rules g.N.Node.laws g.N.Node.PROBES l.fn.book.scenario) l.names l.strict (course_of l.fn.book) script (course_of l.book) (prepend_known l.ahead.bytes (g.R.Read.remaining l.reader)) l.number;
 }
 
 -- fewer bytes can come

@@ -1,0 +1,421 @@
+//! Why a line of a script is bad.
+ghost use Rattle.std.specs.Prelude.{◌≡◌, ◌+◌, ◌≤◌, ◌<◌, ◌↔◌, length, IfOk, IfErr, IfSome, IsSome};
+ghost use Rattle.sim_script.specs.Words.{words};
+ghost use Rattle.sim_script.specs.Script.{script_line};
+ghost use Rattle.sim_script.specs.Mistakes.{IsBetween, total};
+
+use crate::condition::{
+    MAX_DIGITS as MAX_TERM_DIGITS, MAX_TERMS, parse_op, parse_probe, parse_value,
+};
+use crate::names::Names;
+use crate::script::{MAX_DIGITS, MAX_LINE, ScriptLine, line_of};
+use crate::words::{next_word, parse_number};
+use std::fmt;
+
+/// What should stand in a line.
+#[derive(Clone, Copy, Debug, PartialEq, Eq)]
+pub enum Expected {
+    /// `@` and the number of a branch.
+    Branch,
+    /// The first word of a command.
+    Command,
+    /// A number of 1 to 9 digits.
+    Number,
+    /// The name of a host.
+    Host,
+    /// The name of a probe.
+    Probe,
+    /// What is looked at: `next`, `host`, `link` or `probe`.
+    View,
+    /// The first word of a term of a condition.
+    Term,
+    /// `up` or `done`.
+    State,
+    /// The word `unless`.
+    Unless,
+    /// The word `unless` or `by`.
+    UnlessOrBy,
+    /// An operator, as `<=`.
+    Operator,
+    /// A number of 1 to 19 digits, or the probe of a host.
+    Value,
+    /// A number of 1 to 19 digits.
+    Bound,
+    /// `and`, `or`, or the end of the line.
+    Joint,
+    /// The end of the line.
+    End,
+    /// A line of at most 256 bytes.
+    ShorterLine,
+}
+
+impl fmt::Display for Expected {
+    fn fmt<W: fmt::Write>(&self, f: &mut fmt::Formatter<W>) -> fmt::Result {
+        let what = match self {
+            Expected::Branch => "`@` and the number of a branch",
+            Expected::Command => "a command",
+            Expected::Number => "a number of 1 to 9 digits",
+            Expected::Host => "the name of a host",
+            Expected::Probe => "the name of a probe",
+            Expected::View => "`next`, `host`, `link` or `probe`",
+            Expected::Term => "a term of a condition",
+            Expected::State => "`up` or `done`",
+            Expected::Unless => "`unless`",
+            Expected::UnlessOrBy => "`unless` or `by`",
+            Expected::Operator => "`<`, `<=`, `=`, `!=`, `>=` or `>`",
+            Expected::Value => "a number of 1 to 19 digits or HOST.PROBE",
+            Expected::Bound => "a number of 1 to 19 digits",
+            Expected::Joint => "`and`, `or` or the end of the line",
+            Expected::End => "the end of the line",
+            Expected::ShorterLine => "at most 256 bytes in the line",
+        };
+        write!(f, "{what}")
+    }
+}
+
+/// Why a line is bad: the number of a word, from 1, and what should stand there. Where a word is
+/// missing, the number is one past the last word. A line that is too long counts as a mistake at
+/// its first word.
+#[derive(Clone, Copy, Debug, PartialEq, Eq)]
+pub struct LineMistake {
+    pub word: u32,
+    pub expected: Expected,
+}
+
+impl fmt::Display for LineMistake {
+    fn fmt<W: fmt::Write>(&self, f: &mut fmt::Formatter<W>) -> fmt::Result {
+        let (word, expected) = (self.word, self.expected);
+        write!(f, "word {word}: expected {expected}")
+    }
+}
+
+/// The commands of one word.
+static ALONE: [&[u8]; 4] = [b"step", b"tick", b"cut", b"trace"];
+
+/// The commands that take a number.
+static NUMBERED: [&[u8]; 7] = [
+    b"run", b"back", b"forward", b"goto", b"rewind", b"branch", b"unwatch",
+];
+
+/// The commands that take a host.
+static ON_HOST: [&[u8]; 2] = [b"crash", b"bounce"];
+
+/// The commands that take two hosts.
+static ON_LINK: [&[u8]; 6] = [
+    b"hold",
+    b"release",
+    b"partition",
+    b"repair",
+    b"cutoneway",
+    b"repaironeway",
+];
+
+static NOTHING: [Expected; 0] = [];
+
+static A_NUMBER: [Expected; 1] = [Expected::Number];
+
+static A_HOST: [Expected; 1] = [Expected::Host];
+
+static TWO_HOSTS: [Expected; 2] = [Expected::Host, Expected::Host];
+
+static A_PROBE: [Expected; 2] = [Expected::Host, Expected::Probe];
+
+static A_STATE: [Expected; 2] = [Expected::State, Expected::Host];
+
+static COMPARISON: [Expected; 2] = [Expected::Operator, Expected::Value];
+
+static VALUES: [Expected; 3] = [Expected::Probe, Expected::Operator, Expected::Value];
+
+static COUNT: [Expected; 5] = [
+    Expected::Probe,
+    Expected::Operator,
+    Expected::Value,
+    Expected::Operator,
+    Expected::Bound,
+];
+
+static DIFFER: [Expected; 3] = [Expected::Probe, Expected::Unless, Expected::Bound];
+
+static AGREE: [Expected; 3] = [Expected::Probe, Expected::UnlessOrBy, Expected::Bound];
+
+static AGREE_BY: [Expected; 5] = [
+    Expected::Probe,
+    Expected::UnlessOrBy,
+    Expected::Probe,
+    Expected::Unless,
+    Expected::Bound,
+];
+
+/// A place in a line: how many words lie before it, and what follows.
+#[derive(Clone, Copy)]
+struct At<'a> {
+    taken: u32,
+    rest: &'a [u8],
+}
+
+fn is_one_of(word: &[u8], names: &[&[u8]]) -> bool {
+    names.iter().any(|name| word == *name)
+}
+
+/// Whether a word is what is expected.
+fn fits(names: &Names, expected: Expected, word: &[u8]) -> bool {
+    match expected {
+        Expected::Branch => match word {
+            [b'@', digits @ ..] => parse_number(digits, MAX_DIGITS).is_some(),
+            _ => false,
+        },
+        Expected::Number => parse_number(word, MAX_DIGITS).is_some(),
+        Expected::Host => names.host(word).is_some(),
+        Expected::Probe => names.probe(word).is_some(),
+        Expected::State => word == b"up".as_slice() || word == b"done".as_slice(),
+        Expected::Unless => word == b"unless".as_slice(),
+        Expected::UnlessOrBy => word == b"unless".as_slice() || word == b"by".as_slice(),
+        Expected::Operator => parse_op(word).is_some(),
+        Expected::Value => parse_value(names, word).is_some(),
+        Expected::Bound => parse_number(word, MAX_TERM_DIGITS).is_some(),
+        Expected::Joint => word == b"and".as_slice() || word == b"or".as_slice(),
+        Expected::Command
+        | Expected::View
+        | Expected::Term
+        | Expected::End
+        | Expected::ShorterLine => false,
+    }
+}
+
+/// That something else should stand at this place.
+fn mistake_at(at: At<'_>, expected: Expected) -> LineMistake
+    requires { at.taken < 1000 }
+    ensures { result.word ≡ at.entry.taken + 1 }
+{
+    let word = at.taken + 1;
+    LineMistake { word, expected }
+}
+
+/// The place after the next word, which must be what is expected.
+fn take<'a>(names: &Names, expected: Expected, at: At<'a>) -> Result<At<'a>, LineMistake>
+    requires { at.taken < 1000 }
+    ensures next { IfOk result (λ next. (next.taken ≡ at.entry.taken + 1)
+        × (length (words at.entry.rest.now) ≡ length (words next.rest.now) + 1)) }
+    ensures mistake { IfErr result (λ m. m.word ≡ at.entry.taken + 1) }
+{
+    let Some((word, rest)) = next_word(at.rest) else {
+        return Err(mistake_at(at, expected));
+    };
+    if !fits(names, expected, word) {
+        return Err(mistake_at(at, expected));
+    }
+    let taken = at.taken + 1;
+    Ok(At { taken, rest })
+}
+
+/// The place after the next words, which must be what is expected.
+fn walk<'a>(names: &Names, shape: &[Expected], start: At<'a>) -> Result<At<'a>, LineMistake>
+    requires { start.taken + length shape.now < 1000 }
+    ensures next { IfOk result (λ next. (next.taken ≡ start.entry.taken + length shape.now)
+        × (total next.taken next.rest.now ≡ total start.entry.taken start.entry.rest.now)) }
+    ensures mistake { IfErr result (λ m.
+        IsBetween start.entry.taken m.word (total start.entry.taken start.entry.rest.now)) }
+{
+    let mut at = start;
+    for expected in shape {
+        at = take(names, *expected, at)?;
+    }
+    Ok(at)
+}
+
+/// What follows `agree`.
+fn agreement_shape(rest: &[u8]) -> &'static [Expected]
+    ensures { length result.now ≤ 5 }
+{
+    match next_word(rest) {
+        Some((_probe, rest)) => match next_word(rest) {
+            Some((word, _rest)) => {
+                if word == b"by".as_slice() {
+                    AGREE_BY.as_slice()
+                } else {
+                    AGREE.as_slice()
+                }
+            }
+            None => AGREE.as_slice(),
+        },
+        None => AGREE.as_slice(),
+    }
+}
+
+/// What follows the first word of a term, or none where no term begins with it.
+fn term_shape(names: &Names, word: &[u8], rest: &[u8]) -> Option<&'static [Expected]>
+    ensures { IfSome result (λ shape. length shape.now ≤ 5) }
+{
+    if word == b"up".as_slice() || word == b"done".as_slice() {
+        Some(A_HOST.as_slice())
+    } else if word == b"not".as_slice() {
+        Some(A_STATE.as_slice())
+    } else if word == b"agree".as_slice() {
+        Some(agreement_shape(rest))
+    } else if word == b"differ".as_slice() {
+        Some(DIFFER.as_slice())
+    } else if word == b"any".as_slice() || word == b"all".as_slice() {
+        Some(VALUES.as_slice())
+    } else if word == b"count".as_slice() {
+        Some(COUNT.as_slice())
+    } else if parse_probe(names, word).is_some() {
+        Some(COMPARISON.as_slice())
+    } else {
+        None
+    }
+}
+
+/// The place after a term.
+fn walk_term<'a>(names: &Names, at: At<'a>) -> Result<At<'a>, LineMistake>
+    requires { at.taken < 900 }
+    ensures next { IfOk result (λ next. (at.entry.taken ≤ next.taken)
+        × (next.taken ≤ at.entry.taken + 6)
+        × (total next.taken next.rest.now ≡ total at.entry.taken at.entry.rest.now)) }
+    ensures mistake { IfErr result (λ m.
+        IsBetween at.entry.taken m.word (total at.entry.taken at.entry.rest.now)) }
+{
+    let Some((word, rest)) = next_word(at.rest) else {
+        return Err(mistake_at(at, Expected::Term));
+    };
+    let Some(shape) = term_shape(names, word, rest) else {
+        return Err(mistake_at(at, Expected::Term));
+    };
+    let taken = at.taken + 1;
+    walk(names, shape, At { taken, rest })
+}
+
+/// The place after a condition of at most 8 terms.
+fn walk_condition<'a>(names: &Names, start: At<'a>) -> Result<At<'a>, LineMistake>
+    requires { start.taken < 100 }
+    ensures next { IfOk result (λ next. (next.taken < 900)
+        × (total next.taken next.rest.now ≡ total start.entry.taken start.entry.rest.now)) }
+    ensures mistake { IfErr result (λ m.
+        IsBetween start.entry.taken m.word (total start.entry.taken start.entry.rest.now)) }
+{
+    let mut at = start;
+    for _joint in 1..MAX_TERMS {
+        at = walk_term(names, at)?;
+        if next_word(at.rest).is_none() {
+            return Ok(at);
+        }
+        at = take(names, Expected::Joint, at)?;
+    }
+    walk_term(names, at)
+}
+
+/// The place after what follows `look`.
+fn walk_view<'a>(names: &Names, at: At<'a>) -> Result<At<'a>, LineMistake>
+    requires { at.taken < 100 }
+    ensures next { IfOk result (λ next. (next.taken < 900)
+        × (total next.taken next.rest.now ≡ total at.entry.taken at.entry.rest.now)) }
+    ensures mistake { IfErr result (λ m.
+        IsBetween at.entry.taken m.word (total at.entry.taken at.entry.rest.now)) }
+{
+    let Some((word, rest)) = next_word(at.rest) else {
+        return Ok(at);
+    };
+    let taken = at.taken + 1;
+    let after = At { taken, rest };
+    if word == b"next".as_slice() {
+        Ok(after)
+    } else if word == b"host".as_slice() {
+        walk(names, A_HOST.as_slice(), after)
+    } else if word == b"link".as_slice() {
+        walk(names, TWO_HOSTS.as_slice(), after)
+    } else if word == b"probe".as_slice() {
+        walk(names, A_PROBE.as_slice(), after)
+    } else {
+        Err(mistake_at(at, Expected::View))
+    }
+}
+
+/// What follows the first word of a command that is no look and no watch, or none where no such
+/// command begins with it.
+fn command_shape(word: &[u8]) -> Option<&'static [Expected]>
+    ensures { IfSome result (λ shape. length shape.now ≤ 2) }
+{
+    if is_one_of(word, &ALONE) {
+        Some(NOTHING.as_slice())
+    } else if is_one_of(word, &NUMBERED) {
+        Some(A_NUMBER.as_slice())
+    } else if is_one_of(word, &ON_HOST) {
+        Some(A_HOST.as_slice())
+    } else if is_one_of(word, &ON_LINK) {
+        Some(TWO_HOSTS.as_slice())
+    } else {
+        None
+    }
+}
+
+/// The place after a command, without its branch.
+fn walk_command<'a>(names: &Names, at: At<'a>) -> Result<At<'a>, LineMistake>
+    requires { at.taken ≤ 1 }
+    ensures next { IfOk result (λ next. (next.taken < 900)
+        × (total next.taken next.rest.now ≡ total at.entry.taken at.entry.rest.now)) }
+    ensures mistake { IfErr result (λ m.
+        IsBetween at.entry.taken m.word (total at.entry.taken at.entry.rest.now)) }
+{
+    let Some((word, rest)) = next_word(at.rest) else {
+        return Err(mistake_at(at, Expected::Command));
+    };
+    let taken = at.taken + 1;
+    let after = At { taken, rest };
+    if word == b"look".as_slice() {
+        walk_view(names, after)
+    } else if word == b"watch".as_slice() {
+        walk_condition(names, after)
+    } else {
+        match command_shape(word) {
+            Some(shape) => walk(names, shape, after),
+            None => Err(mistake_at(at, Expected::Command)),
+        }
+    }
+}
+
+/// The place after the branch of a line, where it names one.
+fn walk_branch<'a>(names: &Names, line: &'a [u8]) -> Result<At<'a>, LineMistake>
+    ensures next { IfOk result (λ next. (next.taken ≤ 1)
+        × (total next.taken next.rest.now ≡ length (words line.entry.now))) }
+    ensures mistake { IfErr result (λ m. m.word ≡ 1) }
+{
+    let start = At {
+        taken: 0,
+        rest: line,
+    };
+    match next_word(line) {
+        Some(([b'@', ..], _rest)) => take(names, Expected::Branch, start),
+        _ => Ok(start),
+    }
+}
+
+/// The first word of a line that is no command that should be another, or the end of the line.
+fn first_mistake(names: &Names, line: &[u8]) -> LineMistake
+    ensures { IsBetween 0 result.word (length (words line.now)) }
+{
+    if line.len() > MAX_LINE {
+        return LineMistake {
+            word: 1,
+            expected: Expected::ShorterLine,
+        };
+    }
+    let walked = match walk_branch(names, line) {
+        Ok(at) => walk_command(names, at),
+        Err(mistake) => Err(mistake),
+    };
+    match walked {
+        Ok(at) => mistake_at(at, Expected::End),
+        Err(mistake) => mistake,
+    }
+}
+
+/// Why a line of a script is bad: which word should be another, or is missing, and what should stand
+/// there. None where the line is no bad line. It takes no memory.
+pub fn mistake_of(names: &Names, line: &[u8]) -> Option<LineMistake>
+    ensures bad { IsSome result ↔ (script_line names.now line.now ≡ ScriptLine.Bad) }
+    ensures place { IfSome result (λ m. IsBetween 0 m.word (length (words line.now))) }
+{
+    match line_of(names, line) {
+        ScriptLine::Bad => Some(first_mistake(names, line)),
+        ScriptLine::Nothing | ScriptLine::Asked(_) => None,
+    }
+}

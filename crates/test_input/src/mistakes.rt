@@ -1,0 +1,127 @@
+//! Lines that are bad, and why.
+use crate::tests::names;
+use sim_script::{Expected, mistake_of};
+use std::alloc::Global;
+use std::test::Fail;
+
+/// Bad lines.
+const BAD: &str = "crsh a
+   
+@x step
+@1 
+@1 crsh
+  step  1
+run
+run 1234567890
+@2 run 1 2
+crash
+bounce A
+hold a
+repaironeway a B
+partition a b1 w
+look up
+look host
+look link a
+look probe a
+look next a
+watch
+watch zz
+watch up
+watch not a
+watch agree num
+watch agree num by val
+watch differ num unless
+watch any num
+watch all num < A
+watch count num < 1
+watch count num < 1 = a
+watch a.num
+watch a.num = 12345678901234567890
+watch up a up b1
+watch up a and
+watch up a or done b1 or Zz
+watch up a or up a or up a or up a or up a or up a or up a or up a or up a
+";
+
+/// What is told of them, as the page of scripts says what may stand in a line.
+const TOLD: &str = "word 1: expected a command
+word 1: expected a command
+word 1: expected `@` and the number of a branch
+word 2: expected a command
+word 2: expected a command
+word 2: expected the end of the line
+word 2: expected a number of 1 to 9 digits
+word 2: expected a number of 1 to 9 digits
+word 4: expected the end of the line
+word 2: expected the name of a host
+word 2: expected the name of a host
+word 3: expected the name of a host
+word 3: expected the name of a host
+word 4: expected the end of the line
+word 2: expected `next`, `host`, `link` or `probe`
+word 3: expected the name of a host
+word 4: expected the name of a host
+word 4: expected the name of a probe
+word 3: expected the end of the line
+word 2: expected a term of a condition
+word 2: expected a term of a condition
+word 3: expected the name of a host
+word 3: expected `up` or `done`
+word 4: expected `unless` or `by`
+word 6: expected `unless`
+word 5: expected a number of 1 to 19 digits
+word 4: expected `<`, `<=`, `=`, `!=`, `>=` or `>`
+word 5: expected a number of 1 to 19 digits or HOST.PROBE
+word 6: expected `<`, `<=`, `=`, `!=`, `>=` or `>`
+word 7: expected a number of 1 to 19 digits
+word 3: expected `<`, `<=`, `=`, `!=`, `>=` or `>`
+word 4: expected a number of 1 to 19 digits or HOST.PROBE
+word 4: expected `and`, `or` or the end of the line
+word 5: expected a term of a condition
+word 8: expected a term of a condition
+word 25: expected the end of the line
+";
+
+/// Lines that are not bad.
+const FINE: &str = "
+# crsh
+crash zz
+look
+@3 watch up zz
+";
+
+/// What is told of the lines of a text, with `fine` for a line that is not bad.
+fn told(alloc: Global, text: &str) -> Result<String, Fail> {
+    let names = names(alloc)?;
+    let mut told = String::new(alloc);
+    for line in text.lines() {
+        match mistake_of(&names, line.as_bytes()) {
+            Some(mistake) => told.push_str(format!(in alloc; "{mistake}\n")?.as_str())?,
+            None => told.push_str("fine\n")?,
+        }
+    }
+    Ok(told)
+}
+
+#[test]
+fn mistakes(rt: HostRuntime) -> Result<(), Fail> {
+    assert_eq!(rt; told(rt.alloc(), BAD)?.as_str(), TOLD);
+    Ok(())
+}
+
+#[test]
+fn fine_lines(rt: HostRuntime) -> Result<(), Fail> {
+    assert_eq!(rt;
+        told(rt.alloc(), FINE)?.as_str(),
+        "fine\nfine\nfine\nfine\nfine\n"
+    );
+    Ok(())
+}
+
+#[test]
+fn a_line_that_is_too_long(rt: HostRuntime) -> Result<(), Fail> {
+    let names = names(rt.alloc())?;
+    let long = mistake_of(&names, &[b'x'; 257]).ok_or("no mistake")?;
+    assert_eq!(rt; long.expected, Expected::ShorterLine);
+    Ok(())
+}
