@@ -1,6 +1,6 @@
 //! The first place of a frozen run at which a condition fails.
 ghost use Rattle.std.specs.Prelude.{◌≡◌, ℕ, ◌<◌, ◌≤◌, false, length, None, IfOk, OnOk, IfErr, vec_len, Option};
-ghost use Rattle.sim_world.specs.Events.{rules};
+ghost use Rattle.sim_world.specs.Events.{rules, IsRunnable};
 ghost use Rattle.sim_watch.specs.Condition.{fault_of};
 ghost use Rattle.sim_watch.specs.Search.{pieces, piece, first_failing};
 ghost use Rattle.sim_search.specs.Faults.{is_bad_search, search_fault, reason};
@@ -85,7 +85,8 @@ fn is_bad(lo: u64, hi: u64, end: u32) -> bool
 /// The first place of a frozen run, from `lo` to `hi`, at which a condition fails, by as many workers as there are meters.
 ///
 /// Each piece between two checkpoints is one worker's, and the gate is told of each. `BadRange` where `lo` is above `hi` or `hi`
-/// past the kept end, else `BadCondition` where the condition can't be asked of this run.
+/// past the kept end, else `BadCondition` where the condition can't be asked of this run. The run's events can happen one after the
+/// other, so that `None` tells of no place without a world.
 pub fn search<N: Node + Send + Sync, G: Gate + Sync, R: Threads + Wait + Sync>(
     rt: &R,
     alloc: Global,
@@ -102,10 +103,12 @@ where
     N::Meter: Send,
     requires some { 0 < vec_len meters }
     requires few { vec_len meters ≤ 16 }
+    ensures runs { IsRunnable (rules N.laws N.PROBES frozen.now.scenario) frozen.now.events }
     ensures found { IfOk result (λ place. place ≡ first_failing (rules N.laws N.PROBES frozen.now.scenario) cond.now frozen.now.events lo hi) }
     ensures allowed { OnOk result (search_fault lo hi (length frozen.now.events) frozen.now.scenario.setup.hosts N.PROBES cond.now ≡ None) }
     ensures refused { IfErr result (λ why. why ≡ reason (search_fault lo hi (length frozen.now.events) frozen.now.scenario.setup.hosts N.PROBES cond.now)) }
 {
+    frozen.laws();
     if is_bad(lo, hi, frozen.events().len()) {
         return Err(SearchFault::BadRange);
     }

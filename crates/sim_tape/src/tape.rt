@@ -6,7 +6,7 @@ ghost use Rattle.std.specs.Bool.{OnTrue};
 ghost use Rattle.std.specs.Arc.{arc_value};
 ghost use Rattle.sim_world.specs.Clock.{clock_after};
 ghost use Rattle.sim_world.specs.Events.{rules, run, refusal_of, IsRunnable};
-ghost use Rattle.sim_tape.specs.Tape.{opened, at, with_world, first_events, with_event, raised, is_within_reach, reach_at, reach_here};
+ghost use Rattle.sim_tape.specs.Tape.{opened, at, with_world, first_events, with_event, raised, is_within_reach, reach_at, reach_here, is_near_ahead};
 ghost use Rattle.sim_tape.specs.Inside.{IsRun};
 ghost use Rattle.sim_tape.specs.Places.{events_of, world_of, AreCheckpoints};
 ghost use Rattle.sim_tape.specs.Works.{OnlyTurns, Plays, nodes_below, rules_of, TakesBack, MakesAnew, JumpsTo, AddsAtEnd, RenewsAndAdds, Opens};
@@ -179,9 +179,10 @@ impl<N: Node> Tape<N> {
         self.checkpoints.truncate(place / self.log.interval() + 1);
     }
 
-    /// Goes to a place by the nearest way: it takes events back within the reach, walks on, or makes the world anew from the
-    /// checkpoint at or below the place, with fewer turns than the interval. The only error is want of memory; the tape may be
-    /// cold then.
+    /// Goes to a place by the nearest way: it takes events back within the reach, walks on, or makes
+    /// the world anew from the checkpoint at or below the place, with fewer turns than the interval.
+    /// The only error is want of memory; the tape may be cold then. A warm tape that is at the place
+    /// already wants none.
     pub fn goto(&mut self, alloc: Global, to: u32, meter: &mut N::Meter) -> Result<(), NoMemory>
         requires { to ≤ length self.old.events }
         ensures ok { OnOk result (self.new ≡ with_world true self.new.reach (at to self.old)) }
@@ -189,10 +190,17 @@ impl<N: Node> Tape<N> {
         ensures within { OnOk result (IsTrue (is_within_reach to self.old) → self.new.reach ≡ self.old.reach - (self.old.place - to)) }
         ensures undos { OnOk result (IsTrue (is_within_reach to self.old) →
             TakesBack N.laws N.PROBES (self.old.place - to) to self.old (N.Meter.work meter.old) (N.Meter.work meter.new)) }
+        ensures ahead { OnOk result (IsTrue (is_near_ahead to self.old) →
+            OnlyTurns (to - self.old.place) (N.Meter.work meter.old) (N.Meter.work meter.new)) }
+        ensures here { IsTrue self.old.warm → to ≡ self.old.place →
+            IsOk result × (self.new ≡ self.old) × (N.Meter.work meter.new ≡ N.Meter.work meter.old) }
         ensures work { OnOk result (JumpsTo N.laws N.PROBES to self.old (N.Meter.work meter.old) (N.Meter.work meter.new)) }
         ensures anew { OnOk result (self.old.warm ≡ false → MakesAnew N.laws N.PROBES to self.old (N.Meter.work meter.old) (N.Meter.work meter.new)) }
         ensures near { OnOk result (self.old.warm ≡ false → Plays (to % self.old.scenario.interval)
             (nodes_below (rules_of N.laws N.PROBES self.old) to self.old.events) (N.Meter.work meter.old) (N.Meter.work meter.new)) }
+        ensures past { OnOk result (is_within_reach to self.old ≡ false → is_near_ahead to self.old ≡ false →
+            Plays (to % self.old.scenario.interval) (nodes_below (rules_of N.laws N.PROBES self.old) to self.old.events)
+            (N.Meter.work meter.old) (N.Meter.work meter.new)) }
         ensures err { OnErr result (self.new ≡ with_world self.new.warm self.new.reach self.old) }
         ensures still_cold { OnErr result (self.old.warm ≡ false → self.new ≡ self.old) }
     {
@@ -200,6 +208,9 @@ impl<N: Node> Tape<N> {
         let target = to as usize;
         let interval = self.log.interval();
         if self.walk.world.is_some() {
+            if to == self.place {
+                return Ok(());
+            }
             if target <= place && place - target <= self.walk.ring.len() {
                 self.walk
                     .back(alloc, &self.log, place, place - target, meter)?;
@@ -246,12 +257,16 @@ impl<N: Node> Tape<N> {
         self.goto(alloc, place, meter)
     }
 
-    /// Goes back by so many events. Within the reach it takes them back by their records; further back it makes the world anew
-    /// from a checkpoint. The only error is want of memory; the tape may be cold then.
+    /// Goes back by so many events. Within the reach it takes them back by their records; further
+    /// back it makes the world anew from a checkpoint. The only error is want of memory; the tape may
+    /// be cold then. A warm tape wants none to go back by 0 events.
     pub fn back(&mut self, alloc: Global, count: u32, meter: &mut N::Meter) -> Result<(), NoMemory>
         requires { count ≤ self.old.place }
         ensures ok { OnOk result (self.new ≡ with_world true self.new.reach (at (self.old.place - count) self.old)) }
+        ensures reach { OnOk result (self.new.reach ≡ reach_at (self.old.place - count) self.old) }
         ensures within { OnOk result (IsTrue self.old.warm → count ≤ self.old.reach → self.new.reach ≡ self.old.reach - count) }
+        ensures none { IsTrue self.old.warm → count ≡ 0 →
+            IsOk result × (self.new ≡ self.old) × (N.Meter.work meter.new ≡ N.Meter.work meter.old) }
         ensures undos { OnOk result (IsTrue self.old.warm → count ≤ self.old.reach →
             TakesBack N.laws N.PROBES count (self.old.place - count) self.old (N.Meter.work meter.old) (N.Meter.work meter.new)) }
         ensures work { OnOk result (JumpsTo N.laws N.PROBES (self.old.place - count) self.old (N.Meter.work meter.old) (N.Meter.work meter.new)) }
@@ -264,8 +279,9 @@ impl<N: Node> Tape<N> {
         self.goto(alloc, place - count, meter)
     }
 
-    /// Goes forward by so many events. From a warm tape it walks over each, and keeps the records of the last ones; a cold one is
-    /// made warm there. The only error is want of memory; the tape may be cold then.
+    /// Goes forward by so many events. From a warm tape it walks over each, and keeps the records of
+    /// the last ones; a cold one is made warm there. The only error is want of memory; the tape may
+    /// be cold then. A warm tape wants none to go forward by 0 events.
     pub fn forward(
         &mut self,
         alloc: Global,
@@ -275,6 +291,10 @@ impl<N: Node> Tape<N> {
         requires { self.old.place + count ≤ length self.old.events }
         ensures ok { OnOk result (self.new ≡ with_world true self.new.reach (at (self.old.place + count) self.old)) }
         ensures reach { OnOk result (IsTrue self.old.warm → self.new.reach ≡ raised count self.old) }
+        ensures cold_reach { OnOk result (self.old.warm ≡ false →
+            self.new.reach ≡ reach_at (self.old.place + count) self.old) }
+        ensures none { IsTrue self.old.warm → count ≡ 0 →
+            IsOk result × (self.new ≡ self.old) × (N.Meter.work meter.new ≡ N.Meter.work meter.old) }
         ensures work { OnOk result (IsTrue self.old.warm → OnlyTurns count (N.Meter.work meter.old) (N.Meter.work meter.new)) }
         ensures cold { OnOk result (self.old.warm ≡ false →
             MakesAnew N.laws N.PROBES (self.old.place + count) self.old (N.Meter.work meter.old) (N.Meter.work meter.new)) }
@@ -284,6 +304,9 @@ impl<N: Node> Tape<N> {
         let to = self.place() + count;
         if !self.warm() {
             return self.goto(alloc, to, meter);
+        }
+        if count == 0 {
+            return Ok(());
         }
         self.walk
             .on(alloc, &self.log, self.place as usize, to as usize, meter)?;
@@ -321,6 +344,7 @@ impl<N: Node> Tape<N> {
         ensures on { OnOk result ((world_of (rules_of N.laws N.PROBES self.old) self.old).clock ≤
             (world_of (rules_of N.laws N.PROBES self.old) self.new).clock) }
         ensures reach { OnOk result (IsTrue self.old.warm → self.new.reach ≡ raised 1 self.old) }
+        ensures rises { OnOk result (self.new.reach ≡ min self.old.scenario.window (reach_here self.old + 1)) }
         ensures work { OnOk result (IsTrue self.old.warm → AddsAtEnd N.laws N.PROBES event self.old (N.Meter.work meter.old) (N.Meter.work meter.new)) }
         ensures cold { OnOk result (self.old.warm ≡ false → RenewsAndAdds N.laws N.PROBES event self.old (N.Meter.work meter.old) (N.Meter.work meter.new)) }
         ensures err { OnErr result (self.new ≡ with_world self.new.warm self.new.reach self.old) }

@@ -9,6 +9,7 @@ use Rattle.sim_node.specs.Work.{Work}
 use Rattle.sim_world.specs.declared.Event.{Event}
 use Rattle.sim_world.specs.declared.Event.TheVariants as event
 use Rattle.sim_world.specs.declared.Refusal.{Refusal}
+use Rattle.sim_world.specs.Acts.{turned_by, turned_if}
 use Rattle.sim_world.specs.World.{World, Scenario}
 use Rattle.sim_world.specs.Records.{InHand}
 use Rattle.sim_world.specs.Events.{Rules, rules, run, start, next, after, refusal_of, unless_refused}
@@ -78,6 +79,22 @@ plays_more m n k a b d h p is =
 
 pub plays_within : (m n k : ℕ) (a b : Work) → m ≤ n → Plays m k a b → Plays n k a b
 plays_within m n k a b le h = let x = h.turns in record { turns = omega (arith, x, le); copies = h.copies; undos = h.undos }
+
+-- each host is booted at the start of a run
+pub turns_begun : (n : ℕ) (a b : Work) → b ≡ turned_by n a → OnlyTurns (n + 0) a b
+turns_begun n a b is = record { turns = omega (arith, ap (λ (w : Work). w.turns) is); copies = ap (λ (w : Work). w.copies) is; undos = ap (λ (w : Work). w.undos) is }
+
+-- the turns of one step more
+pub turns_more : (m n : ℕ) (acted : Bool) (a b d : Work) → OnlyTurns m a b → d ≡ turned_if acted b → n ≡ m + 1 → OnlyTurns n a d
+turns_more m n true a b d h is e =
+    let x = h.turns in
+    record { turns = omega (arith, x, e, ap (λ (w : Work). w.turns) is); copies = ap (λ (w : Work). w.copies) is ∙ h.copies; undos = ap (λ (w : Work). w.undos) is ∙ h.undos }
+turns_more m n false a b d h is e =
+    let x = h.turns in
+    record { turns = omega (arith, x, e, ap (λ (w : Work). w.turns) is); copies = ap (λ (w : Work). w.copies) is ∙ h.copies; undos = ap (λ (w : Work). w.undos) is ∙ h.undos }
+
+pub turns_within : (m n : ℕ) (a b : Work) → m ≤ n → OnlyTurns m a b → OnlyTurns n a b
+turns_within m n a b le h = let x = h.turns in record { turns = omega (arith, x, le); copies = h.copies; undos = h.undos }
 
 -- within one interval a place lies as far past the checkpoint as the walk from another came
 pub same_piece : (lo hi p k : ℕ) → lo ≤ p → p ≤ hi → lo / k ≡ hi / k → lo % k + (p - lo) ≤ hi % k

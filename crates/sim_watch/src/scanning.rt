@@ -1,7 +1,8 @@
 //! Scans of a run for the first place at which a condition fails.
-ghost use Rattle.std.specs.Prelude.{◌≡◌, ℕ, ◌/◌, ◌%◌, ◌≤◌, IsTrue, IfOk, OnOk, length, not, replicate};
-ghost use Rattle.sim_world.specs.Events.{rules};
-ghost use Rattle.sim_tape.specs.Works.{Plays, nodes_below};
+ghost use Rattle.std.specs.Prelude.{◌≡◌, ℕ, ◌+◌, ◌/◌, ◌%◌, ◌≤◌, IsTrue, IfOk, OnOk, length, not, replicate};
+ghost use Rattle.std.specs.Option.{unwrap_or};
+ghost use Rattle.sim_world.specs.Events.{rules, IsRunnable};
+ghost use Rattle.sim_tape.specs.Works.{OnlyTurns, Plays, nodes_below};
 ghost use Rattle.sim_watch.specs.Condition.{holds, fault_of};
 ghost use Rattle.sim_watch.specs.Search.{fails_at, first_failing};
 
@@ -23,7 +24,7 @@ fn fails_here<N: Node>(tape: &Tape<N>, cond: &Cond) -> bool
 
 /// Looks for the least place of a piece of a frozen run at which a condition, which was checked, fails. The piece lies between two
 /// checkpoints. It is walked once, forward, from the checkpoint below it, with fewer turns than the interval and one copy of a
-/// world. The only error is want of memory.
+/// world. The run's events can happen one after the other. The only error is want of memory.
 pub fn scan<N: Node>(
     alloc: Global,
     frozen: &Frozen<N>,
@@ -35,11 +36,13 @@ pub fn scan<N: Node>(
     requires one { piece.lo / frozen.now.scenario.interval ≡ piece.hi / frozen.now.scenario.interval }
     requires end { piece.hi ≤ length frozen.now.events }
     requires checked { fault_of frozen.now.scenario.setup.hosts N.PROBES cond.now ≡ None }
+    ensures runs { IsRunnable (rules N.laws N.PROBES frozen.now.scenario) frozen.now.events }
     ensures piece { IfOk result (λ f. f.piece ≡ piece) }
     ensures place { IfOk result (λ f. f.place ≡ first_failing (rules N.laws N.PROBES frozen.now.scenario) cond.now frozen.now.events piece.lo piece.hi) }
     ensures work { OnOk result (Plays (piece.hi % frozen.now.scenario.interval)
         (nodes_below (rules N.laws N.PROBES frozen.now.scenario) piece.lo frozen.now.events) (N.Meter.work meter.old) (N.Meter.work meter.new)) }
 {
+    frozen.laws();
     scan_after(alloc, frozen, &mut None, piece, cond, meter)
 }
 
@@ -57,11 +60,13 @@ pub fn scan_after<N: Node>(
     requires one { piece.lo / frozen.now.scenario.interval ≡ piece.hi / frozen.now.scenario.interval }
     requires end { piece.hi ≤ length frozen.now.events }
     requires checked { fault_of frozen.now.scenario.setup.hosts N.PROBES cond.now ≡ None }
+    ensures runs { IsRunnable (rules N.laws N.PROBES frozen.now.scenario) frozen.now.events }
     ensures piece { IfOk result (λ f. f.piece ≡ piece) }
     ensures place { IfOk result (λ f. f.place ≡ first_failing (rules N.laws N.PROBES frozen.now.scenario) cond.now frozen.now.events piece.lo piece.hi) }
     ensures work { OnOk result (Plays (piece.hi % frozen.now.scenario.interval)
         (nodes_below (rules N.laws N.PROBES frozen.now.scenario) piece.lo frozen.now.events) (N.Meter.work meter.old) (N.Meter.work meter.new)) }
 {
+    frozen.laws();
     let mut tape = frozen.tape_after(alloc, last.take(), piece.lo, meter)?;
     for place in piece.lo..piece.hi {
         if fails_here(&tape, cond) {
@@ -85,7 +90,8 @@ pub fn scan_after<N: Node>(
 }
 
 /// Looks for the least place of a run of steps, at most so many, at which a condition, which was checked, fails. The run begins at
-/// the start of the scenario and goes on until nothing is pending. The only error is want of memory.
+/// the start of the scenario and goes on until nothing is pending. Each host is booted once, and no turn is counted past the place
+/// that is found. The only error is want of memory.
 pub fn scan_seed<N: Node>(
     alloc: Global,
     scenario: &Scenario,
@@ -95,7 +101,9 @@ pub fn scan_seed<N: Node>(
 ) -> Result<Option<u32>, NoMemory>
     requires most { events ≤ 65536 }
     requires checked { fault_of scenario.now.setup.hosts N.PROBES cond.now ≡ None }
-    ensures { IfOk result (λ found. found ≡ first_failing (rules N.laws N.PROBES scenario.now) cond.now (replicate events Event.Step) 0 events) }
+    ensures place { IfOk result (λ found. found ≡ first_failing (rules N.laws N.PROBES scenario.now) cond.now (replicate events Event.Step) 0 events) }
+    ensures work { IfOk result (λ found. OnlyTurns (scenario.now.setup.hosts + unwrap_or found events)
+        (N.Meter.work meter.old) (N.Meter.work meter.new)) }
 {
     let mut world = World::<N>::start(alloc, scenario, meter)?;
     if !holds(cond, &world) {
