@@ -1,7 +1,7 @@
 -- The world of a branch, and the two ways there and back.
-use Rattle.std.proofs.Common.{◌≡◌, ℕ, ◌+◌, ◌-◌, ◌<◌, ◌≤◌, Bool, true, false, List, [], ◌∷◌, ◌++◌, Option, Some, None, inl, inr, IsTrue, length, take, set, get_or, nat_le, nat_lt, refl, sym, ap, ◌∙◌, subst, arith}
+use Rattle.std.proofs.Common.{◌≡◌, ℕ, ◌+◌, ◌-◌, ◌<◌, ◌≤◌, Bool, true, false, List, [], ◌∷◌, ◌++◌, Option, Some, None, inl, inr, length, take, set, get_or, nat_le, nat_lt, refl, sym, ap, ◌∙◌, subst, arith}
 use Rattle.std.specs.Prelude.{if◌then◌else◌}
-use Rattle.std.specs.Option.{unwrap_or, option_map}
+use Rattle.std.specs.Option.{unwrap_or, option_map, IsSome}
 use Rattle.std.proofs.lemmas.Option.{slice_get-get_or, slice_get_cases}
 use Rattle.std.proofs.lemmas.List.Elements.{All-set, All-push}
 use Rattle.std.proofs.lemmas.Bool.{le-ltb}
@@ -11,7 +11,8 @@ use Rattle.sim_node.specs.Node.{NodeLaws}
 use Rattle.sim_world.specs.World.{Scenario, World}
 use Rattle.sim_world.specs.declared.Event.{Event}
 use Rattle.sim_world.specs.declared.Event.TheVariants as event
-use Rattle.sim_world.specs.Events.{Rules, rules, run, hosts_of}
+use Rattle.sim_world.specs.Events.{Rules, rules, run, start, hosts_of}
+use Rattle.sim_tape.proofs.Placing.{run-front}
 use Rattle.sim_book.specs.declared.Command.{Command}
 use Rattle.sim_book.specs.declared.Command.TheVariants as command
 use Rattle.sim_book.specs.declared.Refusal.{Refusal}
@@ -19,21 +20,29 @@ use Rattle.sim_book.specs.declared.Refusal.TheVariants as refusal
 use Rattle.sim_book.specs.Kept.{Kept, shown, all_shown}
 use Rattle.sim_book.specs.Book.{Branch, Book, IsBranch, branch, branch_of, with_branch, empty_branch, at_place, with_events}
 use Rattle.sim_book.specs.Answer.{Check, first_refusal, later_checks, unknown_host, same_host, not_at_end, events_full, idle, refusal_of, branch_after, after_by, after}
-use Rattle.sim_book.specs.Headline.{is_warm, world_by_run, IsWorldOf, AreBranches, BackAfterEvent, ForwardAfterBack}
+use Rattle.sim_book.specs.Headline.{is_warm, world_by_run, IsWorldOf, AreBranches, HasWorlds, BackAfterEvent, ForwardAfterBack}
 use Rattle.sim_book.specs.BookOf.{makes_branch, AllKept}
 use Rattle.sim_book.proofs.Books.{made_none}
 
-first_free : (t : Bool) (why : Refusal) (rest : List Check) → first_refusal ((t, why) ∷ rest) ≡ None → (t ≡ false) × (first_refusal rest ≡ None)
+pub first_free : (t : Bool) (why : Refusal) (rest : List Check) → first_refusal ((t, why) ∷ rest) ≡ None → (t ≡ false) × (first_refusal rest ≡ None)
 first_free true why rest e = absurd cc
 first_free false why rest e = (refl, e)
 
 there_is : (n b : ℕ) → nat_le n b ≡ false → b < n
 there_is n b e = grind (arith, nat_tests)
 
-not_less : (m n : ℕ) → nat_lt m n ≡ false → n ≤ m
+pub not_less : (m n : ℕ) → nat_lt m n ≡ false → n ≤ m
 not_less m n e = grind (arith, nat_tests)
 
 module _ {State Msg : Type 0} (r : Rules State Msg) where
+  pub some_is : (o : Option (World State Msg)) (w : World State Msg) → IsSome o → o ≡ Some (unwrap_or o w)
+  some_is None w h = absurd (let e : false ≡ true = h in cc)
+  some_is (Some x) w h = refl
+
+  -- each of the first events of a branch leads to a world
+  pub has_worlds : (book : Book) → AreBranches r book → HasWorlds r book
+  has_worlds book all i d there p within = some_is (run r (take p (get_or book i d).events)) (start r) (run-front r p (get_or book i d).events (all i d there).runnable)
+
   after_set : (c : Command) (book : Book) → makes_branch c ≡ false → refusal_of r c book ≡ None
       → after r book c ≡ set book (branch_of c) (branch_after r c (branch (branch_of c) book))
   after_set c book plain free =
@@ -42,12 +51,12 @@ module _ {State Msg : Type 0} (r : Rules State Msg) where
       ∙ ap (λ made. new ++ made) (made_none r c (branch (branch_of c) book) plain)
       ∙ append-nil new
 
-  inside : (c : Command) (book : Book) → refusal_of r c book ≡ None → branch_of c < length book
+  pub inside : (c : Command) (book : Book) → refusal_of r c book ≡ None → branch_of c < length book
   inside c book free =
       there_is (length book) (branch_of c)
       (first_free (nat_le (length book) (branch_of c)) refusal.UnknownBranch (later_checks r book (branch (branch_of c) book) c) free).0
 
-  later_free : (c : Command) (book : Book) → refusal_of r c book ≡ None → first_refusal (later_checks r book (branch (branch_of c) book) c) ≡ None
+  pub later_free : (c : Command) (book : Book) → refusal_of r c book ≡ None → first_refusal (later_checks r book (branch (branch_of c) book) c) ≡ None
   later_free c book free =
       (first_free (nat_le (length book) (branch_of c)) refusal.UnknownBranch (later_checks r book (branch (branch_of c) book) c) free).1
 

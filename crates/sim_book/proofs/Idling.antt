@@ -82,7 +82,7 @@ module _ {State Msg : Type 0} (node : NodeLaws State Msg) (probes : ℕ) (s : Sc
   clash : (c : Command) (d : Kept) → branch_of c < length ks → AllKept probes s ks → (get_or ks (branch_of c) d).tape.warm ≡ true → Wants node probes c (get_or ks (branch_of c) d).tape
       → refusal_of (rules node probes s) c (all_shown ks) ≡ Some refusal.Idle → ⊥
   clash (command.Step b) d there all warm wants e = true_not _ (idle_last _ _ _ _ e) (pending b d there all (wants warm))
-  clash (command.Run b n) d there all warm wants e = true_not _ (idle_last _ _ _ _ e) (pending b d there all (wants warm))
+  clash (command.Run b n) d there all warm wants e = true_not _ (idle_last _ _ _ _ e) (pending b d there all (wants.0 warm))
   clash (command.Tick b) d there all warm wants e = none_idle (checks (rules node probes s) (all_shown ks) (branch b (all_shown ks)) (command.Tick b)) refl e
   clash (command.Fault b f) d there all warm wants e = none_idle (checks (rules node probes s) (all_shown ks) (branch b (all_shown ks)) (command.Fault b f)) refl e
   clash (command.Back b n) d there all warm wants e = none_idle (checks (rules node probes s) (all_shown ks) (branch b (all_shown ks)) (command.Back b n)) refl e

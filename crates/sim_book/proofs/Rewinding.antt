@@ -251,6 +251,7 @@ module _ {State Msg : Type 0} (node : NodeLaws State Msg) (probes : ℕ) where
   pub past_none : (ws : List (Option Cond)) (t : Tape) (low : ℕ) → t.warm ≡ true → low ≤ t.place → IsPast node probes ws t low t.place t
   past_none ws t low warm le = record {
     new = stays t t.place warm refl;
+    ahead = omega arith;
     from = le;
     below = omega arith;
     none = λ p a b. absurd (omega (arith, a, b));
@@ -274,6 +275,7 @@ module _ {State Msg : Type 0} (node : NodeLaws State Msg) (probes : ℕ) where
       let at_place : x.place ≡ v.place + n = ap (λ (y : Tape). y.place) there in
       let below : high ≤ t.place = h.below in record {
         new = there ∙ ap (λ (p : ℕ). with_world true x.reach (at p t)) (sym at_place);
+        ahead = omega (arith, at_place, ap (λ (y : Tape). y.place) is);
         from = le;
         below = omega (arith, ends, below);
         none = subst (IsLast node probes ws t low t.place) none (stretch_on ws t u v to low high n f h gone ends last);

@@ -65,7 +65,7 @@ none_idle None false false false false e = refl
 below : (n : ℕ) → nat_le 65536 n ≡ false → n < 65536
 below n e = grind (arith, nat_tests)
 
-steps_can : (b : Bool) → not b ≡ false → (if b then None else Some why.Idle) ≡ None
+pub steps_can : (b : Bool) → not b ≡ false → (if b then None else Some why.Idle) ≡ None
 steps_can true e = refl
 steps_can false e = cc
 

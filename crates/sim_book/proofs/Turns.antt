@@ -1,5 +1,5 @@
 -- Turns on one branch, from what a tape's calls ensure.
-use Rattle.std.proofs.Common.{◌≡◌, ℕ, ◌+◌, ◌-◌, ◌<◌, ◌≤◌, Bool, true, false, not, ◌||◌, set, List, [], ◌∷◌, ◌++◌, Option, Some, None, length, inl, inr, refl, get_or, get_or-set_same, get_or-set_other, sym, ap, ◌∙◌, subst, arith, is_some, nat_lt, nat_le, min, append-nil, length-append, add-zero}
+use Rattle.std.proofs.Common.{◌≡◌, ℕ, ◌+◌, ◌-◌, ◌<◌, ◌≤◌, ◌%◌, Bool, true, false, not, ◌||◌, set, List, [], ◌∷◌, ◌++◌, Option, Some, None, length, inl, inr, refl, get_or, get_or-set_same, get_or-set_other, sym, ap, ◌∙◌, subst, arith, is_some, nat_lt, nat_le, min, append-nil, length-append, add-zero}
 use Rattle.std.specs.Prelude.{if◌then◌else◌, IfSome}
 use Rattle.std.proofs.lemmas.Bool.{cases_order}
 use Rattle.sim_book.specs.Watches.{AreChecked}
@@ -23,7 +23,7 @@ use Rattle.sim_tape.specs.Places.{world_of, acting}
 use Rattle.sim_tape.specs.Works.{undone_by}
 use Rattle.sim_book.proofs.Running.{adds_none}
 use Rattle.sim_node.specs.Work.{Work}
-use Rattle.sim_book.specs.Works.{Adds, TakesBack}
+use Rattle.sim_book.specs.Works.{Adds, TakesBack, Looks}
 use Rattle.sim_book.specs.Tapes.{lengthened}
 use Rattle.sim_watch.specs.Condition.{Cond, fault_of, has_no_host, has_no_probe, is_empty}
 use Rattle.sim_watch.specs.declared.BadTerm.TheVariants as bad
@@ -349,54 +349,60 @@ module _ {State Msg : Type 0} (node : NodeLaws State Msg) (probes : ℕ) where
     | inr (inr past) ↦ checked_other ws hosts i k d h (λ is. absurd (omega arith))
   ]
 
--- a tape that was warm keeps its reach where it is made sure of
-pub warm_reach : (t w : Tape) → (t.warm ≡ true → w ≡ t) → t.warm ≡ true → w.reach ≡ t.reach
-warm_reach t w same warm = ap (λ (x : Tape). x.reach) (same warm)
+-- the reach of a tape once it holds the world at its place is within the window
+pub here_within : (t : Tape) → t.reach ≤ t.scenario.window → reach_here t ≤ t.scenario.window
+here_within t few =
+    let P : Bool → Type 0 = λ b. (if b then t.reach else min t.scenario.window (t.place % t.scenario.interval)) ≤ t.scenario.window in
+    elim t.warm as P [ true ↦ few | false ↦ omega arith ]
+
+-- what a step or a fault does to the reach
+pub add_keeps : (t w u : Tape) (here : ℕ) → w ≡ with_world true w.reach t → w.reach ≡ here → u.warm ≡ true → (w.warm ≡ true → u.reach ≡ min w.scenario.window (w.reach + 1))
+    → (u.warm ≡ true) × (u.reach ≡ min t.scenario.window (here + 1))
+add_keeps t w u here is reached warm more = (
+  warm,
+  let window : w.scenario.window ≡ t.scenario.window = ap (λ x. x.scenario.window) is in
+      let rises = more (ap (λ x. x.warm) is) in
+      omega (arith, window, reached, rises),
+)
 
 -- what a run does to the reach
-pub run_keeps : (t w u : Tape) (new : List Event) → w ≡ with_world true w.reach t → (t.warm ≡ true → w.reach ≡ t.reach) → u ≡ with_world true u.reach (lengthened new w)
+pub run_keeps : (t w u : Tape) (new : List Event) (here : ℕ) → w ≡ with_world true w.reach t → w.reach ≡ here → u ≡ with_world true u.reach (lengthened new w)
     → u.reach ≡ min w.scenario.window (w.reach + length new)
-    → (u.warm ≡ true) × (t.warm ≡ true → u.reach ≡ min t.scenario.window (t.reach + (length u.events - length t.events)))
-run_keeps t w u new is same more reach = (
+    → (u.warm ≡ true) × (u.reach ≡ min t.scenario.window (here + (length u.events - length t.events)))
+run_keeps t w u new here is reached more reach = (
   ap (λ x. x.warm) more,
-  λ warm.
-      let window : w.scenario.window ≡ t.scenario.window = ap (λ x. x.scenario.window) is in
+  let window : w.scenario.window ≡ t.scenario.window = ap (λ x. x.scenario.window) is in
       let old : length w.events ≡ length t.events = ap (λ x. length x.events) is in
       let grown : length u.events ≡ length w.events + length new = ap (λ x. length x.events) more ∙ length-append w.events new in
-      let reached = same warm in
       omega (arith, window, old, grown, reached, reach),
 )
 
-pub run_none_keeps : (t w : Tape) → w ≡ with_world true w.reach t → (t.warm ≡ true → w.reach ≡ t.reach) → t.reach ≤ t.scenario.window
-    → (w.warm ≡ true) × (t.warm ≡ true → w.reach ≡ min t.scenario.window (t.reach + (length w.events - length t.events)))
-run_none_keeps t w is same few = (
+pub run_none_keeps : (t w : Tape) (here : ℕ) → w ≡ with_world true w.reach t → w.reach ≡ here → here ≤ t.scenario.window
+    → (w.warm ≡ true) × (w.reach ≡ min t.scenario.window (here + (length w.events - length t.events)))
+run_none_keeps t w here is reached few = (
   ap (λ x. x.warm) is,
-  λ warm.
-      let old : length w.events ≡ length t.events = ap (λ x. length x.events) is in
-      let reached = same warm in
+  let old : length w.events ≡ length t.events = ap (λ x. length x.events) is in
       omega (arith, old, reached, few),
 )
 
 -- what a rewind does to the reach
-pub rewind_keeps : (t w u : Tape) (p : ℕ) → w ≡ with_world true w.reach t → (t.warm ≡ true → w.reach ≡ t.reach) → u ≡ with_world true u.reach (at p w)
+pub rewind_keeps : (t w u : Tape) (p here : ℕ) → w ≡ with_world true w.reach t → w.reach ≡ here → u ≡ with_world true u.reach (at p w)
     → (w.place - u.place ≤ w.reach → u.reach ≡ w.reach - (w.place - u.place))
-    → (u.warm ≡ true) × (t.warm ≡ true → t.place - u.place ≤ t.reach → u.reach ≡ t.reach - (t.place - u.place))
-rewind_keeps t w u p is same gone reach = (
+    → (u.warm ≡ true) × (t.place - u.place ≤ here → u.reach ≡ here - (t.place - u.place))
+rewind_keeps t w u p here is reached gone reach = (
   ap (λ x. x.warm) gone,
-  λ warm near.
+  λ near.
       let old : w.place ≡ t.place = ap (λ x. x.place) is in
-      let reached : w.reach ≡ t.reach = same warm in
       let lower : u.reach ≡ w.reach - (w.place - u.place) = reach (omega arith) in
       omega (arith, old, reached, lower),
 )
 
-pub rewind_none_keeps : (t w : Tape) → w ≡ with_world true w.reach t → (t.warm ≡ true → w.reach ≡ t.reach)
-    → (w.warm ≡ true) × (t.warm ≡ true → t.place - w.place ≤ t.reach → w.reach ≡ t.reach - (t.place - w.place))
-rewind_none_keeps t w is same = (
+pub rewind_none_keeps : (t w : Tape) (here : ℕ) → w ≡ with_world true w.reach t → w.reach ≡ here
+    → (w.warm ≡ true) × (t.place - w.place ≤ here → w.reach ≡ here - (t.place - w.place))
+rewind_none_keeps t w here is reached = (
   ap (λ x. x.warm) is,
-  λ warm near.
+  λ near.
       let old : w.place ≡ t.place = ap (λ x. x.place) is in
-      let reached : w.reach ≡ t.reach = same warm in
       omega (arith, old, reached),
 )
 
@@ -438,3 +444,10 @@ rewind_none_works node probes t w a same =
     let r = rules node probes t.scenario in
     let back : t.place - w.place ≡ 0 = (let place = ap (λ x. x.place) same in omega (arith, place)) in
     ap (λ (n : ℕ). record a { undos = n }) (sym (add-zero a.undos)) ∙ ap (λ (n : ℕ). undone_by (acting r w.place n t.events) a) (sym back)
+
+pub rewind_looks : {State Msg : Type 0} (node : NodeLaws State Msg) (probes : ℕ) (t w u : Tape) (b d : Work) → w ≡ with_world true w.reach t → w.reach ≡ reach_here t
+    → Looks (rules node probes w.scenario) u.place (w.place - w.reach) w b d → Looks (rules node probes t.scenario) u.place (t.place - reach_here t) t b d
+rewind_looks node probes t w u b d same reach h =
+    let top : w.place - w.reach ≡ t.place - reach_here t = ap (λ (n : ℕ). w.place - n) reach ∙ ap (λ (x : Tape). x.place - reach_here t) same in
+    subst (λ (x : Tape). Looks (rules node probes x.scenario) u.place (t.place - reach_here t) x b d) same
+    (subst (λ (q : ℕ). Looks (rules node probes w.scenario) u.place q w b d) top h)

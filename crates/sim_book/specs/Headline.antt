@@ -1,15 +1,15 @@
 -- The headline. A branch keeps its events and a place among them, and no world: its world is the run of these events,
 -- from the start of the scenario up to the place. However the place was reached, forwards, back or by a jump, the world
 -- that a book lends of a branch is that one.
-use Rattle.std.specs.Prelude.{◌≡◌, ℕ, Bool, true, false, List, take, Option, Some, None, slice_get, IsTrue}
+use Rattle.std.specs.Prelude.{◌≡◌, ℕ, ◌≤◌, Bool, true, false, List, ◌++◌, length, take, Option, Some, None, slice_get, IsTrue}
 use Rattle.std.specs.Option.{unwrap_or, option_map}
 use Rattle.std.specs.List.{All}
 use Rattle.sim_world.specs.World.{Scenario, World}
 use Rattle.sim_world.specs.Events.{Rules, run}
 use Rattle.sim_book.specs.declared.Command.{Command}
 use Rattle.sim_book.specs.declared.Command.TheVariants as command
-use Rattle.sim_book.specs.Book.{Branch, Book, IsBranch, branch, branch_of}
-use Rattle.sim_book.specs.Answer.{after, refusal_of}
+use Rattle.sim_book.specs.Book.{Branch, Book, IsBranch, branch, branch_of, world_at}
+use Rattle.sim_book.specs.Answer.{after, refusal_of, steps, after_steps, run_len, tick_steps}
 use Rattle.sim_book.specs.Kept.{Kept}
 
 -- there is such a branch, and its tape holds its world
@@ -37,6 +37,22 @@ module _ {State Msg : Type 0} (r : Rules State Msg) where
   -- Each branch's events can happen one after the other, so that it has a world; its place is among them; it has eight watches.
   abbrev pub AreBranches : Book → Type 0
   AreBranches book = All (IsBranch r) book
+
+  -- Each place of each branch has a world: the one that the answers speak of, which is nowhere the start for want of a run.
+  abbrev pub HasWorlds : Book → Type 0
+  HasWorlds book = All (λ x. (p : ℕ) → p ≤ length x.events → run r (take p x.events) ≡ Some (world_at r p x)) book
+
+  -- how many steps past the end of a branch an answer speaks of, at most
+  abbrev pub steps_ahead : Command → Branch → ℕ
+  steps_ahead (command.Run b n) x = run_len r n x
+  steps_ahead (command.Tick b) x = unwrap_or (tick_steps r x) 1024
+  steps_ahead _ x = 0
+
+  -- So has each number of steps that a run or a tick looks at.
+  abbrev pub HasStepWorlds : Book → Type 0
+  HasStepWorlds book = (c : Command) (k : ℕ) → refusal_of r c book ≡ None →
+      let x = branch (branch_of c) book in
+      k ≤ steps_ahead c x → run r (x.events ++ steps k) ≡ Some (after_steps r k x)
 
   -- An event that is added, and then a way back by one, lead to the world before the event.
   abbrev pub BackAfterEvent : Book → Type 0

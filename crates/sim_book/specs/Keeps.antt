@@ -3,7 +3,7 @@ use Rattle.std.specs.Prelude.{◌≡◌, ℕ, ◌+◌, ◌-◌, ◌<◌, ◌≤�
 use Rattle.sim_node.specs.Node.{NodeLaws}
 use Rattle.sim_world.specs.World.{Scenario}
 use Rattle.sim_world.specs.Events.{rules}
-use Rattle.sim_tape.specs.Tape.{Tape, reach_at}
+use Rattle.sim_tape.specs.Tape.{Tape, raised, reach_at, reach_here}
 use Rattle.sim_tape.specs.Places.{world_of}
 use Rattle.sim_book.specs.declared.Command.{Command}
 use Rattle.sim_book.specs.declared.Command.TheVariants as command
@@ -15,16 +15,27 @@ use Rattle.sim_book.specs.Book.{branch_of}
 use Rattle.sim_book.specs.Answer.{is_idle, answer}
 use Rattle.sim_book.specs.Kept.{Kept, all_shown}
 
--- a warm tape's reach rises by one for each event that is added or walked forward, up to its window, and falls by one for each that is walked back within the reach; after a jump it is that of the way there
+-- The reach after a command that moves the place. It rises by one for each event that is added or
+-- walked forward, up to the window, and falls by one for each that is walked back within the reach.
+-- On a cold tape a step, a fault, a run, a tick and a rewind first make the world at the place. After
+-- any other jump the reach is that of the way there; after a rewind past the reach it is open.
 abbrev pub Moves : Command → Tape → Tape → Type 0
-Moves (command.Step b) t u = IsTrue u.warm × (IsTrue t.warm → u.reach ≡ min t.scenario.window (t.reach + 1))
-Moves (command.Fault b f) t u = IsTrue u.warm × (IsTrue t.warm → u.reach ≡ min t.scenario.window (t.reach + 1))
-Moves (command.Back b n) t u = IsTrue u.warm × (IsTrue t.warm → n ≤ t.reach → u.reach ≡ t.reach - n)
-Moves (command.Forward b n) t u = IsTrue u.warm × (IsTrue t.warm → u.reach ≡ min t.scenario.window (t.reach + n))
+Moves (command.Step b) t u = IsTrue u.warm × (u.reach ≡ min t.scenario.window (reach_here t + 1))
+Moves (command.Fault b f) t u = IsTrue u.warm × (u.reach ≡ min t.scenario.window (reach_here t + 1))
+Moves (command.Back b n) t u = IsTrue u.warm × (u.reach ≡ reach_at (t.place - n) t)
+Moves (command.Forward b n) t u =
+    IsTrue u.warm × (IsTrue t.warm → u.reach ≡ raised n t)
+    × (t.warm ≡ false → u.reach ≡ reach_at (t.place + n) t)
 Moves (command.Goto b p) t u = IsTrue u.warm × (u.reach ≡ reach_at p t)
-Moves (command.Run b n) t u = IsTrue u.warm × (IsTrue t.warm → u.reach ≡ min t.scenario.window (t.reach + (length u.events - length t.events)))
-Moves (command.Tick b) t u = IsTrue u.warm × (IsTrue t.warm → u.reach ≡ min t.scenario.window (t.reach + (length u.events - length t.events)))
-Moves (command.Rewind b n) t u = IsTrue u.warm × (IsTrue t.warm → t.place - u.place ≤ t.reach → u.reach ≡ t.reach - (t.place - u.place))
+Moves (command.Run b n) t u =
+    IsTrue u.warm
+    × (u.reach ≡ min t.scenario.window (reach_here t + (length u.events - length t.events)))
+Moves (command.Tick b) t u =
+    IsTrue u.warm
+    × (u.reach ≡ min t.scenario.window (reach_here t + (length u.events - length t.events)))
+Moves (command.Rewind b n) t u =
+    IsTrue u.warm
+    × (t.place - u.place ≤ reach_here t → u.reach ≡ reach_here t - (t.place - u.place))
 Moves (command.Cut b) t u = (u.warm ≡ t.warm) × (u.reach ≡ t.reach)
 Moves _ t u = Unit {0}
 
@@ -34,10 +45,13 @@ is_freeze (command.Freeze b) = true
 is_freeze _ = false
 
 module _ {State Msg : Type 0} (node : NodeLaws State Msg) (probes : ℕ) where
-  -- a step or a run on a warm tape wants memory only where something is pending
+  -- Where memory was wanted: a step or a run on a warm tape wants it only where something is pending;
+  -- a look, and a run of no step, only where the tape is cold.
   abbrev pub Wants : Command → Tape → Type 0
   Wants (command.Step b) t = IsTrue t.warm → is_idle (world_of (rules node probes t.scenario) t) ≡ false
-  Wants (command.Run b n) t = IsTrue t.warm → is_idle (world_of (rules node probes t.scenario) t) ≡ false
+  Wants (command.Run b n) t =
+      (IsTrue t.warm → is_idle (world_of (rules node probes t.scenario) t) ≡ false) × (n ≡ 0 → t.warm ≡ false)
+  Wants (command.Look b q) t = t.warm ≡ false
   Wants _ t = Unit {0}
 
   -- A refusal other than for want of memory leaves a tape as it is, warm or cold; that nothing is pending is found out on a warm one.

@@ -33,3 +33,7 @@ pub record BookView : Type 0 where
   pub kept : List Kept
   pub history : List Entry
   pub work : Work
+
+-- a book of these parts
+abbrev pub view_of : Scenario → List Kept → List Entry → Work → BookView
+view_of s ks es w = record { scenario = s; kept = ks; history = es; work = w }

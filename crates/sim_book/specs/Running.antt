@@ -1,11 +1,15 @@
 -- A run, a tick or a rewind that goes on: how far it has come.
-use Rattle.std.specs.Prelude.{◌≡◌, ℕ, ◌+◌, ◌-◌, ◌<◌, ◌≤◌, min, true, List, [], Option, Some, None, length}
+use Rattle.std.specs.Prelude.{◌≡◌, ℕ, ◌+◌, ◌-◌, ◌*◌, ◌/◌, ◌%◌, ◌<◌, ◌≤◌, min, true, List, [], Option, Some, None, length}
 use Rattle.sim_node.specs.Node.{NodeLaws}
+use Rattle.sim_node.specs.Work.{Work}
+use Rattle.sim_world.specs.declared.Event.{Event}
 use Rattle.sim_world.specs.declared.Event.TheVariants as event
-use Rattle.sim_world.specs.Events.{rules, refusal_of}
+use Rattle.sim_world.specs.Events.{Rules, rules, refusal_of}
 use Rattle.sim_tape.specs.Tape.{Tape, with_world, at}
 use Rattle.sim_tape.specs.Places.{world_of}
+use Rattle.sim_tape.specs.Works.{TakesAtMost}
 use Rattle.sim_book.specs.Tapes.{lengthened}
+use Rattle.sim_book.specs.Works.{stretches, nodes_from}
 use Rattle.sim_watch.specs.Condition.{Cond}
 use Rattle.sim_book.specs.declared.rewinds.Found.{Found}
 use Rattle.sim_book.specs.declared.Stop.{Stop}
@@ -75,6 +79,16 @@ module _ {State Msg : Type 0} (node : NodeLaws State Msg) (probes : ℕ) where
   -- Of a rewind that began at the warm tape t, the places down to `high` were looked at, the tape is now u, and no watch failed.
   pub record IsPast (watches : List (Option Cond)) (t : Tape) (low high : ℕ) (u : Tape) : Type 0 where
     pub new : u ≡ with_world true u.reach (at u.place t)
+    pub ahead : high ≤ u.place
     pub from : low ≤ high
     pub below : high ≤ t.place
     pub none : NoneFails watches t high t.place
+
+-- The places below `top` were looked at down to `high`, and this took so much work. Past `to` a
+-- stretch begins at a checkpoint.
+pub record IsLooked {State Msg : Type 0} (r : Rules State Msg) (to high top : ℕ)
+    (events : List Event) (old new : Work) : Type 0 where
+  pub whole : high < top → to < high → high % r.scenario.interval ≡ 0
+  pub work :
+      TakesAtMost (stretches r high top * (r.scenario.interval - 1))
+      (nodes_from r (high / r.scenario.interval) (stretches r high top) events) old new

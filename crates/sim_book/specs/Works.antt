@@ -1,12 +1,13 @@
 -- How much work a command takes: the turns, copies and undos of nodes that the book's meter counts.
-use Rattle.std.specs.Prelude.{◌≡◌, ℕ, ◌+◌, ◌-◌, ◌<◌, ◌≤◌, false, List, length, slice_index_or, IsTrue}
+use Rattle.std.specs.Prelude.{◌≡◌, ℕ, zero, suc, ◌+◌, ◌-◌, ◌*◌, ◌/◌, ◌<◌, ◌≤◌, nat_lt, false, List, length, slice_index_or, IsTrue, if◌then◌else◌}
 use Rattle.sim_node.specs.Node.{NodeLaws}
 use Rattle.sim_node.specs.Work.{Work}
 use Rattle.sim_world.specs.declared.Event.{Event}
 use Rattle.sim_world.specs.declared.Event.TheVariants as event
+use Rattle.sim_world.specs.Acts.{running}
 use Rattle.sim_world.specs.Events.{Rules, rules}
-use Rattle.sim_tape.specs.Tape.{Tape, is_within_reach, reach_here}
-use Rattle.sim_tape.specs.Places.{acting}
+use Rattle.sim_tape.specs.Tape.{Tape, is_within_reach, is_near_ahead, reach_here}
+use Rattle.sim_tape.specs.Places.{acting, world_at}
 use Rattle.sim_tape.specs.Works.{undone_by, OnlyTurns, Plays, TakesAtMost, nodes_below, nodes_at_end, nodes_made}
 use Rattle.sim_book.specs.declared.Command.{Command}
 use Rattle.sim_book.specs.declared.Command.TheVariants as command
@@ -44,9 +45,32 @@ module _ {State Msg : Type 0} (r : Rules State Msg) where
   abbrev pub Adds : ℕ → List Event → Work → Work → Type 0
   Adds n events old new = Plays n (nodes_made r (length events - n) n events) old new
 
-  -- A command that moves the place. Where the world is not there, a step, a run, a tick, a fault and a rewind first make it. Then an event
-  -- is added with at most one turn; a walk back within the reach takes no turn and no copy; a walk forward takes a turn an event at most,
-  -- and nothing else; any other jump takes fewer turns than the interval and at most one copy of a world.
+  -- how many stretches lie from a place on, below another: one for each interval with a place there
+  abbrev pub stretches : ℕ → ℕ → ℕ
+  stretches low high =
+      if nat_lt low high
+      then (high - 1) / r.scenario.interval - low / r.scenario.interval + 1
+      else 0
+
+  -- how many nodes are copied with n checkpoints, from that of the j-th interval on, once each
+  abbrev pub nodes_from : ℕ → ℕ → List Event → ℕ
+  nodes_from j zero events = 0
+  nodes_from j (suc n) events =
+      running (world_at r (j * r.scenario.interval) events) + nodes_from (j + 1) n events
+
+  -- The work of looks at the places below one, down to another: for each stretch fewer turns than
+  -- the interval and at most one copy of its checkpoint. A jump goes to the last of these places.
+  abbrev pub Looks : ℕ → ℕ → Tape → Work → Work → Type 0
+  Looks low high t old new =
+      TakesAtMost (stretches low high * (r.scenario.interval - 1) + (r.scenario.interval - 1))
+      (nodes_from (low / r.scenario.interval) (stretches low high) t.events
+      + nodes_below r low t.events) old new
+
+  -- A command that moves the place. Where the world is not there, a step, a run, a tick, a fault and
+  -- a rewind first make it. Then an event is added with at most one turn; a walk back within the
+  -- reach takes no turn and no copy; a walk forward, and a goto a short way ahead, take a turn an
+  -- event at most, and nothing else; any other jump takes fewer turns than the interval and at most
+  -- one copy of a world. A rewind past the reach looks through the stretches that it passes there.
   abbrev pub MovesBy : Command → Tape → Tape → Work → Work → Type 0
   MovesBy (command.Step b) t u old new = WarmsAnd (Plays 1 (nodes_at_end r event.Step t)) t old new
   MovesBy (command.Fault b f) t u old new = WarmsAnd (Plays 1 (nodes_at_end r (event.Fault f) t)) t old new
@@ -56,12 +80,15 @@ module _ {State Msg : Type 0} (r : Rules State Msg) where
       (IsTrue t.warm → n ≤ t.reach → TakesBack n (t.place - n) t old new) × Jumps (t.place - n) t old new
       × (t.warm ≡ false → Renews (t.place - n) t old new)
   MovesBy (command.Goto b p) t u old new =
-      (IsTrue (is_within_reach p t) → TakesBack (t.place - p) p t old new) × Jumps p t old new
+      (IsTrue (is_within_reach p t) → TakesBack (t.place - p) p t old new)
+      × (IsTrue (is_near_ahead p t) → OnlyTurns (p - t.place) old new) × Jumps p t old new
       × (t.warm ≡ false → Renews p t old new)
   MovesBy (command.Forward b n) t u old new =
       (IsTrue t.warm → OnlyTurns n old new) × (t.warm ≡ false → Renews (t.place + n) t old new)
   MovesBy (command.Rewind b n) t u old new =
-      WarmsAnd (λ made last. t.place - u.place ≤ reach_here t → TakesBack (t.place - u.place) u.place t made last) t old new
+      WarmsAnd (λ made last.
+      (t.place - u.place ≤ reach_here t → TakesBack (t.place - u.place) u.place t made last)
+      × Looks u.place (t.place - reach_here t) t made last) t old new
   MovesBy (command.Cut b) t u old new = new ≡ old
   MovesBy _ t u old new = Unit {0}
 

@@ -1,14 +1,12 @@
 ghost use Rattle.std.specs.Prelude.{◌≡◌, ℕ, ◌+◌, ◌<◌, ◌≤◌, ◌↔◌, ◌∷◌, [], ◌++◌};
 ghost use Rattle.std.specs.Prelude.{List, length, slice_index_or, replicate, true, false, IfOk, OnOk, OnErr, IfErr, OnSome, IfSome, IsSome, None, IsTrue};
 ghost use Rattle.sim_world.specs.Events.{rules};
-ghost use Rattle.sim_book.specs.Kept.{all_shown, first_kept, Kept as KeptValue};
+ghost use Rattle.sim_book.specs.Kept.{view_of, all_shown, first_kept, Kept as KeptValue};
 ghost use Rattle.sim_book.specs.History.{IsLegal};
 ghost use Rattle.sim_book.specs.Book.{branch};
-ghost use Rattle.sim_book.specs.Headline.{is_warm, AreOf, AreBranches, IsWorldOf, BackAfterEvent, ForwardAfterBack};
-ghost use Rattle.sim_book.specs.BookOf.{IsBook, IsTaken};
-ghost use Rattle.sim_book.specs.Keeps.{KeepsTapes, TellsIdle};
+ghost use Rattle.sim_book.specs.Headline.{is_warm, AreOf, AreBranches, HasWorlds, HasStepWorlds, IsWorldOf, BackAfterEvent, ForwardAfterBack};
+ghost use Rattle.sim_book.specs.BookOf.{IsBook, Turned};
 ghost use Rattle.sim_tape.specs.Works.{Opens};
-ghost use Rattle.sim_book.specs.Works.{TakesWork};
 ghost use Rattle.sim_book.specs.Freezing.{GivesFrozen, GivesMade, IsWhole};
 
 use crate::carry::carry_out;
@@ -33,12 +31,12 @@ pub struct Book<N: Node> {
 
 impl<N: Node> Model for Book<N> {
     ghost use Rattle.sim_world.specs.Events.{rules};
-    ghost use Rattle.sim_book.specs.Kept.{BookView};
+    ghost use Rattle.sim_book.specs.Kept.{BookView, view_of};
     ghost use Rattle.sim_book.specs.BookOf.{IsBook};
 
     ghost Value = { BookView };
 
-    ghost view = { λ b. record { scenario = b.scenario; kept = b.branches.items; history = b.history.items; work = N.Meter.work b.meter } };
+    ghost view = { λ b. view_of b.scenario b.branches.items b.history.items (N.Meter.work b.meter) };
 
     ghost invariant = { λ b. IsBook (rules N.laws N.PROBES b.scenario) b.scenario b.branches.items b.history.items b.numbers };
 }
@@ -56,16 +54,12 @@ fn take_turn<N: Node>(
 ) -> Result<Entry, NotTaken>
     requires book { IsBook (rules N.laws N.PROBES scenario.now) scenario.now branches.old.items history.old.items numbers.old }
     ensures book { IsBook (rules N.laws N.PROBES scenario.now) scenario.now branches.new.items history.new.items numbers.new }
-    ensures taken { IfOk result (λ e. IsTaken (rules N.laws N.PROBES scenario.now) session command branches.old.items history.old.items
-        e branches.new.items history.new.items) }
-    ensures keeps { IfOk result (λ e. KeepsTapes N.laws N.PROBES command e.reply branches.old.items branches.new.items) }
-    ensures work { IfOk result (λ e. TakesWork N.laws N.PROBES command e.reply branches.old.items branches.new.items
-        (N.Meter.work meter.old) (N.Meter.work meter.new)) }
-    ensures idle { IfOk result (λ e. TellsIdle N.laws N.PROBES scenario.now command e.reply branches.old.items) }
+    ensures turned { IfOk result (λ e. Turned N.laws N.PROBES session command
+        (view_of scenario.now branches.old.items history.old.items (N.Meter.work meter.old)) e
+        (view_of scenario.now branches.new.items history.new.items (N.Meter.work meter.new))) }
     ensures meter { OnErr result (N.Meter.work meter.new ≡ N.Meter.work meter.old) }
     ensures branches { OnErr result (branches.new.items ≡ branches.old.items) }
     ensures history { OnErr result (history.new.items ≡ history.old.items) }
-    ensures room { OnOk result (length history.old.items < 65536) }
     ensures full { IfErr result (λ why. (why ≡ NotTaken.HistoryFull) ↔ (65536 ≤ length history.old.items)) }
 {
     if history.len() >= 65536 {
@@ -151,20 +145,12 @@ impl<N: Node> Book<N> {
         })
     }
 
-    /// A session's command is carried out. An entry tells the reply and is kept at the history's end.
+    /// A session's command is carried out. An entry tells the reply and is kept at the history's end. Where none is taken the book
+    /// is unchanged.
     pub fn turn(&mut self, alloc: Global, session: u8, command: Command) -> Result<Entry, NotTaken>
-        ensures taken { IfOk result (λ e. IsTaken (rules N.laws N.PROBES self.old.scenario) session command self.old.kept self.old.history
-            e self.new.kept self.new.history) }
-        ensures keeps { IfOk result (λ e. KeepsTapes N.laws N.PROBES command e.reply self.old.kept self.new.kept) }
-        ensures work { IfOk result (λ e. TakesWork N.laws N.PROBES command e.reply self.old.kept self.new.kept self.old.work self.new.work) }
-        ensures idle { IfOk result (λ e. TellsIdle N.laws N.PROBES self.old.scenario command e.reply self.old.kept) }
-        ensures scenario { self.new.scenario ≡ self.old.scenario }
+        ensures turned { IfOk result (λ e. Turned N.laws N.PROBES session command self.old e self.new) }
         ensures not_taken { OnErr result (self.new ≡ self.old) }
-        ensures room { OnOk result (length self.old.history < 65536) }
         ensures full { IfErr result (λ why. (why ≡ NotTaken.HistoryFull) ↔ (65536 ≤ length self.old.history)) }
-        ensures legal { IsLegal (rules N.laws N.PROBES self.new.scenario) self.new.history (all_shown self.new.kept) }
-        ensures branches { AreBranches (rules N.laws N.PROBES self.new.scenario) (all_shown self.new.kept) }
-        ensures tapes { AreOf self.new.scenario self.new.kept }
     {
         take_turn(
             alloc,
@@ -196,12 +182,15 @@ impl<N: Node> Book<N> {
         Some(kept.tape.here())
     }
 
-    /// The laws of every book, as clauses: each branch has a world, that of its events up to its place; a way back by one after an
-    /// added event leads to the world before it; and a way forward by as many events as were gone back leads to the world that was
-    /// left. The call does nothing.
+    /// The laws of every book, as clauses: each branch has a world, that of its events up to its place, and so has each of its
+    /// places, and each number of steps more that a run or a tick looks at; a way back by one after an added event leads to the
+    /// world before it; and a way forward by as many events as were gone back leads to the world that was left. The call does
+    /// nothing.
     pub fn laws(&self)
         ensures legal { IsLegal (rules N.laws N.PROBES self.now.scenario) self.now.history (all_shown self.now.kept) }
         ensures branches { AreBranches (rules N.laws N.PROBES self.now.scenario) (all_shown self.now.kept) }
+        ensures worlds { HasWorlds (rules N.laws N.PROBES self.now.scenario) (all_shown self.now.kept) }
+        ensures ahead { HasStepWorlds (rules N.laws N.PROBES self.now.scenario) (all_shown self.now.kept) }
         ensures tapes { AreOf self.now.scenario self.now.kept }
         ensures back { BackAfterEvent (rules N.laws N.PROBES self.now.scenario) (all_shown self.now.kept) }
         ensures forward { ForwardAfterBack (rules N.laws N.PROBES self.now.scenario) (all_shown self.now.kept) }
@@ -262,16 +251,10 @@ impl<N: Node> Book<N> {
         session: u8,
         b: u32,
     ) -> Result<(Entry, Option<Frozen<N>>), NotTaken>
+        ensures turned { IfOk result (λ r. Turned N.laws N.PROBES session (Command.Freeze b) self.old r.0 self.new) }
         ensures frozen { IfOk result (λ r. GivesFrozen self.old.scenario r.0.reply r.1) }
-        ensures taken { IfOk result (λ r. IsTaken (rules N.laws N.PROBES self.old.scenario) session (Command.Freeze b) self.old.kept self.old.history
-            r.0 self.new.kept self.new.history) }
-        ensures keeps { IfOk result (λ r. KeepsTapes N.laws N.PROBES (Command.Freeze b) r.0.reply self.old.kept self.new.kept) }
-        ensures work { IfOk result (λ r. TakesWork N.laws N.PROBES (Command.Freeze b) r.0.reply self.old.kept self.new.kept self.old.work self.new.work) }
-        ensures scenario { self.new.scenario ≡ self.old.scenario }
         ensures not_taken { OnErr result (self.new ≡ self.old) }
-        ensures room { OnOk result (length self.old.history < 65536) }
         ensures full { IfErr result (λ why. (why ≡ NotTaken.HistoryFull) ↔ (65536 ≤ length self.old.history)) }
-        ensures legal { IsLegal (rules N.laws N.PROBES self.new.scenario) self.new.history (all_shown self.new.kept) }
     {
         if self.is_full() {
             return Err(NotTaken::HistoryFull);

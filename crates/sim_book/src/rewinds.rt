@@ -1,12 +1,14 @@
 //! A rewind: back until a watch fails.
-ghost use Rattle.std.specs.Prelude.{◌≡◌, ℕ, ◌+◌, ◌-◌, ◌<◌, ◌≤◌, IsTrue, OnOk, OnErr, IfOk, length};
+ghost use Rattle.std.specs.Prelude.{◌≡◌, ℕ, ◌+◌, ◌-◌, ◌/◌, ◌%◌, ◌<◌, ◌≤◌};
+ghost use Rattle.std.specs.Prelude.{IsTrue, OnOk, OnErr, IfOk, length};
 ghost use Rattle.sim_world.specs.Events.{rules};
 ghost use Rattle.sim_tape.specs.Tape.{with_world, at};
 ghost use Rattle.sim_book.specs.OnTape.{IsMoved, world_on, rewind_on};
 ghost use Rattle.sim_book.specs.Book.{failing_watch};
 ghost use Rattle.sim_book.specs.Running.{IsLast, place_found, found_at};
 ghost use Rattle.sim_book.specs.Watches.{AreChecked, NoneFrom};
-ghost use Rattle.sim_book.specs.Works.{TakesBack};
+ghost use Rattle.sim_tape.specs.Works.{OnlyTurns};
+ghost use Rattle.sim_book.specs.Works.{TakesBack, Looks};
 
 use crate::{Stop, stops};
 use sim_node::{NoMemory, Node};
@@ -86,6 +88,7 @@ fn last_failing<N: Node>(
     requires checked { AreChecked tape.old.scenario.setup.hosts N.PROBES watches.now }
     ensures last { IfOk result (λ found. IsLast N.laws N.PROBES watches.now tape.old tape.old.place (tape.old.place + count + 1) found) }
     ensures moved { OnOk result (IsMoved (tape.old.place + count) tape.old tape.new) }
+    ensures work { OnOk result (OnlyTurns count (N.Meter.work meter.old) (N.Meter.work meter.new)) }
     ensures err { OnErr result ((p : ℕ) × (tape.new ≡ with_world tape.new.warm tape.new.reach (at p tape.old))) }
 {
     let mut last = found_here(tape, watches, end);
@@ -98,12 +101,15 @@ fn last_failing<N: Node>(
     Ok(last)
 }
 
-// Where the stretch begins that ends below a place: at its checkpoint, or at `to` where that is past it.
+// Where the stretch begins that ends below a place: at its checkpoint, or at `to` where that is
+// past it.
 fn stretch_below(high: u32, interval: u32, to: u32) -> u32
     requires some { 1 ≤ interval }
     requires below { to < high }
     ensures from { to ≤ result }
     ensures below { result < high }
+    ensures same { result / interval ≡ (high - 1) / interval }
+    ensures whole { to < result → result % interval ≡ 0 }
 {
     max(to, high - 1 - (high - 1) % interval)
 }
@@ -125,6 +131,9 @@ fn look_far<N: Node>(
     requires checked { AreChecked tape.old.scenario.setup.hosts N.PROBES watches.now }
     ensures last { IfOk result (λ found. IsLast N.laws N.PROBES watches.now tape.old to tape.old.place found) }
     ensures moved { IfOk result (λ found. IsMoved (place_found to found) tape.old tape.new) }
+    ensures looks { OnOk result (Looks (rules N.laws N.PROBES tape.old.scenario)
+        tape.new.place tape.old.place tape.old
+        (N.Meter.work meter.old) (N.Meter.work meter.new)) }
     ensures err { OnErr result ((p : ℕ) × (tape.new ≡ with_world tape.new.warm tape.new.reach (at p tape.old))) }
 {
     let interval = tape.interval();
@@ -162,6 +171,9 @@ fn look_back<N: Node>(
     ensures reach { OnOk result (tape.old.place - tape.new.place ≤ tape.old.reach → tape.new.reach ≡ tape.old.reach - (tape.old.place - tape.new.place)) }
     ensures work { OnOk result (tape.old.place - tape.new.place ≤ tape.old.reach
         → TakesBack (rules N.laws N.PROBES tape.old.scenario) (tape.old.place - tape.new.place) tape.new.place tape.old
+        (N.Meter.work meter.old) (N.Meter.work meter.new)) }
+    ensures looks { OnOk result (Looks (rules N.laws N.PROBES tape.old.scenario)
+        tape.new.place (tape.old.place - tape.old.reach) tape.old
         (N.Meter.work meter.old) (N.Meter.work meter.new)) }
     ensures err { OnErr result ((p : ℕ) × (tape.new ≡ with_world tape.new.warm tape.new.reach (at p tape.old))) }
 {
@@ -201,6 +213,9 @@ fn go_back<N: Node>(
     ensures work { OnOk result (tape.old.place - tape.new.place ≤ tape.old.reach
         → TakesBack (rules N.laws N.PROBES tape.old.scenario) (tape.old.place - tape.new.place) tape.new.place tape.old
         (N.Meter.work meter.old) (N.Meter.work meter.new)) }
+    ensures looks { OnOk result (Looks (rules N.laws N.PROBES tape.old.scenario)
+        tape.new.place (tape.old.place - tape.old.reach) tape.old
+        (N.Meter.work meter.old) (N.Meter.work meter.new)) }
     ensures err { OnErr result ((p : ℕ) × (tape.new ≡ with_world tape.new.warm tape.new.reach (at p tape.old))) }
 {
     match look_back(alloc, tape, watches, end, meter, count)? {
@@ -226,6 +241,9 @@ pub(crate) fn rewind<N: Node>(
     ensures reach { OnOk result (tape.old.place - tape.new.place ≤ tape.old.reach → tape.new.reach ≡ tape.old.reach - (tape.old.place - tape.new.place)) }
     ensures work { OnOk result (tape.old.place - tape.new.place ≤ tape.old.reach
         → TakesBack (rules N.laws N.PROBES tape.old.scenario) (tape.old.place - tape.new.place) tape.new.place tape.old
+        (N.Meter.work meter.old) (N.Meter.work meter.new)) }
+    ensures looks { OnOk result (Looks (rules N.laws N.PROBES tape.old.scenario)
+        tape.new.place (tape.old.place - tape.old.reach) tape.old
         (N.Meter.work meter.old) (N.Meter.work meter.new)) }
     ensures err { OnErr result (tape.new ≡ with_world tape.new.warm tape.new.reach tape.old) }
 {

@@ -51,6 +51,7 @@ impl<N: Node> Kept for Held<N> {
     }
 
     fn turn(&mut self, session: u8, command: Command) -> Result<Entry, NotTaken> {
+        self.book.laws();
         self.book.turn(self.alloc, session, command)
     }
 }
@@ -63,6 +64,7 @@ impl<N: Node> Freezes for Held<N> {
     ghost gives = { λ s e given. GivesFrozen s e.reply given };
 
     fn freeze(&mut self, session: u8, branch: u32) -> Result<(Entry, Option<Frozen<N>>), NotTaken> {
+        self.book.laws();
         self.book.freeze(self.alloc, session, branch)
     }
 }

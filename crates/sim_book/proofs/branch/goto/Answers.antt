@@ -11,4 +11,4 @@ returns-in-Ok-clause-turn g c = λ ws book. goto_on g.N.Node.laws g.N.Node.PROBE
 pub returns-in-Ok-clause-work : goal.returns-in-Ok-clause-work
 returns-in-Ok-clause-work g c =
     let W = g.N.Meter.Meter.work in
-    subst (λ (x : Reply). Works g.N.Node.laws g.N.Node.PROBES (command.Goto c.args.b c.args.place) x c.args.tape.now c.goto.new.self (W c.args.meter.now) (W c.goto.new.meter)) (sym c.moved.ensures) (c.in-Ok.ensures.undos, c.in-Ok.ensures.work, c.in-Ok.ensures.anew)
+    subst (λ (x : Reply). Works g.N.Node.laws g.N.Node.PROBES (command.Goto c.args.b c.args.place) x c.args.tape.now c.goto.new.self (W c.args.meter.now) (W c.goto.new.meter)) (sym c.moved.ensures) (c.in-Ok.ensures.undos, c.in-Ok.ensures.ahead, c.in-Ok.ensures.work, c.in-Ok.ensures.anew)

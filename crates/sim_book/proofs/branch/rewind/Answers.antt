@@ -1,6 +1,9 @@
 use Rattle.sim_book.specs.Works.{Works}
-use Rattle.std.proofs.Common.{◌≡◌, true, arith, sym, subst}
-use Rattle.sim_book.proofs.Turns.{warm_reach, rewind_on, rewind_none, rewind_keeps, rewind_none_keeps, rewind_works, rewind_none_works}
+use Rattle.sim_tape.specs.Tape.{reach_here}
+use Rattle.std.proofs.Common.{◌≡◌, ◌-◌, true, arith, sym, subst}
+use Rattle.sim_book.proofs.Turns.{rewind_on, rewind_none, rewind_keeps, rewind_none_keeps, rewind_works, rewind_none_works, rewind_looks}
+use Rattle.sim_book.proofs.Looking.{looks_none}
+use Rattle.sim_world.specs.Events.{rules}
 use Rattle.sim_book.specs.Keeps.{Keeps}
 use Rattle.sim_book.specs.declared.Command.TheVariants as command
 use Rattle.sim_book.specs.declared.Reply.{Reply}
@@ -18,12 +21,12 @@ returns-in-Ok-rewind-clause-turn g c = λ book.
 pub returns-then-count-eq0-clause-keeps : goal.returns-then-count-eq0-clause-keeps
 returns-then-count-eq0-clause-keeps g c =
     subst (λ (x : Reply). Keeps g.N.Node.laws g.N.Node.PROBES (command.Rewind c.args.b c.args.count) x c.args.tape.now c.make_warm.new.self) (sym c.moved.ensures)
-    (rewind_none_keeps c.args.tape.now c.make_warm.new.self c.in-Ok.ensures.ok (warm_reach c.args.tape.now c.make_warm.new.self (λ warm. (c.make_warm.ensures.warm warm).1)))
+    (rewind_none_keeps c.args.tape.now c.make_warm.new.self (reach_here c.args.tape.now) c.in-Ok.ensures.ok c.in-Ok.ensures.reach)
 
 pub returns-in-Ok-rewind-clause-keeps : goal.returns-in-Ok-rewind-clause-keeps
 returns-in-Ok-rewind-clause-keeps g c =
     subst (λ (x : Reply). Keeps g.N.Node.laws g.N.Node.PROBES (command.Rewind c.args.b c.args.count) x c.args.tape.now c.rewind.new.tape) (sym c.moved-in-Ok-rewind.ensures)
-    (rewind_keeps c.args.tape.now c.make_warm.new.self c.rewind.new.tape _ c.in-Ok.ensures.ok (warm_reach c.args.tape.now c.make_warm.new.self (λ warm. (c.make_warm.ensures.warm warm).1)) c.in-Ok-rewind.ensures.ok c.in-Ok-rewind.ensures.reach)
+    (rewind_keeps c.args.tape.now c.make_warm.new.self c.rewind.new.tape _ (reach_here c.args.tape.now) c.in-Ok.ensures.ok c.in-Ok.ensures.reach c.in-Ok-rewind.ensures.ok c.in-Ok-rewind.ensures.reach)
 
 pub returns-then-count-eq0-clause-work : goal.returns-then-count-eq0-clause-work
 returns-then-count-eq0-clause-work g c =
@@ -33,7 +36,10 @@ returns-then-count-eq0-clause-work g c =
     (record {
       made = W c.make_warm.new.meter;
       first = (warm, c.in-Ok.ensures.cold);
-      last = λ _. rewind_none_works g.N.Node.laws g.N.Node.PROBES c.args.tape.now c.make_warm.new.self (W c.make_warm.new.meter) c.in-Ok.ensures.ok;
+      last = (
+        λ _. rewind_none_works g.N.Node.laws g.N.Node.PROBES c.args.tape.now c.make_warm.new.self (W c.make_warm.new.meter) c.in-Ok.ensures.ok,
+        looks_none (rules g.N.Node.laws g.N.Node.PROBES c.args.tape.now.scenario) c.make_warm.new.self.place (c.args.tape.now.place - reach_here c.args.tape.now) c.args.tape.now (W c.make_warm.new.meter),
+      );
     })
 
 pub returns-in-Ok-rewind-clause-work : goal.returns-in-Ok-rewind-clause-work
@@ -44,5 +50,8 @@ returns-in-Ok-rewind-clause-work g c =
     (record {
       made = W c.make_warm.new.meter;
       first = (warm, c.in-Ok.ensures.cold);
-      last = rewind_works g.N.Node.laws g.N.Node.PROBES c.args.tape.now c.make_warm.new.self c.rewind.new.tape (W c.make_warm.new.meter) (W c.rewind.new.meter) c.in-Ok.ensures.ok c.in-Ok.ensures.reach c.in-Ok-rewind.ensures.work;
+      last = (
+        rewind_works g.N.Node.laws g.N.Node.PROBES c.args.tape.now c.make_warm.new.self c.rewind.new.tape (W c.make_warm.new.meter) (W c.rewind.new.meter) c.in-Ok.ensures.ok c.in-Ok.ensures.reach c.in-Ok-rewind.ensures.work,
+        rewind_looks g.N.Node.laws g.N.Node.PROBES c.args.tape.now c.make_warm.new.self c.rewind.new.tape (W c.make_warm.new.meter) (W c.rewind.new.meter) c.in-Ok.ensures.ok c.in-Ok.ensures.reach c.in-Ok-rewind.ensures.looks,
+      );
     })

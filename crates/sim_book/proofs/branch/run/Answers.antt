@@ -1,6 +1,7 @@
 use Rattle.sim_book.specs.Works.{Works}
+use Rattle.sim_tape.specs.Tape.{reach_here}
 use Rattle.std.proofs.Common.{◌≡◌, true, arith, sym, subst}
-use Rattle.sim_book.proofs.Turns.{warm_reach, run_on, run_none, run_refused, run_keeps, run_none_keeps, busy_on, run_works, run_none_works}
+use Rattle.sim_book.proofs.Turns.{run_on, run_none, run_refused, run_keeps, run_none_keeps, here_within, busy_on, run_works, run_none_works}
 use Rattle.sim_book.specs.Keeps.{Keeps}
 use Rattle.sim_book.specs.declared.Command.TheVariants as command
 use Rattle.sim_book.specs.declared.Reply.{Reply}
@@ -22,15 +23,18 @@ returns-in-Ok-run-clause-turn g c = λ book.
 pub returns-then-count-eq0-clause-keeps : goal.returns-then-count-eq0-clause-keeps
 returns-then-count-eq0-clause-keeps g c =
     subst (λ (x : Reply). Keeps g.N.Node.laws g.N.Node.PROBES (command.Run c.args.b c.args.count) x c.args.tape.now c.make_warm.new.self) (sym c.moved.ensures)
-    (run_none_keeps c.args.tape.now c.make_warm.new.self c.in-Ok.ensures.ok (warm_reach c.args.tape.now c.make_warm.new.self (λ warm. (c.make_warm.ensures.warm warm).1)) c.len.ensures.reach)
+    (run_none_keeps c.args.tape.now c.make_warm.new.self (reach_here c.args.tape.now) c.in-Ok.ensures.ok c.in-Ok.ensures.reach (here_within c.args.tape.now c.len.ensures.reach))
 
 pub returns-in-Ok-run-clause-keeps : goal.returns-in-Ok-run-clause-keeps
 returns-in-Ok-run-clause-keeps g c =
     subst (λ (x : Reply). Keeps g.N.Node.laws g.N.Node.PROBES (command.Run c.args.b c.args.count) x c.args.tape.now c.run.new.tape) (sym c.moved-in-Ok-run.ensures)
-    (run_keeps c.args.tape.now c.make_warm.new.self c.run.new.tape _ c.in-Ok.ensures.ok (warm_reach c.args.tape.now c.make_warm.new.self (λ warm. (c.make_warm.ensures.warm warm).1)) c.in-Ok-run.ensures.ok c.in-Ok-run.ensures.reach)
+    (run_keeps c.args.tape.now c.make_warm.new.self c.run.new.tape _ (reach_here c.args.tape.now) c.in-Ok.ensures.ok c.in-Ok.ensures.reach c.in-Ok-run.ensures.ok c.in-Ok-run.ensures.reach)
 
 pub returns-in-Err-run-clause-keeps : goal.returns-in-Err-run-clause-keeps
-returns-in-Err-run-clause-keeps g c = λ _. busy_on g.N.Node.laws g.N.Node.PROBES c.args.tape.now c.make_warm.new.self c.in-Ok.ensures.ok c.in-Ok-can_step.ensures
+returns-in-Err-run-clause-keeps g c = (
+  λ _. busy_on g.N.Node.laws g.N.Node.PROBES c.args.tape.now c.make_warm.new.self c.in-Ok.ensures.ok c.in-Ok-can_step.ensures,
+  λ none. absurd (omega arith),
+)
 
 pub returns-then-count-eq0-clause-work : goal.returns-then-count-eq0-clause-work
 returns-then-count-eq0-clause-work g c =

@@ -1,12 +1,13 @@
 use Rattle.sim_world.specs.declared.Event.TheVariants as event
-use Rattle.sim_tape.specs.Tape.{Tape}
+use Rattle.sim_tape.specs.Tape.{Tape, reach_here}
 use Rattle.sim_book.specs.Works.{Works}
+use Rattle.sim_book.specs.Keeps.{Keeps}
 use Rattle.sim_book.specs.declared.Command.TheVariants as command
 use Rattle.sim_book.specs.declared.Reply.{Reply}
 use Rattle.std.proofs.Common.{◌≡◌, true, arith, sym, ap, subst}
 use Rattle.sim_world.specs.Events.{rules}
 use Rattle.sim_tape.specs.Works.{Plays, nodes_at_end}
-use Rattle.sim_book.proofs.Turns.{step_on, step_refused, busy_on}
+use Rattle.sim_book.proofs.Turns.{step_on, step_refused, busy_on, add_keeps}
 use Rattle.sim_book.proofs.branch.step.Goals as goal
 
 pub returns-in-Err-can_step-clause-turn : goal.returns-in-Err-can_step-clause-turn
@@ -29,3 +30,9 @@ returns-in-Ok-add-clause-work g c =
       last = subst (λ (t : Tape). Plays 1 (nodes_at_end (rules g.N.Node.laws g.N.Node.PROBES t.scenario) event.Step t) (W c.make_warm.new.meter) (W c.add.new.meter)) c.in-Ok.ensures.ok
           (c.in-Ok-add.ensures.work (ap (λ (t : Tape). t.warm) c.in-Ok.ensures.ok));
     })
+
+pub returns-in-Ok-add-clause-keeps : goal.returns-in-Ok-add-clause-keeps
+returns-in-Ok-add-clause-keeps g c =
+    subst (λ (x : Reply). Keeps g.N.Node.laws g.N.Node.PROBES (command.Step c.args.b) x c.args.tape.now c.add.new.self) (sym c.moved.ensures)
+    (add_keeps c.args.tape.now c.make_warm.new.self c.add.new.self (reach_here c.args.tape.now) c.in-Ok.ensures.ok c.in-Ok.ensures.reach
+    (ap (λ (v : Tape). v.warm) c.in-Ok-add.ensures.ok) c.in-Ok-add.ensures.reach)

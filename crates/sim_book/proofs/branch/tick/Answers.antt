@@ -1,6 +1,7 @@
 use Rattle.sim_book.specs.Works.{Works}
+use Rattle.sim_tape.specs.Tape.{reach_here}
 use Rattle.std.proofs.Common.{◌≡◌, true, arith, sym, subst}
-use Rattle.sim_book.proofs.Turns.{warm_reach, tick_on, run_keeps, run_works}
+use Rattle.sim_book.proofs.Turns.{tick_on, run_keeps, run_works}
 use Rattle.sim_book.specs.Keeps.{Keeps}
 use Rattle.sim_book.specs.declared.Command.TheVariants as command
 use Rattle.sim_book.specs.declared.Reply.{Reply}
@@ -14,7 +15,7 @@ returns-in-Ok-tick-clause-turn g c = λ ws book.
 pub returns-in-Ok-tick-clause-keeps : goal.returns-in-Ok-tick-clause-keeps
 returns-in-Ok-tick-clause-keeps g c =
     subst (λ (x : Reply). Keeps g.N.Node.laws g.N.Node.PROBES (command.Tick c.args.b) x c.args.tape.now c.tick.new.tape) (sym c.moved.ensures)
-    (run_keeps c.args.tape.now c.make_warm.new.self c.tick.new.tape _ c.in-Ok.ensures.ok (warm_reach c.args.tape.now c.make_warm.new.self (λ warm. (c.make_warm.ensures.warm warm).1)) c.in-Ok-tick.ensures.ok c.in-Ok-tick.ensures.reach)
+    (run_keeps c.args.tape.now c.make_warm.new.self c.tick.new.tape _ (reach_here c.args.tape.now) c.in-Ok.ensures.ok c.in-Ok.ensures.reach c.in-Ok-tick.ensures.ok c.in-Ok-tick.ensures.reach)
 
 pub returns-in-Ok-tick-clause-work : goal.returns-in-Ok-tick-clause-work
 returns-in-Ok-tick-clause-work g c =

@@ -1,7 +1,10 @@
-use Rattle.std.proofs.Common.{◌≡◌, ℕ, ◌-◌, ap, subst}
-use Rattle.std.proofs.lemmas.Result.{IfOk-weaker}
+use Rattle.std.proofs.Common.{◌≡◌, ℕ, ◌-◌, ap, ◌∙◌, subst}
+use Rattle.std.proofs.lemmas.Result.{IfOk-weaker, on_ok_weaker}
+use Rattle.sim_world.specs.Events.{rules}
+use Rattle.sim_tape.specs.Tape.{Tape}
 use Rattle.sim_book.specs.Running.{IsLast}
 use Rattle.sim_book.proofs.Rewinding.{none_so, none_kept, far_last}
+use Rattle.sim_book.proofs.Looking.{looks_jump, looks_back, moved_looks, far_looked, min_other}
 use Rattle.sim_book.proofs.rewinds.look_back.Goals as goal
 
 pub returns-then-end-eq0-clause-last : goal.returns-then-end-eq0-clause-last
@@ -23,3 +26,36 @@ returns-clause-last g c =
     (λ f h. far_last g.N.Node.laws g.N.Node.PROBES c.args.watches.now t c.look_near.new.tape c.min-near.result (t.place - c.args.count) (c.place.result - c.args.count) f
     (ap (λ (n : ℕ). n - c.args.count) c.place.ensures.value) c.in_ok-found.field-0 c.in_default.is c.in_ok-found.ensures.moved c.in_ok-found.ensures.last h)
     c.look_far.ensures.last
+
+pub returns-then-end-eq0-clause-looks : goal.returns-then-end-eq0-clause-looks
+returns-then-end-eq0-clause-looks g c =
+    let W = g.N.Meter.Meter.work in
+    let t = c.args.tape.now in
+    let r = rules g.N.Node.laws g.N.Node.PROBES t.scenario in
+    moved_looks r c.back.new.self.place (t.place - c.args.count) (t.place - t.reach) t (W c.args.meter.now) (W c.back.new.meter) (ap (λ (x : Tape). x.place) c.in_ok-back.ensures.ok)
+    (looks_jump r (t.place - c.args.count) (t.place - t.reach) t (W c.args.meter.now) (W c.back.new.meter) c.in_ok-back.ensures.work)
+
+pub returns-in-Some-clause-looks : goal.returns-in-Some-clause-looks
+returns-in-Some-clause-looks g c =
+    let W = g.N.Meter.Meter.work in
+    let t = c.args.tape.now in
+    let u = c.look_near.new.tape in
+    looks_back (rules g.N.Node.laws g.N.Node.PROBES t.scenario) u.place (t.place - t.reach) (t.place - u.place) u.place t (W c.args.meter.now) (W c.look_near.new.meter) c.in_ok-found.ensures.work
+
+pub returns-then-near-count-clause-looks : goal.returns-then-near-count-clause-looks
+returns-then-near-count-clause-looks g c =
+    let W = g.N.Meter.Meter.work in
+    let t = c.args.tape.now in
+    let u = c.look_near.new.tape in
+    looks_back (rules g.N.Node.laws g.N.Node.PROBES t.scenario) u.place (t.place - t.reach) (t.place - u.place) u.place t (W c.args.meter.now) (W c.look_near.new.meter) c.in_ok-found.ensures.work
+
+pub returns-clause-looks : goal.returns-clause-looks
+returns-clause-looks g c =
+    let W = g.N.Meter.Meter.work in
+    let t = c.args.tape.now in
+    let u = c.look_near.new.tape in
+    on_ok_weaker c.look_far.result
+    (far_looked g.N.Node.laws g.N.Node.PROBES t u c.look_far.new.tape.place c.min-near.result (W c.args.meter.now) (W c.look_near.new.meter) (W c.look_far.new.meter)
+    c.in_ok-found.field-0 c.in_default.is c.in_ok-found.ensures.moved
+    (min_other c.args.count c.reach.result c.min-near.result c.min-near.ensures c.if-near-count.false ∙ c.reach.ensures) c.in_ok-found.ensures.work)
+    c.look_far.ensures.looks

@@ -1,13 +1,22 @@
-use Rattle.std.proofs.Common.{ℕ, ◌+◌, ◌-◌, Option, Some, sym, subst, arith}
+use Rattle.std.proofs.Common.{◌≡◌, ℕ, ◌+◌, ◌-◌, ◌<◌, ◌≤◌, Option, Some, sym, ap, subst, arith}
+use Rattle.sim_world.specs.Events.{rules}
+use Rattle.sim_tape.specs.Tape.{Tape}
 use Rattle.sim_book.specs.declared.rewinds.Found.{Found}
-use Rattle.sim_book.specs.Running.{IsLast, IsPast}
-use Rattle.sim_book.proofs.Rewinding.{none_so, past_none, stretch_on, past_more, last_lower}
+use Rattle.sim_book.specs.Works.{Looks}
+use Rattle.sim_book.specs.Running.{IsLast, IsPast, IsLooked}
+use Rattle.sim_book.proofs.Rewinding.{none_so, past_none, stretch_on, past_more, last_lower, moved_to}
+use Rattle.sim_book.proofs.Looking.{looked_none, looked_all, jump_on, stretch_looked, found_looked}
 use Rattle.sim_book.proofs.rewinds.look_far.Goals as goal
 
 pub loop-high-init : goal.loop-high-init
 loop-high-init g c =
-    subst (λ (n : ℕ). IsPast g.N.Node.laws g.N.Node.PROBES c.args.watches.now c.args.tape.now c.args.to n c.args.tape.now) (sym c.place-high.ensures.value)
-    (past_none g.N.Node.laws g.N.Node.PROBES c.args.watches.now c.args.tape.now c.args.to c.requires.warm c.requires.within)
+    let t = c.args.tape.now in
+    let r = rules g.N.Node.laws g.N.Node.PROBES t.scenario in
+    let w = g.N.Meter.Meter.work c.args.meter.now in (
+      subst (λ (n : ℕ). IsPast g.N.Node.laws g.N.Node.PROBES c.args.watches.now t c.args.to n t) (sym c.place-high.ensures.value)
+          (past_none g.N.Node.laws g.N.Node.PROBES c.args.watches.now t c.args.to c.requires.warm c.requires.within),
+      subst (λ (n : ℕ). IsLooked r c.args.to n t.place t.events w w) (sym c.place-high.ensures.value) (looked_none r c.args.to t.place t.events w),
+    )
 
 pub returns-in-Some-clause-last : goal.returns-in-Some-clause-last
 returns-in-Some-clause-last g c =
@@ -16,18 +25,73 @@ returns-in-Some-clause-last g c =
     let v = c.goto.new.self in
     let last = subst (λ (o : Option Found). IsLast g.N.Node.laws g.N.Node.PROBES c.args.watches.now v v.place (v.place + n + 1) o) c.in-Some.is c.in_ok-found.ensures.last in
     last_lower g.N.Node.laws g.N.Node.PROBES c.args.watches.now c.args.tape.now c.args.to low c.args.tape.now.place (Some c.in-Some.found) c.stretch_below-low.ensures.from
-    (stretch_on g.N.Node.laws g.N.Node.PROBES c.args.watches.now c.args.tape.now c.loop-high.tape v c.args.to low c.loop-high.high n (Some c.in-Some.found) c.loop-high.invariant
+    (stretch_on g.N.Node.laws g.N.Node.PROBES c.args.watches.now c.args.tape.now c.loop-high.tape v c.args.to low c.loop-high.high n (Some c.in-Some.found) c.loop-high.invariant.0
     c.in_ok-goto.ensures.ok (omega (arith, c.stretch_below-low.ensures.below)) last)
     (λ e. absurd cc)
 
+pub returns-in-Some-clause-looks : goal.returns-in-Some-clause-looks
+returns-in-Some-clause-looks g c =
+    let W = g.N.Meter.Meter.work in
+    let node = g.N.Node.laws in
+    let probes = g.N.Node.PROBES in
+    let t = c.args.tape.now in
+    let u = c.loop-high.tape in
+    let v = c.goto.new.self in
+    let low : ℕ = c.stretch_below-low.result in
+    let high : ℕ = c.loop-high.high in
+    let n : ℕ = high - 1 - low in
+    let k : ℕ = c.interval-interval.result in
+    let past = c.loop-high.invariant.0 in
+    let ends : low + n + 1 ≡ high = omega (arith, c.stretch_below-low.ensures.below) in
+    let last = subst (λ (o : Option Found). IsLast node probes c.args.watches.now v v.place (v.place + n + 1) o) c.in-Some.is c.in_ok-found.ensures.last in
+    let from : v.place ≤ c.in-Some.found.place = last.from in
+    let below : c.in-Some.found.place < v.place + n + 1 = last.below in
+    let start = moved_to t u v u.place low past.new c.in_ok-goto.ensures.ok in
+    let place : v.place ≡ low = ap (λ (x : Tape). x.place) start in
+    found_looked node probes t v c.last_failing.new.tape c.goto-in-Some.new.self c.args.to low high n c.in-Some.found.place k (v.place + n) (W c.args.meter.now) (W c.last_failing.new.meter) (W c.goto-in-Some.new.meter)
+    c.interval-interval.ensures.some c.interval-interval.ensures.value past.below c.stretch_below-low.ensures.same start c.in_ok-found.ensures.moved c.in_ok-goto-2.ensures.ok
+    (omega (arith, place, from)) (omega (arith, place, below, ends))
+    (stretch_looked node probes t u c.args.to low high n k (u.place - low) (W c.args.meter.now) (W c.loop-high.meter) (W c.goto.new.meter) (W c.last_failing.new.meter)
+    c.interval-interval.ensures.some c.interval-interval.ensures.value past.new past.ahead past.below c.loop-high-test.true c.stretch_below-low.ensures.below c.stretch_below-low.ensures.same
+    c.stretch_below-low.ensures.whole c.loop-high.invariant.1 c.in_ok-goto.ensures.undos c.in_ok-goto.ensures.past ends c.in_ok-found.ensures.work)
+    c.in_ok-goto-2.ensures.work
+
 pub loop-high-preserved : goal.loop-high-preserved
 loop-high-preserved g c =
+    let W = g.N.Meter.Meter.work in
+    let node = g.N.Node.laws in
+    let probes = g.N.Node.PROBES in
+    let t = c.args.tape.now in
+    let u = c.loop-high.tape in
     let low : ℕ = c.stretch_below-low.result in
-    past_more g.N.Node.laws g.N.Node.PROBES c.args.watches.now c.args.tape.now c.loop-high.tape c.goto.new.self c.last_failing.new.tape c.args.to low c.loop-high.high (c.loop-high.high - 1 - low)
-    c.in_ok-found.field-0 c.loop-high.invariant c.in_ok-goto.ensures.ok (omega (arith, c.stretch_below-low.ensures.below)) c.stretch_below-low.ensures.from
-    c.in_ok-found.ensures.last c.in_default.is c.in_ok-found.ensures.moved
+    let high : ℕ = c.loop-high.high in
+    let n : ℕ = high - 1 - low in
+    let k : ℕ = c.interval-interval.result in
+    let past = c.loop-high.invariant.0 in
+    let ends : low + n + 1 ≡ high = omega (arith, c.stretch_below-low.ensures.below) in (
+      past_more node probes c.args.watches.now t u c.goto.new.self c.last_failing.new.tape c.args.to low high n
+          c.in_ok-found.field-0 past c.in_ok-goto.ensures.ok ends c.stretch_below-low.ensures.from
+          c.in_ok-found.ensures.last c.in_default.is c.in_ok-found.ensures.moved,
+      stretch_looked node probes t u c.args.to low high n k (u.place - low) (W c.args.meter.now) (W c.loop-high.meter) (W c.goto.new.meter) (W c.last_failing.new.meter)
+          c.interval-interval.ensures.some c.interval-interval.ensures.value past.new past.ahead past.below c.loop-high-test.true c.stretch_below-low.ensures.below c.stretch_below-low.ensures.same
+          c.stretch_below-low.ensures.whole c.loop-high.invariant.1 c.in_ok-goto.ensures.undos c.in_ok-goto.ensures.past ends c.in_ok-found.ensures.work,
+    )
 
 pub returns-clause-last : goal.returns-clause-last
 returns-clause-last g c =
     none_so g.N.Node.laws g.N.Node.PROBES c.args.watches.now c.args.tape.now c.loop-high.high c.args.to c.args.tape.now.place
-    (omega (arith, c.loop-high-test.false, c.loop-high.invariant.from)) c.loop-high.invariant.none
+    (omega (arith, c.loop-high-test.false, c.loop-high.invariant.0.from)) c.loop-high.invariant.0.none
+
+pub returns-clause-looks : goal.returns-clause-looks
+returns-clause-looks g c =
+    let W = g.N.Meter.Meter.work in
+    let t = c.args.tape.now in
+    let u = c.loop-high.tape in
+    let r = rules g.N.Node.laws g.N.Node.PROBES t.scenario in
+    let past = c.loop-high.invariant.0 in
+    let end : c.loop-high.high ≡ c.args.to = omega (arith, c.loop-high-test.false, past.from) in
+    let place = ap (λ (x : Tape). x.place) c.in_ok-goto-3.ensures.ok in
+    let looked = subst (λ (m : ℕ). IsLooked r c.args.to m t.place t.events (W c.args.meter.now) (W c.loop-high.meter)) end c.loop-high.invariant.1 in
+    subst (λ (m : ℕ). Looks r m t.place t (W c.args.meter.now) (W c.goto-2.new.meter)) (sym place)
+    (looked_all r c.args.to t.place t (W c.args.meter.now) (W c.loop-high.meter) (W c.goto-2.new.meter) looked
+    (jump_on g.N.Node.laws g.N.Node.PROBES t u u.place c.args.to (W c.loop-high.meter) (W c.goto-2.new.meter) past.new c.in_ok-goto-3.ensures.work))

@@ -1,9 +1,13 @@
-use Rattle.sim_book.specs.Running.{IsPast}
+use Rattle.sim_world.specs.Events.{rules}
+use Rattle.sim_book.specs.Running.{IsPast, IsLooked}
 use Rattle.sim_book.proofs.rewinds.look_far.Given as goal
 
 abbrev pub invariant-loop-high : goal.invariant-loop-high
 invariant-loop-high g l =
-    IsPast g.N.Node.laws g.N.Node.PROBES l.watches l.initial.tape l.to l.high l.tape
+    let t = l.initial.tape in
+    let W = g.N.Meter.Meter.work in
+    IsPast g.N.Node.laws g.N.Node.PROBES l.watches t l.to l.high l.tape
+    × IsLooked (rules g.N.Node.laws g.N.Node.PROBES t.scenario) l.to l.high t.place t.events (W l.initial.meter) (W l.meter)
 
 abbrev pub decreases-loop-high : goal.decreases-loop-high
 decreases-loop-high g l = l.high
