@@ -4,6 +4,7 @@ ghost use Rattle.example_counter.specs.Table.{count_on, asking, answered, adding
 use crate::{Message, Role, State};
 use sim_node::{Effects, Input, Meter, NoMemory, Node, Setup};
 use std::alloc::Global;
+use std::fmt;
 use std::marker::{Model, PhantomData};
 
 /// How long a client waits for an answer before it asks again, in milliseconds.
@@ -27,6 +28,13 @@ impl<T> Model for Counter<T> {
     ghost view = { λ c. c.state };
 
     ghost invariant = { λ c. IsSetup c.state.setup × (c.state.me < c.state.setup.hosts) × IsPlaced c.state.setup.hosts c.state.role };
+}
+
+/// Shows what the host is. Its setup and its number never change, and are left out.
+impl<T> fmt::Debug for Counter<T> {
+    fn fmt<W: fmt::Write>(&self, f: &mut fmt::Formatter<W>) -> fmt::Result {
+        fmt::Debug::fmt(&self.state.role, f)
+    }
 }
 
 /// The count that was saved on a disk, or 0.

@@ -1,4 +1,22 @@
 //! An example of a node of one's own: a counter on a server's disk, that clients ask to add one.
+//!
+//! A client asks its server to add one, and asks again every half second until it has the answer;
+//! then it goes on, until it has done its operations. A server adds one, writes the count to its
+//! disk and asks for a sync. It answers when the sync has come. Meanwhile it hears nobody else.
+//! docs/NODES.md builds this crate from nothing, a step at a time.
+//!
+//! [`Counter`] implements the trait `Node` of `sim_node` for every meter. So it is proved that the
+//! node does what its table says (`specs/Table.antt`, a definition for each row) and that each
+//! reaction can be taken back.
+//!
+//! Why it is built this way:
+//!
+//! - All that a reaction can change is in the [`Role`]. So the record of a reaction is the role
+//!   before it, and taking it back is one assignment.
+//! - The host in a role (whom a server is to answer) is below the number of hosts by the node's
+//!   invariant, because `send` asks for it.
+//! - It answers a client only when the count is stable. A wrong body that answers before
+//!   (`must-fail/answers_before_its_disk.edit`) is refused by the prover.
 #![tactic(auto)]
 
 mod counter;

@@ -2,6 +2,7 @@ use crate::{Client, Context, Message, RaftUndo, Role, Server, State, Variant};
 use sim_hosts::Boxed;
 use sim_node::{Effects, Input, Meter, NoMemory, Node, Setup};
 use std::alloc::Global;
+use std::fmt;
 use std::marker::{Model, PhantomData};
 
 /// A host of Raft: `V` is the variant, as [`Sound`](crate::Sound), and `T` the meter. Contracts see
@@ -22,6 +23,13 @@ impl<V, T> Model for Raft<V, T> {
     ghost view = { λ node. node.state };
 
     ghost invariant = { λ node. IsHost node.state };
+}
+
+/// Shows what the host is. Its setup and its number never change, and are left out.
+impl<V, T> fmt::Debug for Raft<V, T> {
+    fn fmt<W: fmt::Write>(&self, f: &mut fmt::Formatter<W>) -> fmt::Result {
+        fmt::Debug::fmt(&self.state.role, f)
+    }
 }
 
 impl<V: Variant, T: Meter> Node for Raft<V, T> {

@@ -121,7 +121,7 @@ pub struct Context {
 }
 
 /// What a host is.
-#[derive(Drop)]
+#[derive(Debug, Drop)]
 pub enum Role {
     Client(Client),
     Server(Boxed<Server>),

@@ -1,3 +1,4 @@
+//! A client whose numbers fit into messages.
 ghost use Rattle.std.specs.Prelude.{◌≡◌, ◌<◌, []};
 ghost use Rattle.sim_node.specs.Node.{IsSetup, IsFrom};
 ghost use Rattle.sim_hosts.specs.Reactions.{asked_for};

@@ -1,6 +1,8 @@
+//! A host of the register as a node: a client or a server, and how its reactions are taken back.
 use crate::{AbdMsg, CountedClient, Role, Server, State};
 use sim_node::{Effects, Input, Meter, NoMemory, Node, Setup};
 use std::alloc::Global;
+use std::fmt;
 use std::marker::{Model, PhantomData};
 
 /// A host of the register. Contracts see its state.
@@ -21,6 +23,13 @@ impl<T> Model for AbdRegister<T> {
     ghost view = { λ node. node.state };
 
     ghost invariant = { λ node. IsSetup node.state.setup × (node.state.me < node.state.setup.hosts) × IsPlaced node.state.setup.hosts node.state.role };
+}
+
+/// Shows what the host is. Its setup and its number never change, and are left out.
+impl<T> fmt::Debug for AbdRegister<T> {
+    fn fmt<W: fmt::Write>(&self, f: &mut fmt::Formatter<W>) -> fmt::Result {
+        fmt::Debug::fmt(&self.state.role, f)
+    }
 }
 
 impl<T: Meter> Node for AbdRegister<T> {

@@ -1,3 +1,4 @@
+//! The messages of the register, its tagged values, and what its clients and servers keep.
 use crate::CountedClient;
 use sim_hosts::HostSet;
 use sim_node::Setup;

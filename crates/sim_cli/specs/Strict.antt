@@ -53,7 +53,7 @@ tells_want (Some f) = wants_memory f
 
 -- ---- a script
 
--- the number of a line after so many others; the numbers of 64 bits end with the last of them
+-- the number of a line after this many others; the numbers of 64 bits end with the last of them
 abbrev pub number_after : ℕ → ℕ
 number_after before = min (before + 1) (2 ^ 64 - 1)
 

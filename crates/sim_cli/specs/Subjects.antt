@@ -11,7 +11,7 @@ use Rattle.sim_cli.specs.declared.status.Status.{Status}
 use Rattle.sim_cli.specs.Turns.{beginning}
 use Rattle.sim_cli.specs.Play.{Ended, Nodes, PlaysOn, scenario}
 
--- nodes with these laws and so many probes, of these names
+-- nodes with these laws and this many probes, of these names
 abbrev pub nodes_with : {State Msg : Type 0} → NodeLaws State Msg → ℕ → List Text → Scenario → Nodes
 nodes_with {State} {Msg} laws probes names s =
     record { State = State; Msg = Msg; rules = rules laws probes s; probes = names }

@@ -14,6 +14,7 @@ use sim_lines::Ahead;
 use sim_node::Node;
 use sim_tally::Tally;
 use std::alloc::Global;
+use std::fmt::Debug;
 use std::io::{Read, Write};
 
 /// The task to play a script: it writes a line for each command.
@@ -27,7 +28,7 @@ impl Task for Playing {
 
     ghost does = { λ _ r names old new ended. PlaysScript r names old new ended };
 
-    fn carry_out<N: Node<Meter = Tally> + Send + Sync, R: Read, W: Write>(
+    fn carry_out<N: Node<Meter = Tally> + Send + Sync + Debug, R: Read, W: Write>(
         &self,
         opened: &Opened,
         reader: &mut R,
@@ -35,7 +36,7 @@ impl Task for Playing {
         writer: &mut W,
     ) -> Status
     where
-        N::Msg: Send + Sync,
+        N::Msg: Send + Sync + Debug,
         N::Undo: Send + Sync,
     {
         match Book::<N>::new(self.alloc, &opened.scenario, Tally::new()) {

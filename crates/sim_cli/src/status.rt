@@ -1,3 +1,4 @@
+//! How a play or another job ended, as the exit status of a program says it.
 ghost use Rattle.std.specs.Prelude.{◌≡◌};
 ghost use Rattle.sim_cli.specs.Statuses.{status_number};
 

@@ -22,6 +22,7 @@ use sim_replies::tell_turn;
 use sim_script::{Ask, Names, ScriptLine, line_of, mistake_of};
 use sim_tally::Tally;
 use std::alloc::Global;
+use std::fmt::Debug;
 use std::io::{Read, Write};
 
 /// Why a strict play answers no more lines.
@@ -182,7 +183,7 @@ impl<'a, H: Eprint> Task for PlayingStrictly<'a, H> {
 
     ghost does = { λ _ r names old new ended. PlaysScriptStrictly r names old new ended };
 
-    fn carry_out<N: Node<Meter = Tally> + Send + Sync, R: Read, W: Write>(
+    fn carry_out<N: Node<Meter = Tally> + Send + Sync + Debug, R: Read, W: Write>(
         &self,
         opened: &Opened,
         reader: &mut R,
@@ -190,7 +191,7 @@ impl<'a, H: Eprint> Task for PlayingStrictly<'a, H> {
         writer: &mut W,
     ) -> Status
     where
-        N::Msg: Send + Sync,
+        N::Msg: Send + Sync + Debug,
         N::Undo: Send + Sync,
     {
         let mut book = match Book::<N>::new(self.alloc, &opened.scenario, Tally::new()) {

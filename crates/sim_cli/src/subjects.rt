@@ -15,6 +15,7 @@ use sim_node::Node;
 use sim_scenario::Protocols;
 use sim_tally::Tally;
 use std::alloc::{AllocError, Global};
+use std::fmt::Debug;
 use std::io::{Read, Write};
 use std::marker::PhantomData;
 
@@ -31,7 +32,7 @@ pub trait Task {
         → Status → Type 0 };
 
     /// Does it over nodes of one type, in a scenario that was read. The reader gives the script.
-    fn carry_out<N: Node<Meter = Tally> + Send + Sync, R: Read, W: Write>(
+    fn carry_out<N: Node<Meter = Tally> + Send + Sync + Debug, R: Read, W: Write>(
         &self,
         opened: &Opened,
         reader: &mut R,
@@ -39,7 +40,7 @@ pub trait Task {
         writer: &mut W,
     ) -> Status
     where
-        N::Msg: Send + Sync,
+        N::Msg: Send + Sync + Debug,
         N::Undo: Send + Sync,
         requires { can self.now }
         ensures { does self.now (rules N.laws N.PROBES opened.now.scenario) opened.now.names
@@ -50,11 +51,11 @@ pub trait Task {
 /// A protocol that a program plays: its name in a scenario, its nodes, and the names of their
 /// probes.
 pub trait Subject {
-    /// The nodes.
-    type Node: Node<Msg = Self::Msg, Undo = Self::Undo, Meter = Tally> + Send + Sync;
+    /// The nodes, which show their states by `Debug`.
+    type Node: Node<Msg = Self::Msg, Undo = Self::Undo, Meter = Tally> + Send + Sync + Debug;
 
-    /// The messages of the nodes.
-    type Msg: Send + Sync + Drop;
+    /// The messages of the nodes, which show their contents by `Debug`.
+    type Msg: Send + Sync + Drop + Debug;
 
     /// The records of the nodes' reactions.
     type Undo: Send + Sync + Drop;

@@ -7,6 +7,9 @@
 //! It is the node to read first, and the one that most tests run, since each of its states is a
 //! single number. `specs/Echo.antt` has the whole protocol as functions of state and input;
 //! [`Echo`] is proved to follow them. Its record of a reaction is the number before it.
+//!
+//! It depends on `sim_node` alone, and not on `sim_hosts`, where the other protocols have their
+//! words for counters. The tests of the core run echo, and have one crate fewer to wait for.
 #![tactic(auto)]
 
 mod echo;

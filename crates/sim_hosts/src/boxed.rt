@@ -4,6 +4,7 @@ ghost use Rattle.sim_hosts.specs.contracts.boxed.Boxed as boxed;
 
 use sim_node::NoMemory;
 use std::alloc::Global;
+use std::fmt;
 use std::marker::Model;
 
 /// The state of a role in memory of its own, so that hosts in other roles do not carry it. Contracts
@@ -19,6 +20,13 @@ impl<T> Model for Boxed<T> {
     ghost Value = { T };
 
     ghost view = { λ boxed. boxed.inner.value };
+}
+
+/// Shows the state.
+impl<T: fmt::Debug> fmt::Debug for Boxed<T> {
+    fn fmt<W: fmt::Write>(&self, f: &mut fmt::Formatter<W>) -> fmt::Result {
+        fmt::Debug::fmt(&*self.inner, f)
+    }
 }
 
 impl<T: Copy> Boxed<T> {

@@ -1,3 +1,4 @@
+//! The rows of a backup, which applies the puts of the primary in their order.
 ghost use Rattle.std.specs.Prelude.{◌≡◌, ◌+◌, ◌<◌, []};
 ghost use Rattle.sim_node.specs.Node.{IsFrom};
 ghost use Rattle.sim_hosts.specs.Reactions.{asked_for};

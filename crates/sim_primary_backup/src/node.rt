@@ -1,7 +1,9 @@
+//! A host of primary-backup as a node, and how its reactions are taken back.
 use crate::{BackupMsg, BackupUndo, Primary, Role, State, Store, client};
 use sim_hosts::Boxed;
 use sim_node::{Effects, Input, Meter, NoMemory, Node, Setup};
 use std::alloc::Global;
+use std::fmt;
 use std::marker::{Model, PhantomData};
 
 /// A host of primary-backup. Contracts see its state.
@@ -22,6 +24,13 @@ impl<T> Model for PrimaryBackup<T> {
     ghost view = { λ node. node.state };
 
     ghost invariant = { λ node. IsSetup node.state.setup × (node.state.me < node.state.setup.hosts) × IsPlaced node.state.setup.hosts node.state.role };
+}
+
+/// Shows what the host is. Its setup and its number never change, and are left out.
+impl<T> fmt::Debug for PrimaryBackup<T> {
+    fn fmt<W: fmt::Write>(&self, f: &mut fmt::Formatter<W>) -> fmt::Result {
+        fmt::Debug::fmt(&self.state.role, f)
+    }
 }
 
 impl<T: Meter> Node for PrimaryBackup<T> {

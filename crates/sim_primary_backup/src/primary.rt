@@ -1,3 +1,4 @@
+//! The rows of the primary, which begins puts, spreads them and tells their clients.
 ghost use Rattle.std.specs.Prelude.{ℕ, List, Option, ◌≡◌, ◌+◌, ◌<◌, ◌≤◌, ◌++◌, [], length, Some, IfSome, slice_set};
 ghost use Rattle.sim_node.specs.Node.{IsSetup, IsFrom};
 ghost use Rattle.sim_hosts.specs.Reactions.{asked_for};

@@ -1,3 +1,4 @@
+//! The messages of primary-backup, what its hosts keep, and the records of their reactions.
 use sim_hosts::{Boxed, HostSet, SlotBefore};
 use sim_node::Setup;
 
@@ -57,7 +58,7 @@ pub struct Primary {
 }
 
 /// What a host is.
-#[derive(Drop)]
+#[derive(Debug, Drop)]
 pub enum Role {
     /// A client waits for the end of this put, counted from 1.
     Client { next: u64 },

@@ -1,3 +1,4 @@
+//! The cells of a server, how far it has come, and both on its disk.
 ghost use Rattle.std.specs.Prelude.{◌≡◌, ◌+◌, ◌<◌, ◌++◌, [], ◌∷◌, length, slice_index};
 ghost use Rattle.sim_hosts.specs.Bytes.{bytes_of};
 ghost use Rattle.sim_hosts.specs.Numbers.{is_settled};

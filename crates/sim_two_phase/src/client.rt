@@ -1,3 +1,4 @@
+//! The rows of a client of two-phase commit, which asks for transactions one by one.
 ghost use Rattle.std.specs.Prelude.{◌≡◌, ◌<◌, []};
 ghost use Rattle.sim_hosts.specs.Reactions.{asked_for};
 ghost use Rattle.sim_two_phase.specs.TwoPhase.{client_asks, client_answered, react_client};
@@ -36,7 +37,7 @@ fn answered(setup: &Setup, ops: u64, next: u64, effects: &mut Effects<CommitMsg>
     }
 }
 
-/// A client with so many operations, which waits for the one of number `next`, reacts: the operation that it waits for then.
+/// A client with this many operations, which waits for the one of number `next`, reacts: the operation that it waits for then.
 pub fn react(
     setup: &Setup,
     ops: u64,

@@ -1,3 +1,4 @@
+//! What the coordinator does with the transaction under way, which is all of it but who waits.
 ghost use Rattle.std.specs.Prelude.{◌≡◌, ◌+◌, ◌<◌, ◌≤◌, ◌++◌, [], length};
 ghost use Rattle.sim_node.specs.Node.{IsSetup};
 ghost use Rattle.sim_hosts.specs.Reactions.{asked_for};

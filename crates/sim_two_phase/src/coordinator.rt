@@ -1,3 +1,4 @@
+//! The rows of the coordinator: who waits, votes, and what its disk says at a boot.
 ghost use Rattle.std.specs.Prelude.{ℕ, List, Option, ◌≡◌, ◌<◌, [], slice_set};
 ghost use Rattle.sim_node.specs.Node.{IsSetup, IsFrom};
 ghost use Rattle.sim_hosts.specs.Reactions.{asked_for};

@@ -1,3 +1,4 @@
+//! The ten bytes that a server forces to its disk, and what became of transaction 1 in them.
 ghost use Rattle.std.specs.Prelude.{◌≡◌, ◌+◌, ◌<◌, ◌++◌, length};
 ghost use Rattle.sim_two_phase.specs.TwoPhase.{byte_of_first, first_of_byte, server_bytes, forced, noted};
 

@@ -1,8 +1,10 @@
+//! A host of two-phase commit as a node, and how its reactions are taken back.
 use crate::disk::byte_of_first;
 use crate::{CommitMsg, CommitUndo, Coordinator, Participant, Role, State, client};
 use sim_hosts::Boxed;
 use sim_node::{Effects, Input, Meter, NoMemory, Node, Setup};
 use std::alloc::Global;
+use std::fmt;
 use std::marker::{Model, PhantomData};
 
 /// A host of two-phase commit. Contracts see its state.
@@ -23,6 +25,13 @@ impl<T> Model for TwoPhase<T> {
     ghost view = { λ node. node.state };
 
     ghost invariant = { λ node. IsSetup node.state.setup × (node.state.me < node.state.setup.hosts) × IsPlaced node.state.setup.hosts node.state.role };
+}
+
+/// Shows what the host is. Its setup and its number never change, and are left out.
+impl<T> fmt::Debug for TwoPhase<T> {
+    fn fmt<W: fmt::Write>(&self, f: &mut fmt::Formatter<W>) -> fmt::Result {
+        fmt::Debug::fmt(&self.state.role, f)
+    }
 }
 
 impl<T: Meter> Node for TwoPhase<T> {

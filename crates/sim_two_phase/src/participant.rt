@@ -1,3 +1,4 @@
+//! The rows of a participant: it votes, waits for the decision, and inquires.
 ghost use Rattle.std.specs.Prelude.{◌≡◌, ◌+◌, ◌<◌, ◌++◌, [], length};
 ghost use Rattle.sim_hosts.specs.Reactions.{asked_for};
 ghost use Rattle.sim_hosts.specs.Numbers.{raised};

@@ -1,3 +1,4 @@
+//! The messages of two-phase commit, what its hosts keep, and the records of their reactions.
 use sim_hosts::{Boxed, HostSet, SlotBefore};
 use sim_node::Setup;
 
@@ -95,7 +96,7 @@ pub struct Participant {
 }
 
 /// What a host is.
-#[derive(Drop)]
+#[derive(Debug, Drop)]
 pub enum Role {
     /// A client waits for the answer to this operation, counted from 1.
     Client { next: u64 },
