@@ -1,4 +1,4 @@
 -- Lemmas on what is written of a run.
-mod Telling
-mod Opening
+pub mod Telling
+pub mod Opening
 mod Rereading

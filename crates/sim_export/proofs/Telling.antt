@@ -14,6 +14,7 @@ module _ (P : Text → Status → Type 0) where
   -- a text that is right tells, with the status of an export
   told_whole : (e : Export) (text : Text) → P text (export_status e) → Tells P (export_status e) text
   told_whole (export.Input t) text p = p
+  told_whole (export.Shown t) text p = p
   told_whole export.Nowhere text p = p
   told_whole export.BadRange text p = p
   told_whole export.BadCondition text p = p

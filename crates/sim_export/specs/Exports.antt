@@ -17,7 +17,7 @@ use Rattle.sim_cli.specs.Lines.{fault_line}
 use Rattle.sim_cli.specs.Play.{Ended, Nodes, names_of, read_scenario}
 use Rattle.sim_cli.specs.Subjects.{Ports}
 use Rattle.sim_export.specs.declared.export.Export.{Export}
-use Rattle.sim_export.specs.declared.export.Export.TheVariants.{Input, Nowhere, BadRange, BadCondition, BadScript, NoInput}
+use Rattle.sim_export.specs.declared.export.Export.TheVariants.{Input, Shown, Nowhere, BadRange, BadCondition, BadScript, NoInput}
 
 -- Cut as a play cuts it, the input is this text of a scenario, with an end for its last line, and a
 -- script. Where each name is read as its host, the lines of the script are read as the commands that
@@ -37,6 +37,7 @@ pub record IsInput (protocols : List Protocol) (said : ScenarioText) (names : Na
 
 abbrev pub export_text : Export → Text
 export_text (Input text) = string_bytes text
+export_text (Shown text) = text.items
 export_text Nowhere = codes "none\n"
 export_text BadRange = codes "bad range\n"
 export_text BadCondition = codes "bad condition\n"
@@ -45,6 +46,7 @@ export_text NoInput = codes "no input\n"
 
 abbrev pub export_status : Export → Status
 export_status (Input text) = Well
+export_status (Shown text) = Well
 export_status Nowhere = Well
 export_status BadRange = BadRequest
 export_status BadCondition = BadRequest

@@ -11,7 +11,7 @@ use Rattle.sim_reseed.specs.Numbered.{numbered as numbered_scenario}
 use Rattle.sim_cli.specs.Play.{read_scenario}
 use Rattle.sim_export.specs.declared.planned.SeedRun.{SeedRun}
 use Rattle.sim_export.specs.declared.export.Export.{Export}
-use Rattle.sim_export.specs.declared.export.Export.TheVariants.{Input, Nowhere, BadRange, BadCondition, BadScript, NoInput}
+use Rattle.sim_export.specs.declared.export.Export.TheVariants.{Input, Shown, Nowhere, BadRange, BadCondition, BadScript, NoInput}
 use Rattle.sim_export.specs.Exports.{IsInput, Right}
 
 -- how a run with these numbers is planned
@@ -39,6 +39,7 @@ module _ {State Msg : Type 0} (r : Rules State Msg) where
       × ((protocols : List Protocol) (said : ScenarioText) → read_scenario protocols text ≡ Ok said
       → IsInput protocols (numbered_scenario run.seed said) names (events_of run)
       (string_bytes input))
+  IsExportOf run names text script (Shown shown) = ⊥
   IsExportOf run names text script Nowhere = ⊥
   IsExportOf run names text script BadRange = ¬ (IsPlan 0 (plan_of run))
   IsExportOf run names text script BadCondition = ⊥

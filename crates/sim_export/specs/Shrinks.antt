@@ -14,7 +14,7 @@ use Rattle.sim_cli.specs.Play.{read_scenario}
 use Rattle.sim_cli.specs.Strict.{are_well}
 use Rattle.sim_replay.specs.Played.{first_events}
 use Rattle.sim_export.specs.declared.export.Export.{Export}
-use Rattle.sim_export.specs.declared.export.Export.TheVariants.{Input, Nowhere, BadRange, BadCondition, BadScript, NoInput}
+use Rattle.sim_export.specs.declared.export.Export.TheVariants.{Input, Shown, Nowhere, BadRange, BadCondition, BadScript, NoInput}
 use Rattle.sim_export.specs.Exports.{IsInput, Right}
 
 module _ {State Msg : Type 0} (r : Rules State Msg) (names : Names) (scenario : Text) (events : List Event) where
@@ -24,6 +24,7 @@ module _ {State Msg : Type 0} (r : Rules State Msg) (names : Names) (scenario : 
   IsShrinkOf c (Input input) = (run : List Event) × IsShrunk r c events run
       × ((protocols : List Protocol) (said : ScenarioText) → read_scenario protocols scenario ≡ Ok said
       → IsInput protocols said names run (string_bytes input))
+  IsShrinkOf c (Shown text) = ⊥
   IsShrinkOf c Nowhere = failing r c events ≡ None
   IsShrinkOf c BadRange =
       shrink_fault (length events) r.scenario.setup.hosts r.probes c ≡ Some fault.BadRange

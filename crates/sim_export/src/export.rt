@@ -6,10 +6,12 @@ ghost use Rattle.sim_export.specs.Exports.{export_status, export_text, WritesExp
 use sim_cli::{Answered, Status, write_text};
 use std::io::Write;
 
-/// What is written of a run: an input for a play, or why there is none.
+/// What is written of a run: an input for a play or another text, or why there is none.
 #[derive(Drop)]
 pub enum Export {
     Input(String),
+    /// Another text that shows the run, as a log.
+    Shown(Vec<u8>),
     /// The condition fails nowhere in the run.
     Nowhere,
     /// A number of the request is not within its limits.
@@ -30,6 +32,7 @@ impl Export {
     {
         match self {
             Export::Input(text) => text.as_bytes(),
+            Export::Shown(text) => text.as_slice(),
             Export::Nowhere => b"none\n",
             Export::BadRange => b"bad range\n",
             Export::BadCondition => b"bad condition\n",
@@ -43,7 +46,7 @@ impl Export {
         ensures { result ≡ export_status self.now }
     {
         match self {
-            Export::Input(_) | Export::Nowhere => Status::Well,
+            Export::Input(_) | Export::Shown(_) | Export::Nowhere => Status::Well,
             Export::BadRange | Export::BadCondition | Export::BadScript | Export::NoInput => {
                 Status::BadRequest
             }

@@ -19,7 +19,8 @@ mod input;
 mod planned;
 mod shrinking;
 
-pub use export::Export;
+pub use export::{Export, write_export};
+pub use input::{InputError, input_of};
 pub use planned::{SeedRun, plan_of, write_run};
 pub use shrinking::{Shrink, write_shrunk};
 pub use sim_cli::Status;

@@ -21,6 +21,7 @@ use sim_reseed::{ReseedError, numbered_text};
 use sim_sweep::numbered_seed;
 use sim_world::Event;
 use std::alloc::Global;
+use std::fmt::Debug;
 use std::io::{Read, Write};
 
 /// The run of a seed, with its planned events.
@@ -138,7 +139,7 @@ impl<'a> Task for RunWriting<'a> {
     ghost does = { λ task r names old new ended.
         WritesFor (seed_run_right task.run) task.text.now r names old new ended };
 
-    fn carry_out<N: Node<Meter = Tally> + Send + Sync, R: Read, W: Write>(
+    fn carry_out<N: Node<Meter = Tally> + Send + Sync + Debug, R: Read, W: Write>(
         &self,
         opened: &Opened,
         _reader: &mut R,
@@ -146,7 +147,7 @@ impl<'a> Task for RunWriting<'a> {
         writer: &mut W,
     ) -> Status
     where
-        N::Msg: Send + Sync,
+        N::Msg: Send + Sync + Debug,
         N::Undo: Send + Sync,
     {
         match export_of::<N>(self.alloc, opened, self.text, self.run) {

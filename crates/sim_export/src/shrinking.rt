@@ -21,6 +21,7 @@ use sim_shrink::{Listener, shrink};
 use sim_watch::Cond;
 use sim_world::Event;
 use std::alloc::Global;
+use std::fmt::Debug;
 use std::io::{Read, Write};
 
 // Reports on standard error how far the search for a smaller run has come, if it is asked to.
@@ -115,7 +116,7 @@ impl<'a, H: Eprint> Task for Shrinking<'a, H> {
     ghost does = { λ task r names old new ended.
         WritesFor (shrink_right task.asked.cond.now) task.text.now r names old new ended };
 
-    fn carry_out<N: Node<Meter = Tally> + Send + Sync, R: Read, W: Write>(
+    fn carry_out<N: Node<Meter = Tally> + Send + Sync + Debug, R: Read, W: Write>(
         &self,
         opened: &Opened,
         reader: &mut R,
@@ -123,7 +124,7 @@ impl<'a, H: Eprint> Task for Shrinking<'a, H> {
         writer: &mut W,
     ) -> Status
     where
-        N::Msg: Send + Sync,
+        N::Msg: Send + Sync + Debug,
         N::Undo: Send + Sync,
     {
         let Some(cond) = condition_of(&opened.names, self.asked.cond.as_bytes()) else {

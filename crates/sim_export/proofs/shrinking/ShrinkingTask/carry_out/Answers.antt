@@ -1,4 +1,4 @@
-use Rattle.std.proofs.Common.{◌≡◌, ◌∙◌, ap, refl, sym, subst, Bool, true, List, Option, Some}
+use Rattle.std.proofs.Common.{◌≡◌, ◌∙◌, ap, refl, sym, subst, Bool, true, List, Option, None, Some}
 use Rattle.std.specs.Str.Lines.{lines}
 use Rattle.sim_world.specs.declared.Event.{Event}
 use Rattle.sim_world.specs.Events.{rules}
@@ -11,7 +11,7 @@ use Rattle.sim_export.specs.Exports.{IsExported}
 use Rattle.sim_cli.specs.Turns.{beginning}
 use Rattle.sim_cli.specs.Strict.{are_well}
 use Rattle.sim_cli.proofs.Judging.{not_all_well}
-use Rattle.sim_export.specs.declared.export.Export.TheVariants.{BadScript}
+use Rattle.sim_export.specs.declared.export.Export.TheVariants.{BadCondition, BadScript}
 use Rattle.sim_export.specs.Shrinks.{IsShrinkFor, IsShrinkIf, IsShrinkOf, shrink_right}
 use Rattle.sim_export.proofs.Telling.{told_export}
 use Rattle.sim_export.proofs.shrinking.ShrinkingTask.carry_out.Goals as goal
@@ -57,3 +57,20 @@ returns-in-Err-Fault g c = λ script at.
       status = refl;
     })
     c.write_export-in-Err-Fault.ensures
+
+pub returns-in_default : goal.returns-in_default
+returns-in_default g c = λ script at.
+    let opened = c.args.opened.now in
+    let task = c.args.self.now in
+    let r = rules g.N.Node.laws g.N.Node.PROBES opened.scenario in
+    let none : None ≡ condition opened.names (words task.asked.cond.now) =
+    sym c.in_default.is ∙ (c.condition_of.ensures.is ∙ ap (λ (t : Text). condition opened.names (words t)) c.as_bytes.ensures.value) in
+    told_export (IsExported (shrink_right task.asked.cond.now _ _ r opened.names task.text.now script))
+    BadCondition _ _ c.write_export.result
+    (record {
+      export = BadCondition;
+      right = subst (λ (o : Option Cond). IsShrinkFor r opened.names task.text.now (first_events r opened.names script) (are_well r opened.names beginning (lines script)) o BadCondition) none refl;
+      whole = refl;
+      status = refl;
+    })
+    c.write_export.ensures

@@ -1,0 +1,136 @@
+//! What an event does, gathered in the world before it.
+ghost use Rattle.std.specs.Prelude.{◌≡◌, ◌<◌, IfOk, IfSome};
+ghost use Rattle.sim_world.specs.Account.{next_reaction};
+ghost use Rattle.sim_world.specs.Events.{rules};
+ghost use Rattle.sim_world.specs.declared.Event.TheVariants as events;
+ghost use Rattle.sim_log.specs.Told.{crashed_by, tears_of};
+
+use sim_links::Change;
+use sim_node::{Input, NoMemory, Node};
+use sim_world::{Event, Fault, Reaction, World};
+use std::alloc::Global;
+
+/// What an event does, gathered in the world before it.
+#[derive(Drop)]
+pub struct Told<'a, N: Node> {
+    /// The world before the event.
+    pub world: &'a World<N>,
+    pub event: Event,
+    /// Of a step whose host runs, the reaction.
+    pub reaction: Option<Reaction<N>>,
+    /// Of the crash of a running host, how many bytes are kept of each of its writes that are not stable.
+    pub tears: Vec<u32>,
+    /// Of the crash of a running host, the serials of what it takes out: the timer, the start, the syncs.
+    pub lost: Vec<u64>,
+}
+
+impl<'a, N: Node> Told<'a, N> {
+    /// Gathers what the event will do. Of a step in a world of age 65,536, to which no event can be added,
+    /// it gathers nothing. One copy of a node and one turn are counted where a node reacts. The only error
+    /// is want of memory.
+    pub fn new(
+        alloc: Global,
+        world: &'a World<N>,
+        event: Event,
+        meter: &mut N::Meter,
+    ) -> Result<Told<'a, N>, NoMemory>
+        ensures of { IfOk result (λ t. (t.world.now ≡ world.now) × (t.event ≡ event)) }
+        ensures reaction { IfOk result (λ t. event ≡ events.Step → world.now.age < 65536 →
+            t.reaction ≡ next_reaction (rules N.laws N.PROBES world.now.scenario) world.now.world) }
+        ensures tears { IfOk result (λ t. t.tears.items
+            ≡ tears_of (rules N.laws N.PROBES world.now.scenario)
+            (crashed_by event world.now.world) world.now.world) }
+    {
+        let reaction = match event {
+            Event::Step if world.age() < 65_536 => world.next_reaction(alloc, meter)?,
+            _ => None,
+        };
+        let crashed = crashed_host(world, event);
+        let (tears, lost) = match crashed {
+            Some(host) => (world.tears(alloc, host)?, lost_by(alloc, world, host)?),
+            None => (Vec::new(alloc), Vec::new(alloc)),
+        };
+        Ok(Told {
+            world,
+            event,
+            reaction,
+            tears,
+            lost,
+        })
+    }
+}
+
+// The running host that an event crashes.
+fn crashed_host<N: Node>(world: &World<N>, event: Event) -> Option<u16>
+    ensures there { IfSome result (λ h. h < world.now.scenario.setup.hosts) }
+    ensures host { result ≡ crashed_by event world.now.world }
+{
+    match event {
+        Event::Fault(Fault::Crash(host) | Fault::Bounce(host))
+            if host < world.hosts() && world.is_up(host) => { Some(host) }
+        _ => None,
+    }
+}
+
+// The serials of what a crash of a host takes out: whatever is pending for it, but for messages.
+fn lost_by<N: Node>(alloc: Global, world: &World<N>, host: u16) -> Result<Vec<u64>, NoMemory> {
+    let mut lost = Vec::new(alloc);
+    let mut from = 0;
+    // Each turn passes a serial.
+    for _ in 0..world.next_serial() {
+        let Some(serial) = world.next_pending(from) else {
+            break;
+        };
+        if let Some((_due, occurrence)) = world.pending(serial) {
+            let is_message = matches!(occurrence.input(), Input::Message { .. });
+            if occurrence.host() == host && !is_message {
+                lost.push(serial)?;
+            }
+        }
+        from = serial.saturating_add(1);
+    }
+    Ok(lost)
+}
+
+/// How a fault changes the links: a change of the direction from the first host to the second and, if it
+/// goes both ways, then of the other one.
+#[derive(Clone, Copy, Debug, PartialEq, Eq)]
+pub struct LinkFault {
+    pub word: &'static str,
+    pub change: Change,
+    pub from: u16,
+    pub to: u16,
+    pub is_both: bool,
+}
+
+impl LinkFault {
+    /// How a fault changes the links, or none if it is the fault of a host.
+    pub fn of(fault: Fault) -> Option<LinkFault> {
+        let (word, change, (from, to), is_both) = match fault {
+            Fault::Crash(_) | Fault::Bounce(_) => return None,
+            Fault::Hold(a, b) => ("hold", Change::Hold, (a, b), true),
+            Fault::Release(a, b) => ("release", Change::Release, (a, b), true),
+            Fault::Cut(a, b) => ("partition", Change::Cut, (a, b), true),
+            Fault::CutOneway(a, b) => ("cutoneway", Change::Cut, (a, b), false),
+            Fault::Repair(a, b) => ("repair", Change::Repair, (a, b), true),
+            Fault::RepairOneway(a, b) => ("repaironeway", Change::Repair, (a, b), false),
+        };
+        Some(LinkFault {
+            word,
+            change,
+            from,
+            to,
+            is_both,
+        })
+    }
+
+    /// The directions that it changes, in order.
+    pub fn directions(self) -> [Option<(u16, u16)>; 2] {
+        let back = if self.is_both {
+            Some((self.to, self.from))
+        } else {
+            None
+        };
+        [Some((self.from, self.to)), back]
+    }
+}

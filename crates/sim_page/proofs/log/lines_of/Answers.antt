@@ -1,0 +1,54 @@
+use Rattle.std.proofs.Common.{◌≡◌, ◌∙◌, ◌+◌, ◌-◌, ◌<◌, ◌≤◌, ℕ, true, false, List, length, Option, None, sym, ap, subst, arith}
+use Rattle.std.specs.List.{slice_get}
+use Rattle.sim_world.specs.declared.Event.{Event}
+use Rattle.sim_world.specs.Events.{rules}
+use Rattle.sim_page.specs.Lines.{AreLines}
+use Rattle.sim_page.proofs.Telling.{is_there, no_lines, one_more, own_reach}
+use Rattle.sim_page.proofs.log.lines_of.Goals as goal
+use Rattle.sim_page.proofs.log.lines_of.Goals.{then-json+in_ok-add_object, else-json+in_ok-add_words}
+
+pub loop-place-init : goal.loop-place-init
+loop-place-init g c =
+    let run = c.args.run.now in
+    let r = rules g.N.Node.laws g.N.Node.PROBES run.scenario in
+    record {
+      told = subst (λ (t : List ℕ). AreLines r run.events c.args.json c.args.first (c.args.first - c.args.first) t) (sym c.new-log.ensures.items)
+          (no_lines r run.events c.args.json c.args.first);
+      tape = own_reach run.scenario run.events (c.args.first - 1) 0 c.in_ok-tape.tape c.in_ok-tape.ensures.tape;
+    }
+
+pub unreachable-requires : goal.unreachable-requires
+unreachable-requires g c =
+    let run = c.args.run.now in
+    let i = c.loop-place.place - 1 in
+    let within : c.loop-place.place - 1 < length run.events = omega arith in
+    let none = subst (λ (es : List Event). slice_get es i ≡ None) c.events.ensures (sym c.get.ensures ∙ c.in_default.is) in
+    is_there run.events i within none
+
+pub loop-place-preserved : goal.loop-place-preserved
+loop-place-preserved g c =
+    let run = c.args.run.now in
+    let inv = c.loop-place.invariant in
+    let least : 1 ≤ c.args.first = omega arith in
+    let from : c.args.first ≤ c.loop-place.place = omega arith in
+    elim c.if-json.branch [
+      | then-json+in_ok-add_object w ↦
+          let both = one_more g.N.Node.laws g.N.Node.PROBES run.scenario run.events c.args.json true c.args.first c.loop-place.place
+          c.loop-place.tape _ c.loop-place.log.items _ least from w.if-json.true inv.told inv.tape
+          w.in_ok-add_object.ensures.tape w.in_ok-add_object.ensures.line in
+          rw (w.log-is, w.tape-is) (record { told = both.0; tape = both.1 })
+      | else-json+in_ok-add_words w ↦
+          let both = one_more g.N.Node.laws g.N.Node.PROBES run.scenario run.events c.args.json false c.args.first c.loop-place.place
+          c.loop-place.tape _ c.loop-place.log.items _ least from w.if-json.false inv.told inv.tape
+          w.in_ok-add_words.ensures.tape w.in_ok-add_words.ensures.line in
+          rw (w.log-is, w.tape-is) (record { told = both.0; tape = both.1 })
+    ]
+
+pub returns : goal.returns
+returns g c =
+    let run = c.args.run.now in
+    let r = rules g.N.Node.laws g.N.Node.PROBES run.scenario in
+    let range : c.args.first ≤ c.args.last + 1 = omega arith in
+    let most : c.loop-place.place ≤ c.args.last + 1 = c.loop-place.auto.place-end range in
+    let end : c.loop-place.place ≡ c.args.last + 1 = omega arith in
+    subst (λ (p : ℕ). AreLines r run.events c.args.json c.args.first (p - c.args.first) c.loop-place.log.items) end c.loop-place.invariant.told

@@ -1,0 +1,8 @@
+-- A text between two others.
+use Rattle.std.specs.Prelude.{◌≡◌, ◌≢◌, ℕ, List, ◌++◌, All}
+use Rattle.sim_script.specs.Script.{Text}
+
+-- Between the two texts is one in which no `<` is.
+abbrev pub IsBetween : Text → Text → Text → Type 0
+IsBetween before after text =
+    (middle : Text) × (text ≡ before ++ middle ++ after) × All (λ (b : ℕ). b ≢ 60) middle

@@ -1,0 +1,200 @@
+//! A page as it is written, event by event.
+use crate::data::{Data, number, string};
+use crate::log::rows_before;
+use crate::template::{AFTER, BEFORE};
+use serde_json::Value;
+use sim_cli::{Opened, Tally};
+use sim_export::{InputError, input_of};
+use sim_log::{first_rows, rows_after};
+use sim_node::{NoMemory, Node};
+use sim_tape::{EventList, Frozen, Tape};
+use sim_watch::{Cond, holds};
+use sim_world::{Event, World};
+use std::alloc::Global;
+use std::fmt::Debug;
+use std::mem;
+
+/// A condition that a page watches.
+#[derive(Drop)]
+pub(crate) struct Watched<'a> {
+    /// Its words, as they were given.
+    pub words: &'a str,
+    pub cond: Cond,
+    /// For each place so far 1 where it holds, and else 0.
+    pub holding: Vec<Value>,
+}
+
+/// What a page is made of beside the run.
+#[derive(Drop)]
+pub(crate) struct Frame<'a> {
+    pub alloc: Global,
+    /// The heading.
+    pub title: &'a str,
+    pub opened: &'a Opened,
+}
+
+impl Frame<'_> {
+    fn about(&self) -> Result<Value, NoMemory> {
+        let mut about = Vec::new(self.alloc);
+        about.push(string(self.alloc, "seed")?)?;
+        let seed = hex::encode(self.alloc, self.opened.seed)?;
+        about.push(Value::String(seed))?;
+        Ok(Value::Array(about))
+    }
+
+    // The input that makes the events of the run, or no text where no line of a script makes one.
+    fn input(&self, events: &EventList) -> Result<Value, NoMemory> {
+        let mut listed = Vec::new(self.alloc);
+        for place in 0..events.len() {
+            if let Some(event) = events.get(place) {
+                listed.push(event)?;
+            }
+        }
+        let Ok(text) = str::from_utf8(self.opened.text.as_slice()) else {
+            return string(self.alloc, "");
+        };
+        match input_of(self.alloc, text, &self.opened.names, listed.as_slice()) {
+            Ok(input) => Ok(Value::String(input)),
+            Err(InputError::NoInput) => string(self.alloc, ""),
+            Err(InputError::NoMemory) => Err(NoMemory),
+        }
+    }
+
+    fn hosts(&self) -> Result<Value, NoMemory> {
+        let mut names = Vec::new(self.alloc);
+        for host in 0..self.opened.scenario.hosts() {
+            names.push(string(self.alloc, self.opened.names.host_name(host))?)?;
+        }
+        Ok(Value::Array(names))
+    }
+
+    fn probes(&self, count: u8) -> Result<Value, NoMemory> {
+        let mut names = Vec::new(self.alloc);
+        for probe in 0..count {
+            names.push(string(self.alloc, self.opened.names.probe_name(probe))?)?;
+        }
+        Ok(Value::Array(names))
+    }
+
+    // The members before the rows.
+    fn head(&self, data: &mut Data, events: &EventList, probes: u8) -> Result<(), NoMemory> {
+        data.put("{\"format\":1")?;
+        data.member("title", &string(self.alloc, self.title)?)?;
+        data.member("about", &self.about()?)?;
+        data.member("input", &self.input(events)?)?;
+        data.member("hosts", &self.hosts()?)?;
+        let servers = self.opened.scenario.servers();
+        data.member("servers", &number(u64::from(servers)))?;
+        data.member("probes", &self.probes(probes)?)?;
+        data.put(",\n\"log\":[\n")
+    }
+}
+
+/// The rows of a run and what its conditions say, as the run is walked.
+#[derive(Drop)]
+struct Rows<'a, N: Node> {
+    alloc: Global,
+    data: Data,
+    // It stands before the event whose rows come next.
+    tape: Tape<N>,
+    watched: Vec<Watched<'a>>,
+}
+
+impl<N: Node<Meter = Tally> + Debug> Rows<'_, N>
+where
+    N::Msg: Debug,
+{
+    // The rows before the first event. There is a host, so there is a first row.
+    fn start(&mut self) -> Result<(), NoMemory> {
+        self.tape.make_warm(self.alloc, &mut Tally::new())?;
+        let rows = first_rows(self.alloc, self.tape.here())?;
+        if let [first, others @ ..] = rows.as_slice() {
+            self.data.value(first)?;
+            self.data.more_rows(others)?;
+        }
+        self.note_holding()
+    }
+
+    // The rows of the next event. The tape is walked past it.
+    fn event(&mut self, event: Event) -> Result<(), NoMemory> {
+        let alloc = self.alloc;
+        self.tape.make_warm(alloc, &mut Tally::new())?;
+        let rows = rows_before(alloc, self.tape.here(), event)?;
+        self.data.more_rows(rows.as_slice())?;
+        if self.tape.place() < self.tape.len() {
+            self.tape.forward(alloc, 1, &mut Tally::new())?;
+        }
+        self.tape.make_warm(alloc, &mut Tally::new())?;
+        let rows = rows_after(alloc, event, self.tape.here())?;
+        self.data.more_rows(rows.as_slice())?;
+        self.note_holding()
+    }
+
+    // Notes for each condition whether it holds of the world of the tape.
+    fn note_holding(&mut self) -> Result<(), NoMemory> {
+        self.tape.make_warm(self.alloc, &mut Tally::new())?;
+        let world = self.tape.here();
+        for watched in self.watched.iter_mut() {
+            let is_held = is_held(&watched.cond, world);
+            watched.holding.push(number(u64::from(is_held)))?;
+        }
+        Ok(())
+    }
+
+    // The members after the rows.
+    fn end(self) -> Result<Data, NoMemory> {
+        let Rows {
+            alloc,
+            mut data,
+            tape: _,
+            mut watched,
+        } = self;
+        let mut conditions = Vec::new(alloc);
+        let mut holds = Vec::new(alloc);
+        for watched in watched.iter_mut() {
+            conditions.push(string(alloc, watched.words)?)?;
+            let holding = mem::replace(&mut watched.holding, Vec::new(alloc));
+            holds.push(Value::Array(holding))?;
+        }
+        data.put("\n]")?;
+        data.member("conditions", &Value::Array(conditions))?;
+        data.member("holds", &Value::Array(holds))?;
+        data.put("\n}\n")?;
+        Ok(data)
+    }
+}
+
+// Whether a condition holds of a world. One that names a host or a probe that is not there does not.
+fn is_held<N: Node>(cond: &Cond, world: &World<N>) -> bool {
+    match cond.check(world.hosts(), N::PROBES) {
+        Ok(()) => holds(cond, world),
+        Err(_) => false,
+    }
+}
+
+/// The page of a run. The only error is want of memory.
+pub(crate) fn page_of<N: Node<Meter = Tally> + Debug>(
+    frame: &Frame<'_>,
+    run: &Frozen<N>,
+    watched: Vec<Watched<'_>>,
+) -> Result<Vec<u8>, NoMemory>
+where
+    N::Msg: Debug,
+{
+    let alloc = frame.alloc;
+    let mut data = Data::new(alloc);
+    frame.head(&mut data, run.events(), N::PROBES)?;
+    let mut rows = Rows {
+        alloc,
+        data,
+        tape: run.tape(alloc, 0, &mut Tally::new())?,
+        watched,
+    };
+    rows.start()?;
+    for place in 0..run.events().len() {
+        if let Some(event) = run.events().get(place) {
+            rows.event(event)?;
+        }
+    }
+    rows.end()?.between(BEFORE, AFTER)
+}

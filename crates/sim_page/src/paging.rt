@@ -1,0 +1,166 @@
+//! The page of the run that a script leaves.
+ghost use Rattle.std.specs.Prelude.{◌≡◌, ◌≤◌, ℕ, List, Some, IsSome, length};
+ghost use Rattle.sim_cli.specs.Play.{Ended};
+ghost use Rattle.sim_cli.specs.Subjects.{nodes_by};
+ghost use Rattle.sim_export.specs.Exports.{WritesFor, Written};
+ghost use Rattle.sim_page.specs.Pages.{page_right};
+
+use crate::page::{Frame, Watched, page_of};
+use sim_cli::{Opened, Status, Subjects, Tally, Task, open, tell_fault};
+use sim_export::{Export, write_export};
+use sim_lines::Ahead;
+use sim_node::Node;
+use sim_replay::{ScriptStop, played};
+use sim_script::condition_of;
+use sim_watch::Cond;
+use std::alloc::{AllocError, Global};
+use std::fmt::Debug;
+use std::io::{Read, Write};
+
+/// What a page shows beside the run.
+#[derive(Clone, Copy, Debug, PartialEq, Eq)]
+pub struct PageRequest<'a> {
+    /// The heading.
+    pub title: Option<&'a str>,
+    /// The words of conditions, with `;` between them: the page shows where each fails.
+    pub watch: Option<&'a str>,
+}
+
+// The task to write the page of the run that a script leaves, in the scenario with this text.
+#[derive(Drop)]
+struct Paging<'a, H: Eprint> {
+    alloc: Global,
+    host: &'a H,
+    text: &'a [u8],
+    asked: PageRequest<'a>,
+}
+
+impl<'a, H: Eprint> Task for Paging<'a, H> {
+    ghost can = { λ _. Unit {0} };
+
+    ghost does = { λ task r names old new ended.
+        WritesFor (page_right task.asked) task.text.now r names old new ended };
+
+    fn carry_out<N: Node<Meter = Tally> + Send + Sync + Debug, R: Read, W: Write>(
+        &self,
+        opened: &Opened,
+        reader: &mut R,
+        ahead: &mut Ahead,
+        writer: &mut W,
+    ) -> Status
+    where
+        N::Msg: Send + Sync + Debug,
+        N::Undo: Send + Sync,
+    {
+        let alloc = self.alloc;
+        let watched = match watched_by(alloc, opened, self.asked.watch, N::PROBES) {
+            Ok(watched) => watched,
+            Err(WatchError::BadCondition) => return write_export(writer, &Export::BadCondition),
+            Err(WatchError::NoMemory) => return Status::MemoryWanted,
+        };
+        let (scenario, names) = (&opened.scenario, &opened.names);
+        let run = match played::<N, R>(alloc, scenario, names, reader, ahead, true) {
+            Ok(run) => run,
+            Err(ScriptStop::Ended(status)) => return status,
+            Err(ScriptStop::Fault(fault)) => {
+                tell_fault(self.host, opened, &fault);
+                return write_export(writer, &Export::BadScript);
+            }
+        };
+        let title = self.asked.title.unwrap_or("A run of simback");
+        let frame = Frame {
+            alloc,
+            title,
+            opened,
+        };
+        match page_of::<N>(&frame, &run, watched) {
+            Ok(page) => write_export(writer, &Export::Shown(page)),
+            Err(_) => Status::MemoryWanted,
+        }
+    }
+}
+
+// Why there are no conditions to watch.
+#[derive(Clone, Copy, Debug, PartialEq, Eq)]
+enum WatchError {
+    BadCondition,
+    NoMemory,
+}
+
+impl From<AllocError> for WatchError {
+    ghost from_gives = { λ _ _. Unit {0} };
+
+    fn from(_error: AllocError) -> WatchError {
+        WatchError::NoMemory
+    }
+}
+
+// The conditions that these words are, with `;` between them.
+fn watched_by<'a>(
+    alloc: Global,
+    opened: &Opened,
+    words: Option<&'a str>,
+    probes: u8,
+) -> Result<Vec<Watched<'a>>, WatchError>
+    ensures { result ≡ Err WatchError.BadCondition → IsSome words.entry }
+{
+    let mut watched = Vec::new(alloc);
+    let Some(words) = words else {
+        return Ok(watched);
+    };
+    for words in words.split(';') {
+        let words = words.trim();
+        let cond = usable(opened, words, probes).ok_or(WatchError::BadCondition)?;
+        let watching = Watched {
+            words,
+            cond,
+            holding: Vec::new(alloc),
+        };
+        watched.push(watching).map_err(AllocError::from)?;
+    }
+    Ok(watched)
+}
+
+// The condition that these words are, if the scenario has its hosts and probes.
+fn usable(opened: &Opened, words: &str, probes: u8) -> Option<Cond> {
+    let cond = condition_of(&opened.names, words.as_bytes())?;
+    match cond.check(opened.scenario.hosts(), probes) {
+        Ok(()) => Some(cond),
+        Err(_) => None,
+    }
+}
+
+/// Plays a script without writing its answers, and writes the run of its first branch as a page: one
+/// HTML file that loads nothing. docs/PAGE.md says what it shows, and what its data is.
+///
+/// It writes `bad condition` with status 2 if the words of a condition are none, or if the scenario
+/// has no such host or probe. If a line of the script is no command, or its command is refused or not
+/// taken, it tells that on standard error and writes nothing, with status 2. If the reader fails or
+/// memory is wanted, it writes nothing either. There are at most 255 subjects.
+pub fn write_page<L: Subjects, H: Eprint, R: Read, W: Write>(
+    host: &H,
+    alloc: Global,
+    asked: PageRequest<'_>,
+    reader: &mut R,
+    writer: &mut W,
+) -> Status
+    requires few { length L.listed ≤ 255 }
+    ensures { (given : List ℕ) → R.remaining reader.old ≡ Some given →
+        Ended (W.contents writer.old) (W.contents writer.new)
+        (Written (page_right asked.entry) L.listed (nodes_by L.nodes) given result) }
+{
+    let mut ahead = Ahead::new();
+    match open::<L, R, W>(alloc, reader, &mut ahead, writer) {
+        Ok(opened) => {
+            let text = opened.text.as_slice();
+            let task = Paging {
+                alloc,
+                host,
+                text,
+                asked,
+            };
+            L::carry_out(opened.protocol, &task, &opened, reader, &mut ahead, writer)
+        }
+        Err(status) => status,
+    }
+}

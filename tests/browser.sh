@@ -1,0 +1,52 @@
+#!/usr/bin/env bash
+# Walks pages of `simback page` in chromium by real key presses, and compares what they say with `simback play`.
+# Usage: tests/browser.sh [PART..], with PART one of
+#   embed     the program holds the template as page/template.html has it
+#   hostile   a page of a run whose texts would leave their places if they could
+#   walk      pages of three examples; the program is $SIMBACK, or `simback` on the PATH
+#   picture   no test: takes docs/page.png anew
+# Without a PART it runs the first three. It installs chromium and node from Debian if they are not there, so it needs
+# root and the network the first time. It is no part of the gate.
+set -euo pipefail
+cd "$(dirname "$0")/.."
+parts=("$@")
+[ $# -gt 0 ] || parts=(embed hostile walk)
+folder=$(mktemp -d)
+trap 'rm -rf "$folder"' EXIT
+
+need() {                                  # need COMMAND: of the package with its name
+    command -v "$1" > /dev/null || { apt-get update -qq && apt-get install -y -qq "$1" fonts-dejavu-core; } >&2
+}
+drive() {                                 # drive SCRIPT ARGUMENT..
+    need chromium
+    command -v node > /dev/null || need nodejs
+    local flags=--no-warnings
+    node -e 'process.exit(typeof WebSocket === "function" ? 0 : 1)' || flags+=' --experimental-websocket'
+    # shellcheck disable=SC2086
+    node $flags "$@"
+}
+pages() {                                 # pages EXAMPLE..
+    program=${SIMBACK:-$(command -v simback)} || { echo "build simback first, or set SIMBACK" >&2; exit 2; }
+    for name in "$@"; do
+        "$program" page < "examples/$name.play" > "$folder/$name.html"
+    done
+}
+for part in "${parts[@]}"; do
+    case $part in
+        embed)
+            page/embed.py --check
+            echo "embed: the program holds the template" ;;
+        hostile)
+            drive tests/browser/hostile.mjs "$folder" ;;
+        walk)
+            names=(torn-commit partition lossy-direction)
+            pages "${names[@]}"
+            drive tests/browser/walk.mjs "$program" "$folder" "${names[@]}" ;;
+        picture)
+            pages torn-commit
+            drive tests/browser/picture.mjs "$folder/torn-commit.html#p=9" docs/page.png ;;
+        *)
+            sed -n '2,9s/^# //p' "$0" >&2
+            exit 2 ;;
+    esac
+done
