@@ -1,6 +1,6 @@
 #!/usr/bin/env bash
 # Sweeps in pieces with GNU parallel, on this machine or on many by ssh, and prints the answer of
-# the whole: the line of the least seed of all pieces, or `none`.
+# the whole, as `simback sweep --json` would: the least seed of all pieces, or null.
 #
 #   examples/sweep-parallel.sh FIRST COUNT PIECE EVENTS COND < INPUT
 #
@@ -42,7 +42,7 @@ cat >"$folder/input"
 cd "$folder"
 
 # One seed shows whether simback takes the request at all. Its refusal is the answer.
-if answer=$("$simback" sweep "$first" 1 "$events" "$cond" <input); then
+if answer=$("$simback" sweep --json "$first" 1 "$events" "$cond" <input); then
     status=0
 else
     status=$?
@@ -58,7 +58,7 @@ fi
 # Each piece prints its number and its answer on one line, once it has ended well. A piece that was
 # killed is tried again, and parallel drops what it had printed.
 pieces=$(((count + piece - 1) / piece))
-printf -v quoted '%q ' "$simback" sweep
+printf -v quoted '%q ' "$simback" sweep --json
 printf -v asked '%q %q' "$events" "$cond"
 run="start=\$(($first + {} * $piece)); left=\$(($count - {} * $piece));
 size=\$((left < $piece ? left : $piece));
@@ -70,13 +70,14 @@ workers=$!
 
 # A piece counts once. The answer is known when some piece has found a seed and each piece before
 # it has ended, or when all have.
+found='"place":([0-9]+|null),"seed":([0-9]+|null)[}]$'
 declare -A ended=()
-next=0 least=$pieces found=none
+next=0 least=$pieces place=null seed=null
 while ((next < least)) && read -r number line; do
-    [ -z "${ended[$number]:-}" ] || continue
+    [ -z "${ended[$number]:-}" ] && [[ $line =~ $found ]] || continue
     ended[$number]=yes
-    if [ "$line" != none ] && ((number < least)); then
-        least=$number found=$line
+    if [ "${BASH_REMATCH[2]}" != null ] && ((number < least)); then
+        least=$number place=${BASH_REMATCH[1]} seed=${BASH_REMATCH[2]}
     fi
     while [ -n "${ended[$next]:-}" ]; do
         next=$((next + 1))
@@ -87,4 +88,5 @@ if ((next < least)); then
     echo "sweep-parallel: piece $next of $pieces got no answer" >&2
     exit 5
 fi
-printf '%s\n' "$found"
+printf '{"count":%s,"events":%s,"first":%s,"place":%s,"seed":%s}\n' \
+    "$count" "$events" "$first" "$place" "$seed"

@@ -3,7 +3,8 @@
 #SBATCH --cpus-per-task=1
 #SBATCH --output=/dev/null
 # One piece of a sweep for each task of a job array of Slurm. Task i takes the PIECE seeds from
-# FIRST + i * PIECE on, and writes the answer to the file FOLDER/i once it has ended well.
+# FIRST + i * PIECE on, and writes the answer, a line of JSON, to the file FOLDER/i once it has
+# ended well.
 #
 #   mkdir answers
 #   sbatch --array=0-99 examples/sweep.slurm FIRST PIECE EVENTS COND INPUT answers
@@ -21,6 +22,6 @@ first=$1 piece=$2 events=$3 cond=$4 input=$5 folder=$6
 number=$SLURM_ARRAY_TASK_ID
 start=$((first + number * piece))
 
-"${SIMBACK:-simback}" sweep --workers "${SLURM_CPUS_PER_TASK:-1}" \
-    "$start" "$piece" "$events" "$cond" <"$input" >"$folder/.$number"
+"${SIMBACK:-simback}" sweep --json --workers "${SLURM_CPUS_PER_TASK:-1}" \
+    "$start" "$piece" "$events" "$cond" "$input" >"$folder/.$number"
 mv "$folder/.$number" "$folder/$number"

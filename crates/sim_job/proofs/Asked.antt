@@ -98,23 +98,38 @@ module _ (rows : List Row) where
   not_search : ((team : Team) (lo hi : ℕ) → HasTeam rows team → HasNumber (codes "lo") rows lo → HasNumber (codes "hi") rows hi → ⊥) → (asked : Job) → ¬ Asks (codes "search") rows asked
   not_search none (job.Play strict) h = apart (codes "search") (codes "play") h.0 refl refl
   not_search none (job.Search team strict lo hi cond) h = none team lo hi h.1 h.3 h.4
-  not_search none (job.Sweep team plan at_end script strict first count events cond) h = apart (codes "search") (codes "sweep") h.0 refl refl
+  not_search none (job.Sweep team plan at_end script strict json first count events cond) h = apart (codes "search") (codes "sweep") h.0 refl refl
   not_search none (job.Script plan seed events) h = apart (codes "search") (codes "script") h.0 refl refl
   not_search none (job.Shrink progress cond) h = apart (codes "search") (codes "shrink") h.0 refl refl
+  not_search none (job.Log from to json) h = apart (codes "search") (codes "log") h.0 refl refl
+  not_search none (job.Page title watch) h = apart (codes "search") (codes "page") h.0 refl refl
 
   not_sweep : ((team : Team) (plan : FaultPlan) (first count events : ℕ) → HasTeam rows team → HasFaultPlan rows plan → HasNumber (codes "first") rows first → HasNumber (codes "count") rows count → HasNumber (codes "events") rows events → ⊥) → (asked : Job) → ¬ Asks (codes "sweep") rows asked
   not_sweep none (job.Play strict) h = apart (codes "sweep") (codes "play") h.0 refl refl
   not_sweep none (job.Search team strict lo hi cond) h = apart (codes "sweep") (codes "search") h.0 refl refl
-  not_sweep none (job.Sweep team plan at_end script strict first count events cond) h = none team plan first count events h.1 h.2 h.6 h.7 h.8
+  not_sweep none (job.Sweep team plan at_end script strict json first count events cond) h = none team plan first count events h.1 h.2 h.7 h.8 h.9
   not_sweep none (job.Script plan seed events) h = apart (codes "sweep") (codes "script") h.0 refl refl
   not_sweep none (job.Shrink progress cond) h = apart (codes "sweep") (codes "shrink") h.0 refl refl
+  not_sweep none (job.Log from to json) h = apart (codes "sweep") (codes "log") h.0 refl refl
+  not_sweep none (job.Page title watch) h = apart (codes "sweep") (codes "page") h.0 refl refl
 
   not_script : ((plan : FaultPlan) (seed events : ℕ) → HasFaultPlan rows plan → HasNumber (codes "seed") rows seed → HasNumber (codes "events") rows events → ⊥) → (asked : Job) → ¬ Asks (codes "script") rows asked
   not_script none (job.Play strict) h = apart (codes "script") (codes "play") h.0 refl refl
   not_script none (job.Search team strict lo hi cond) h = apart (codes "script") (codes "search") h.0 refl refl
-  not_script none (job.Sweep team plan at_end script strict first count events cond) h = apart (codes "script") (codes "sweep") h.0 refl refl
+  not_script none (job.Sweep team plan at_end script strict json first count events cond) h = apart (codes "script") (codes "sweep") h.0 refl refl
   not_script none (job.Script plan seed events) h = none plan seed events h.1 h.2 h.3
   not_script none (job.Shrink progress cond) h = apart (codes "script") (codes "shrink") h.0 refl refl
+  not_script none (job.Log from to json) h = apart (codes "script") (codes "log") h.0 refl refl
+  not_script none (job.Page title watch) h = apart (codes "script") (codes "page") h.0 refl refl
+
+  not_log : ((from to : Option ℕ) → HasOption (codes "from") rows from → HasOption (codes "to") rows to → ⊥) → (asked : Job) → ¬ Asks (codes "log") rows asked
+  not_log none (job.Play strict) h = apart (codes "log") (codes "play") h.0 refl refl
+  not_log none (job.Search team strict lo hi cond) h = apart (codes "log") (codes "search") h.0 refl refl
+  not_log none (job.Sweep team plan at_end script strict json first count events cond) h = apart (codes "log") (codes "sweep") h.0 refl refl
+  not_log none (job.Script plan seed events) h = apart (codes "log") (codes "script") h.0 refl refl
+  not_log none (job.Shrink progress cond) h = apart (codes "log") (codes "shrink") h.0 refl refl
+  not_log none (job.Log from to json) h = none from to h.1 h.2
+  not_log none (job.Page title watch) h = apart (codes "log") (codes "page") h.0 refl refl
 
   -- so where one of them is missing
   pub no_team_to_search : ((team : Team) → ¬ HasTeam rows team) → (asked : Job) → ¬ Asks (codes "search") rows asked
@@ -150,10 +165,18 @@ module _ (rows : List Row) where
   pub no_events_to_script : ((n : ℕ) → ¬ HasNumber (codes "events") rows n) → (asked : Job) → ¬ Asks (codes "script") rows asked
   no_events_to_script none = not_script (λ plan seed events a b d. none events d)
 
+  pub no_from : ((n : Option ℕ) → ¬ HasOption (codes "from") rows n) → (asked : Job) → ¬ Asks (codes "log") rows asked
+  no_from none = not_log (λ from to a b. none from a)
+
+  pub no_to : ((n : Option ℕ) → ¬ HasOption (codes "to") rows n) → (asked : Job) → ¬ Asks (codes "log") rows asked
+  no_to none = not_log (λ from to a b. none to b)
+
 -- the workers of a job that is asked are few
 pub asks_few : (name : Text) (rows : List Row) (asked : Job) → Asks name rows asked → HasFewWorkers asked
 asks_few name rows (job.Play strict) h = tt
 asks_few name rows (job.Search team strict lo hi cond) h = (h.1.workers.1, h.1.workers.2)
-asks_few name rows (job.Sweep team plan at_end script strict first count events cond) h = (h.1.workers.1, h.1.workers.2)
+asks_few name rows (job.Sweep team plan at_end script strict json first count events cond) h = (h.1.workers.1, h.1.workers.2)
 asks_few name rows (job.Script plan seed events) h = tt
 asks_few name rows (job.Shrink progress cond) h = tt
+asks_few name rows (job.Log from to json) h = tt
+asks_few name rows (job.Page title watch) h = tt

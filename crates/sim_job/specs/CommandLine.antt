@@ -1,5 +1,6 @@
--- The command line of the program, as clap reads it, and the job that the matches ask for.
-use Rattle.std.specs.Prelude.{◌≡◌, ◌≢◌, ◌⊎◌, ◌<◌, ◌≤◌, ◌^◌, ℕ, Bool, true, false, codes, List, [], ◌∷◌, Option, None, Some, ⊤}
+-- The command line of the program, as clap reads it, and the request that the matches make.
+use Rattle.std.specs.Prelude.{◌≡◌, ◌≢◌, ◌⊎◌, ◌<◌, ◌≤◌, ◌^◌, ℕ, Bool, true, false, codes, List, [], ◌∷◌, Option, None, Some, option_map, ⊤}
+use Rattle.std.specs.Borrow.{Bor}
 use Rattle.std.specs.Str.Parse.{IsNumeral, digits_value, without_leading_plus}
 use Rattle.clap.specs.Words.{App, Row, Rule, Shape, Text, IsAmong, Kinds, fault_of, first_of, new_rule, one_of, rule_of, shape_of, subcommand_of}
 use Rattle.clap.specs.Simple.{new_shape}
@@ -16,6 +17,7 @@ use Rattle.sim_job.specs.declared.wanted.Team.{Team}
 use Rattle.sim_job.specs.declared.wanted.FaultPlan.{FaultPlan}
 use Rattle.sim_job.specs.declared.wanted.Job.{Job}
 use Rattle.sim_job.specs.declared.wanted.Job.TheVariants as job
+use Rattle.sim_job.specs.declared.wanted.Request.{Request}
 
 -- ---- the definition of the command line
 
@@ -44,13 +46,23 @@ strict = flag (codes "strict")
 abbrev pub at_end : Rule
 at_end = flag (codes "at-end")
 
--- `--faults F`, a number of 64 bits or none
-abbrev pub faults : Rule
-faults = record (new_rule (codes "faults")) {
-  long = Some (codes "faults");
+abbrev pub json : Rule
+json = flag (codes "json")
+
+-- an option with a number of 64 bits, which may be left out; its long name is its id
+abbrev pub optional_number : Text → Rule
+optional_number id = record (new_rule id) {
+  long = Some id;
   value_names = 1;
   parser = Some (parser.Unsigned 0 18446744073709551615);
 }
+
+-- an option with a word, which may be left out
+abbrev pub optional_word : Text → Rule
+optional_word id = record (new_rule id) { long = Some id; value_names = 1 }
+
+abbrev pub faults : Rule
+faults = optional_number (codes "faults")
 
 -- `--quiet Q`, a number of 64 bits, by default 0
 abbrev pub quiet : Rule
@@ -73,38 +85,57 @@ number id = record (new_rule id) {
 abbrev pub word : Text → Rule
 word id = record (new_rule id) { value_names = 1; required = true }
 
+-- the file with the input, a word that may be left out
+abbrev pub input : Rule
+input = record (new_rule (codes "file")) { value_names = 1 }
+
 -- a subcommand, by its name and its arguments
 abbrev pub command : Text → List Rule → Shape
 command name rules = record (new_shape name) { rules = rules }
 
 abbrev pub play : Shape
-play = command (codes "play") (strict ∷ [])
+play = command (codes "play") (strict ∷ input ∷ [])
 
 abbrev pub search : Shape
 search = command (codes "search")
-    (workers ∷ progress ∷ strict ∷ number (codes "lo") ∷ number (codes "hi") ∷ word (codes "cond") ∷ [])
+    (workers ∷ progress ∷ strict ∷ number (codes "lo") ∷ number (codes "hi") ∷ word (codes "cond") ∷ input ∷ [])
 
 abbrev pub sweep : Shape
 sweep = command (codes "sweep")
-    (workers ∷ progress ∷ with_script ∷ strict ∷ faults ∷ quiet ∷ at_end
-    ∷ number (codes "first") ∷ number (codes "count") ∷ number (codes "events") ∷ word (codes "cond") ∷ [])
+    (workers ∷ progress ∷ with_script ∷ strict ∷ faults ∷ quiet ∷ at_end ∷ json
+    ∷ number (codes "first") ∷ number (codes "count") ∷ number (codes "events") ∷ word (codes "cond") ∷ input ∷ [])
 
 abbrev pub script : Shape
-script = command (codes "script") (faults ∷ quiet ∷ number (codes "seed") ∷ number (codes "events") ∷ [])
+script = command (codes "script") (faults ∷ quiet ∷ number (codes "seed") ∷ number (codes "events") ∷ input ∷ [])
 
 abbrev pub shrink : Shape
-shrink = command (codes "shrink") (progress ∷ word (codes "cond") ∷ [])
+shrink = command (codes "shrink") (progress ∷ word (codes "cond") ∷ input ∷ [])
 
--- the program, with its version, which wants a subcommand and has none named `help`
+abbrev pub log : Shape
+log = command (codes "log") (optional_number (codes "from") ∷ optional_number (codes "to") ∷ json ∷ input ∷ [])
+
+abbrev pub page : Shape
+page = command (codes "page") (optional_word (codes "title") ∷ optional_word (codes "watch") ∷ input ∷ [])
+
+-- the program without its subcommands
+abbrev pub bare : App
+bare = record {
+  top = record (new_shape (codes "simback")) {
+    has_version = true;
+    subcommand_required = true;
+  };
+  subs = [];
+}
+
+-- the program, with its version, which wants a subcommand; clap adds one named `help`
 abbrev pub program : App
 program = record {
   top = record (new_shape (codes "simback")) {
     is_leaf = false;
     has_version = true;
     subcommand_required = true;
-    disable_help_subcommand = true;
   };
-  subs = play ∷ search ∷ sweep ∷ script ∷ shrink ∷ [];
+  subs = play ∷ search ∷ sweep ∷ script ∷ shrink ∷ log ∷ page ∷ [];
 }
 
 -- a value of clap's is this argument, which is its own command's alone
@@ -135,6 +166,10 @@ HasOption id rows (Some n) = HasNumber id rows n
 abbrev pub HasWord : Text → List Row → Text → Type 0
 HasWord id rows text = first_of id rows ≡ Some text
 
+-- an option that may be left out: it has no value, or this text
+abbrev pub HasOptionalWord : Text → List Row → Option (Bor (List ℕ)) → Type 0
+HasOptionalWord id rows text = option_map (λ s. s.now) text ≡ first_of id rows
+
 -- a flag is set where its value is `true`, and not where it is `false` or there is none
 pub record HasFlag (id : Text) (rows : List Row) (is_set : Bool) : Type 0 where
   pub yes : one_of id rows ≡ Some (codes "true") → is_set ≡ true
@@ -158,30 +193,38 @@ abbrev pub Asks : Text → List Row → Job → Type 0
 Asks name rows (job.Play strict) = (name ≡ codes "play") × HasFlag (codes "strict") rows strict
 Asks name rows (job.Search team strict lo hi cond) = (name ≡ codes "search") × HasTeam rows team
     × HasFlag (codes "strict") rows strict × HasNumber (codes "lo") rows lo × HasNumber (codes "hi") rows hi × HasWord (codes "cond") rows cond.now
-Asks name rows (job.Sweep team plan at_end script strict first count events cond) = (name ≡ codes "sweep") × HasTeam rows team
+Asks name rows (job.Sweep team plan at_end script strict json first count events cond) = (name ≡ codes "sweep") × HasTeam rows team
     × HasFaultPlan rows plan × HasFlag (codes "at-end") rows at_end × HasFlag (codes "script") rows script
-    × HasFlag (codes "strict") rows strict × HasNumber (codes "first") rows first × HasNumber (codes "count") rows count
+    × HasFlag (codes "strict") rows strict × HasFlag (codes "json") rows json × HasNumber (codes "first") rows first × HasNumber (codes "count") rows count
     × HasNumber (codes "events") rows events × HasWord (codes "cond") rows cond.now
 Asks name rows (job.Script plan seed events) = (name ≡ codes "script") × HasFaultPlan rows plan
     × HasNumber (codes "seed") rows seed × HasNumber (codes "events") rows events
 Asks name rows (job.Shrink progress cond) = (name ≡ codes "shrink")
     × HasFlag (codes "progress") rows progress × HasWord (codes "cond") rows cond.now
+Asks name rows (job.Log from to json) = (name ≡ codes "log") × HasOption (codes "from") rows from
+    × HasOption (codes "to") rows to × HasFlag (codes "json") rows json
+Asks name rows (job.Page title watch) = (name ≡ codes "page") × HasOptionalWord (codes "title") rows title
+    × HasOptionalWord (codes "watch") rows watch
 
 -- the job's workers, if it has any, are 1 to 16
 abbrev pub HasFewWorkers : Job → Type 0
 HasFewWorkers (job.Play _) = ⊤
 HasFewWorkers (job.Search team _ _ _ _) = (1 ≤ team.workers) × (team.workers ≤ 16)
-HasFewWorkers (job.Sweep team _ _ _ _ _ _ _ _) = (1 ≤ team.workers) × (team.workers ≤ 16)
+HasFewWorkers (job.Sweep team _ _ _ _ _ _ _ _ _) = (1 ≤ team.workers) × (team.workers ≤ 16)
 HasFewWorkers (job.Script _ _ _) = ⊤
 HasFewWorkers (job.Shrink _ _) = ⊤
+HasFewWorkers (job.Log _ _ _) = ⊤
+HasFewWorkers (job.Page _ _) = ⊤
 
--- the words ask for the job: clap finds no fault in them, and its matches are the job's
-pub record IsJobOf (words : List Text) (asked : Job) : Type 0 where
+-- The words make the request: clap finds no fault in them, its matches are the job's, and the file
+-- is clap's value of the argument, or none where it has no value.
+pub record IsRequestOf (words : List Text) (asked : Request) : Type 0 where
   pub sound : fault_of program words ≡ []
   pub name : Text
   pub rows : List Row
   pub entered : subcommand_of program words ≡ Some (name, rows)
-  pub asks : Asks name rows asked
+  pub asks : Asks name rows asked.job
+  pub file : option_map (λ s. s.now) asked.file ≡ first_of (codes "file") rows
 
 -- ---- the faults
 
@@ -197,7 +240,7 @@ HasMistake kinds = (k : ErrorKind) × IsAmong k kinds × (k ≢ kind.DisplayHelp
 abbrev pub IsFault : List Text → LineError → Type 0
 IsFault words (line_fault.Help text) = AsksText (fault_of program words)
 IsFault words (line_fault.Usage text) = HasMistake (fault_of program words)
-    ⊎ ((fault_of program words ≡ []) × ((asked : Job) → ¬ IsJobOf words asked))
+    ⊎ ((fault_of program words ≡ []) × ((asked : Request) → ¬ IsRequestOf words asked))
 IsFault words line_fault.NoMemory = ⊤
 
 abbrev pub IsHelp : LineError → Type 0

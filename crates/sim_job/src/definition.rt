@@ -8,8 +8,8 @@ use clap::{Arg, ArgAction, Command, value_parser};
 use std::alloc::{AllocError, Global};
 
 const SWEEP_EXAMPLES: &str = "\
-Example: simback sweep --progress 0 1000 500 \"a.first != 2\" < examples/torn-commit.play
-Example: simback sweep --faults 8 0 1500 120 \"agree first unless 0\" < examples/torn-commit.play";
+Example: simback sweep --progress 0 1000 500 \"a.first != 2\" examples/torn-commit.play
+Example: simback sweep --faults 8 0 1500 120 \"agree first unless 0\" examples/torn-commit.play";
 
 /// `--workers N`.
 fn workers<'a>(alloc: Global) -> Arg<'a>
@@ -48,11 +48,30 @@ fn progress<'a>(alloc: Global) -> Arg<'a>
 fn faults<'a>(alloc: Global) -> Arg<'a>
     ensures { IsArgument line.faults result }
 {
-    Arg::new(alloc, "faults")
-        .long("faults")
-        .value_name("F")
+    optional_number(
+        alloc,
+        "faults",
+        "F",
+        "Make one event in F a fault or a healing, 2 to 65536; without it there is none",
+    )
+}
+
+/// An option with a number, whose long name is its id.
+fn optional_number<'a>(alloc: Global, id: &'a str, name: &'a str, help: &'a str) -> Arg<'a>
+    ensures { IsArgument (line.optional_number id.entry.now) result }
+{
+    Arg::new(alloc, id)
+        .long(id)
+        .value_name(name)
         .value_parser(value_parser!(u64))
-        .help("Make one event in F a fault or a healing, 2 to 65536; without it there is none")
+        .help(help)
+}
+
+/// An option with a word, whose long name is its id.
+fn optional_word<'a>(alloc: Global, id: &'a str, name: &'a str, help: &'a str) -> Arg<'a>
+    ensures { IsArgument (line.optional_word id.entry.now) result }
+{
+    Arg::new(alloc, id).long(id).value_name(name).help(help)
 }
 
 /// `--quiet Q`.
@@ -117,13 +136,23 @@ fn cond<'a>(alloc: Global) -> Arg<'a>
         .help("The condition, as one word, such as \"w.next <= 3\"")
 }
 
+/// `FILE`, the last word of each command, which may be left out.
+fn input<'a>(alloc: Global) -> Arg<'a>
+    ensures { IsArgument line.input result }
+{
+    Arg::new(alloc, "file")
+        .value_name("FILE")
+        .help("The file with the input; without it standard input")
+}
+
 fn play<'a>(alloc: Global) -> Result<Command<'a>, AllocError>
     ensures { IfOk result (IsCommand line.play) }
 {
     Command::new(alloc, "play")
-        .about("Play the script on standard input, and write one line for each command")
-        .after_help("Example: simback play < examples/first-run.play")
-        .arg(strict(alloc))
+        .about("Play the script, and write one line for each command")
+        .after_help("Example: simback play examples/first-run.play")
+        .arg(strict(alloc))?
+        .arg(input(alloc))
 }
 
 fn search<'a>(alloc: Global) -> Result<Command<'a>, AllocError>
@@ -132,14 +161,15 @@ fn search<'a>(alloc: Global) -> Result<Command<'a>, AllocError>
     Command::new(alloc, "search")
         .about("Play the script, and find the first place where a condition fails")
         .after_help(
-            "Example: simback search --workers 4 0 6 \"w.next <= 1\" < examples/first-run.play",
+            "Example: simback search --workers 4 0 6 \"w.next <= 1\" examples/first-run.play",
         )
         .arg(workers(alloc))?
         .arg(progress(alloc))?
         .arg(strict(alloc))?
         .arg(number(alloc, "lo", "LO", "The first place to look at"))?
         .arg(number(alloc, "hi", "HI", "The last place to look at"))?
-        .arg(cond(alloc))
+        .arg(cond(alloc))?
+        .arg(input(alloc))
 }
 
 fn sweep<'a>(alloc: Global) -> Result<Command<'a>, AllocError>
@@ -155,6 +185,7 @@ fn sweep<'a>(alloc: Global) -> Result<Command<'a>, AllocError>
         .arg(faults(alloc))?
         .arg(quiet(alloc))?
         .arg(at_end(alloc))?
+        .arg(flag(alloc, "json", "Write the answer as a JSON object on a line"))?
         .arg(number(alloc, "first", "FIRST", "The number of the first seed"))?
         .arg(number(alloc, "count", "COUNT", "How many seeds to run"))?
         .arg(number(
@@ -163,7 +194,8 @@ fn sweep<'a>(alloc: Global) -> Result<Command<'a>, AllocError>
             "EVENTS",
             "How many steps to run with each seed, at most",
         ))?
-        .arg(cond(alloc))
+        .arg(cond(alloc))?
+        .arg(input(alloc))
 }
 
 fn script<'a>(alloc: Global) -> Result<Command<'a>, AllocError>
@@ -171,11 +203,12 @@ fn script<'a>(alloc: Global) -> Result<Command<'a>, AllocError>
 {
     Command::new(alloc, "script")
         .about("Write the run of a seed, as a sweep makes it, as an input for a play")
-        .after_help("Example: simback script --faults 8 654 120 < examples/torn-commit.play")
+        .after_help("Example: simback script --faults 8 654 120 examples/torn-commit.play")
         .arg(faults(alloc))?
         .arg(quiet(alloc))?
         .arg(number(alloc, "seed", "I", "The number of the seed"))?
-        .arg(number(alloc, "events", "EVENTS", "How many steps to run, at most"))
+        .arg(number(alloc, "events", "EVENTS", "How many steps to run, at most"))?
+        .arg(input(alloc))
 }
 
 fn shrink<'a>(alloc: Global) -> Result<Command<'a>, AllocError>
@@ -183,23 +216,65 @@ fn shrink<'a>(alloc: Global) -> Result<Command<'a>, AllocError>
 {
     Command::new(alloc, "shrink")
         .about("Make the run that the script leaves as small as a condition still fails in it")
-        .after_help("Example: simback shrink \"agree first unless 0\" < run.play")
+        .after_help("Example: simback shrink \"agree first unless 0\" run.play")
         .arg(progress(alloc))?
-        .arg(cond(alloc))
+        .arg(cond(alloc))?
+        .arg(input(alloc))
+}
+
+fn log<'a>(alloc: Global) -> Result<Command<'a>, AllocError>
+    ensures { IfOk result (IsCommand line.log) }
+{
+    Command::new(alloc, "log")
+        .about("Play the script, and tell in words what each event of its run did")
+        .after_help("Example: simback log --from 8 examples/torn-commit.play")
+        .arg(optional_number(alloc, "from", "P", "The first event to tell; without it 1"))?
+        .arg(optional_number(
+            alloc,
+            "to",
+            "Q",
+            "The last event to tell; without it the last",
+        ))?
+        .arg(flag(alloc, "json", "Write each event as a JSON object on a line"))?
+        .arg(input(alloc))
+}
+
+fn page<'a>(alloc: Global) -> Result<Command<'a>, AllocError>
+    ensures { IfOk result (IsCommand line.page) }
+{
+    Command::new(alloc, "page")
+        .about("Play the script, and write its run as an HTML page to walk back and forth")
+        .after_help("Example: simback page examples/torn-commit.play > run.html")
+        .arg(optional_word(alloc, "title", "TEXT", "The heading of the page"))?
+        .arg(optional_word(
+            alloc,
+            "watch",
+            "COND",
+            "Conditions, as one word, with ; between them: the page shows where each fails",
+        ))?
+        .arg(input(alloc))
+}
+
+/// The program, before it has its subcommands.
+fn bare<'a>(alloc: Global) -> Command<'a>
+    ensures { app_of result ≡ line.bare }
+{
+    Command::new(alloc, "simback")
+        .version("0.1.0")
+        .about("A simulated cluster that can be walked backwards")
+        .subcommand_required(true)
 }
 
 /// The command line of the program.
 pub(crate) fn program<'a>(alloc: Global) -> Result<Command<'a>, AllocError>
     ensures { IfOk result (λ c. app_of c ≡ line.program) }
 {
-    Command::new(alloc, "simback")
-        .version("0.1.0")
-        .about("A simulated cluster that can be walked backwards")
-        .subcommand_required(true)
-        .disable_help_subcommand(true)
+    bare(alloc)
         .subcommand(play(alloc)?)?
         .subcommand(search(alloc)?)?
         .subcommand(sweep(alloc)?)?
         .subcommand(script(alloc)?)?
-        .subcommand(shrink(alloc)?)
+        .subcommand(shrink(alloc)?)?
+        .subcommand(log(alloc)?)?
+        .subcommand(page(alloc)?)
 }

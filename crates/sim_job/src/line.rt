@@ -1,17 +1,17 @@
-//! The job that the words of a command line ask for.
+//! The request that the words of a command line make.
 ghost use Rattle.std.specs.Prelude.{◌≡◌, ◌≢◌, ◌⊎◌, ℕ, codes, map, IfOk, MatchOption, MatchResult, Option, Some, option_map};
 ghost use Rattle.clap.specs.Words.{first_of, found_of, kind_of, rows_of, subcommand_rows_of};
 ghost use Rattle.sim_job.specs.CommandLine.{Asks, HasFewWorkers, HasFlag, HasNumber, HasOption, HasTeam, HasFaultPlan, HasWorkers};
-ghost use Rattle.sim_job.specs.CommandLine.{IsFault, IsHelp, IsJobOf, IsUsage};
+ghost use Rattle.sim_job.specs.CommandLine.{IsFault, IsHelp, IsRequestOf, IsUsage};
 
 use crate::definition::program;
-use crate::{FaultPlan, Job, Team};
+use crate::{FaultPlan, Job, Request, Team};
 use clap::error::ErrorKind;
 use clap::{ArgMatches, Error};
 use std::alloc::Global;
 use std::convert::AsStr;
 
-/// Why a command line asks for no job.
+/// Why a command line makes no request.
 #[derive(Debug, Drop)]
 pub enum LineError {
     /// Help or the version was asked for: its text.
@@ -135,6 +135,7 @@ fn sweep_of<'a>(matches: &ArgMatches<'a>) -> Option<Job<'a>>
         at_end: flag_of(matches, "at-end"),
         script: flag_of(matches, "script"),
         strict: flag_of(matches, "strict"),
+        json: flag_of(matches, "json"),
         first: number_of(matches, "first")?,
         count: number_of(matches, "count")?,
         events: number_of(matches, "events")?,
@@ -165,6 +166,28 @@ fn shrink_of<'a>(matches: &ArgMatches<'a>) -> Option<Job<'a>>
     })
 }
 
+/// The log that is asked for, or none where a value is missing.
+fn log_of<'a>(matches: &ArgMatches<'a>) -> Option<Job<'a>>
+    ensures { MatchOption result ((asked : Job) → ¬ Asks (codes "log") (rows_of (found_of matches.now)) asked)
+        (Asks (codes "log") (rows_of (found_of matches.now))) }
+{
+    Some(Job::Log {
+        from: option_of(matches, "from")?,
+        to: option_of(matches, "to")?,
+        json: flag_of(matches, "json"),
+    })
+}
+
+/// The page that is asked for.
+fn page_of<'a>(matches: &ArgMatches<'a>) -> Job<'a>
+    ensures { Asks (codes "page") (rows_of (found_of matches.now)) result }
+{
+    Job::Page {
+        title: word_of(matches, "title"),
+        watch: word_of(matches, "watch"),
+    }
+}
+
 /// The job of a subcommand, or none where a value is missing.
 fn asked_by<'a>(name: &str, matches: &ArgMatches<'a>) -> Option<Job<'a>>
     ensures { MatchOption result ((asked : Job) → ¬ Asks name.now (rows_of (found_of matches.now)) asked)
@@ -176,18 +199,24 @@ fn asked_by<'a>(name: &str, matches: &ArgMatches<'a>) -> Option<Job<'a>>
         "sweep" => sweep_of(matches),
         "script" => script_of(matches),
         "shrink" => shrink_of(matches),
+        "log" => log_of(matches),
+        "page" => Some(page_of(matches)),
         _ => None,
     }
 }
 
-/// The job of the matches, or none where a value is missing.
-fn asked_in<'a>(matches: &ArgMatches<'a>) -> Option<Job<'a>>
+/// The request of the matches, or none where a value is missing.
+fn asked_in<'a>(matches: &ArgMatches<'a>) -> Option<Request<'a>>
     ensures { MatchOption result
         ((name : _) (rows : _) (asked : Job) → subcommand_rows_of matches.now ≡ Some (name, rows) → ¬ Asks name rows asked)
-        (λ asked. (name : _) × (rows : _) × (subcommand_rows_of matches.now ≡ Some (name, rows)) × Asks name rows asked) }
+        (λ asked. (name : _) × (rows : _) × (subcommand_rows_of matches.now ≡ Some (name, rows)) × Asks name rows asked.job
+        × (option_map (λ s. s.now) asked.file ≡ first_of (codes "file") rows)) }
 {
     let (name, found) = matches.subcommand()?;
-    asked_by(name, found)
+    Some(Request {
+        job: asked_by(name, found)?,
+        file: word_of(found, "file"),
+    })
 }
 
 /// What a fault of clap's is here.
@@ -221,10 +250,10 @@ fn missing_value(alloc: Global) -> LineError
     }
 }
 
-/// The job that the words of a command line ask for, the first of which names the program.
-pub fn job<'a, S: AsStr>(alloc: Global, words: &'a [S]) -> Result<Job<'a>, LineError>
-    ensures answer { MatchResult result (IsJobOf (map S.text words.entry.now)) (IsFault (map S.text words.entry.now)) }
-    ensures workers { IfOk result HasFewWorkers }
+/// The request that the words of a command line make, the first of which names the program.
+pub fn request<'a, S: AsStr>(alloc: Global, words: &'a [S]) -> Result<Request<'a>, LineError>
+    ensures answer { MatchResult result (IsRequestOf (map S.text words.entry.now)) (IsFault (map S.text words.entry.now)) }
+    ensures workers { IfOk result (λ asked. HasFewWorkers asked.job) }
 {
     let Ok(command) = program(alloc) else {
         return Err(LineError::NoMemory);

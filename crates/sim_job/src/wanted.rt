@@ -16,6 +16,14 @@ pub struct FaultPlan {
     pub quiet: u64,
 }
 
+/// What the program is to do, and with which input.
+#[derive(Clone, Copy, Debug, PartialEq, Eq)]
+pub struct Request<'a> {
+    pub job: Job<'a>,
+    /// The name of the file with the input, or none where that is standard input.
+    pub file: Option<&'a str>,
+}
+
 /// What the program is to do.
 #[derive(Clone, Copy, Debug, PartialEq, Eq)]
 pub enum Job<'a> {
@@ -35,13 +43,14 @@ pub enum Job<'a> {
     /// Looks for the first of `count` seeds from `first` on whose run fails the condition: at a
     /// place of its first `events` events and its quiet end, or with `at_end` at its last place.
     /// With `script` each run begins with the events that the script leaves, of which with `strict`
-    /// no line may be at fault.
+    /// no line may be at fault. With `json` the answer is a JSON object.
     Sweep {
         team: Team,
         plan: FaultPlan,
         at_end: bool,
         script: bool,
         strict: bool,
+        json: bool,
         first: u64,
         count: u64,
         events: u64,
@@ -52,6 +61,18 @@ pub enum Job<'a> {
         plan: FaultPlan,
         seed: u64,
         events: u64,
+    },
+    /// Writes a line for each event of the run that a script leaves, from one event to another: the
+    /// first and the last where there is no number. With `json` each is a JSON object.
+    Log {
+        from: Option<u64>,
+        to: Option<u64>,
+        json: bool,
+    },
+    /// Writes the run that a script leaves as a page, with a title and a condition if they are given.
+    Page {
+        title: Option<&'a str>,
+        watch: Option<&'a str>,
     },
     /// Makes the run that a script leaves as small as the condition still fails in it.
     Shrink {

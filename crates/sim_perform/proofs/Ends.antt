@@ -19,8 +19,9 @@ use Rattle.sim_cli.specs.Subjects.{nodes_by}
 use Rattle.sim_cli.proofs.Whole.{whole_cut}
 use Rattle.sim_perform.specs.declared.answer.Answer.{Answer}
 use Rattle.sim_perform.specs.declared.answer.Answer.TheVariants as answer
+use Rattle.sim_perform.specs.declared.answer.Form.{Form}
 use Rattle.sim_perform.specs.declared.hunting.Area.{Area}
-use Rattle.sim_perform.specs.Answers.{answer_line, answer_words, status_of}
+use Rattle.sim_perform.specs.Answers.{answer_line, answer_text, status_of}
 use Rattle.sim_replay.specs.Following.{Stops}
 use Rattle.sim_perform.specs.Hunts.{hunt_answer}
 use Rattle.sim_perform.specs.Outcomes.{Outcome, EndsBy, WritesOutcome, WritesAnswer, Hunted, Performed, answered, faulty, outcome, outcome_of}
@@ -60,14 +61,14 @@ ends_empty o ReaderFailed s = refl
 ends_empty o WriterFailed s = absurd s
 ends_empty o MemoryWanted s = refl
 
--- the line of an answer is its words
-pub line_is : (a : Answer) → (a ≡ answer.BadScript → ⊥) → answer_words a ++ codes "\n" ≡ answer_line a
-line_is (answer.Place p) other = refl
-line_is (answer.Seed i p) other = refl
-line_is answer.Nowhere other = refl
-line_is answer.BadRange other = refl
-line_is answer.BadCondition other = refl
-line_is answer.BadScript other = absurd (other refl)
+-- the line of an answer is its text
+pub line_is : (form : Form) (a : Answer) → (a ≡ answer.BadScript → ⊥) → answer_text form a ++ codes "\n" ≡ answer_line form a
+line_is form (answer.Place p) other = refl
+line_is form (answer.Seed i p) other = refl
+line_is form answer.Nowhere other = refl
+line_is form answer.BadRange other = refl
+line_is form answer.BadCondition other = refl
+line_is form answer.BadScript other = absurd (other refl)
 
 -- nothing was written
 pub nothing : (o : Outcome) (ended : Status) (held : Option Text) → Stops ended → Ended held held (EndsBy o ended)
@@ -91,12 +92,13 @@ same_outcome o status ended line held holds a b w =
     subst (λ (s : Status). WritesOutcome held holds (record { status = s; line = o.line }) ended) a
     (subst (λ (l : Text). WritesOutcome held holds (record { status = status; line = l }) ended) b w)
 
-pub told_answer : (o : Outcome) (a : Answer) (ended : Status) (held holds : Option Text) → o ≡ answered a → WritesAnswer held holds a ended → Ended held holds (EndsBy o ended)
-told_answer o a ended held holds same w =
+pub told_answer : (o : Outcome) (form : Form) (a : Answer) (ended : Status) (held holds : Option Text) → o ≡ answered form a → WritesAnswer held holds form a ended
+    → Ended held holds (EndsBy o ended)
+told_answer o form a ended held holds same w =
     subst (λ (x : Outcome). Ended held holds (EndsBy x ended)) (sym same)
     (elim w [
-      | inl x ↦ line_told (answered a) ended held holds (answered_has_line a) x
-      | inr x ↦ record { written = []; appended = x.1; is = subst (λ (s : Status). EndsBy (answered a) s []) (sym x.0) refl }
+      | inl x ↦ line_told (answered form a) ended held holds (answered_has_line a) x
+      | inr x ↦ record { written = []; appended = x.1; is = subst (λ (s : Status). EndsBy (answered form a) s []) (sym x.0) refl }
     ])
 
 pub told_fault : (o : Outcome) (fault : Fault) (line : Text) (ended : Status) (held holds : Option Text) → o ≡ faulty fault → line ≡ fault_line fault
@@ -107,42 +109,42 @@ told_fault o fault line ended held holds same told w =
     (line_told (faulty fault) ended held holds tt (same_outcome (faulty fault) BadScenario ended line held holds refl told w))
 
 module _ (protocols : List Protocol) (nodes_of : ScenarioText → Nodes) where
-  module _ (area : Area) (cond : Text) where
+  module _ (form : Form) (area : Area) (cond : Text) where
     -- the outcome of a scenario that was read, and of a bad one
     pub outcome_read : (given text : Text) (new : Option Text) (s : ScenarioText) (h : HeadIs given new text) → read_scenario protocols text ≡ Ok s
-        → outcome protocols nodes_of area cond given ≡ answered (hunt_answer (nodes_of s).rules (names_of nodes_of s) area cond h.script)
+        → outcome protocols nodes_of form area cond given ≡ answered form (hunt_answer (nodes_of s).rules (names_of nodes_of s) area cond h.script)
     outcome_read given text new s h e =
-        ap (λ (p : Text × Text). outcome_of protocols nodes_of area cond (read_scenario protocols p.0) p.1) (whole_cut given text new h)
-        ∙ ap (λ (r : Result ScenarioText Fault). outcome_of protocols nodes_of area cond r h.script) e
+        ap (λ (p : Text × Text). outcome_of protocols nodes_of form area cond (read_scenario protocols p.0) p.1) (whole_cut given text new h)
+        ∙ ap (λ (r : Result ScenarioText Fault). outcome_of protocols nodes_of form area cond r h.script) e
 
-    outcome_fault : (given line : Text) (f : Faults protocols (head_of given).0 line) → outcome protocols nodes_of area cond given ≡ faulty f.fault
-    outcome_fault given line f = ap (λ (r : Result ScenarioText Fault). outcome_of protocols nodes_of area cond r (head_of given).1) f.read
+    outcome_fault : (given line : Text) (f : Faults protocols (head_of given).0 line) → outcome protocols nodes_of form area cond given ≡ faulty f.fault
+    outcome_fault given line f = ap (λ (r : Result ScenarioText Fault). outcome_of protocols nodes_of form area cond r (head_of given).1) f.read
 
     bad_told : (given : Text) (held holds : Option Text) (line : Text) (f : Faults protocols (head_of given).0 line) (ended : Status)
-        → WritesOutcome held holds (record { status = BadScenario; line = line }) ended → Ended held holds (Hunted protocols nodes_of area cond given ended)
+        → WritesOutcome held holds (record { status = BadScenario; line = line }) ended → Ended held holds (Hunted protocols nodes_of form area cond given ended)
     bad_told given held holds line f ended w =
-        told_fault (outcome protocols nodes_of area cond given) f.fault line ended held holds (outcome_fault given line f) f.told w
+        told_fault (outcome protocols nodes_of form area cond given) f.fault line ended held holds (outcome_fault given line f) f.told w
 
     -- there is no scenario
     pub not_opened : (given : Text) (ahead : Waiting) (left held holds : Option Text) (ended : Status) → IsNotOpened protocols given ahead left held holds ended
-        → Ended held holds (Hunted protocols nodes_of area cond given ended)
+        → Ended held holds (Hunted protocols nodes_of form area cond given ended)
     not_opened given ahead left held holds Well n = absurd n
     not_opened given ahead left held holds BadScenario n = bad_told given held holds n.0.line n.0.fault BadScenario (inl (refl, n.0.written))
     not_opened given ahead left held holds BadRequest n = absurd n
     not_opened given ahead left held holds ReaderFailed n =
-        subst (λ (h : Option Text). Ended held h (Hunted protocols nodes_of area cond given ReaderFailed)) (sym n.2) (nothing (outcome protocols nodes_of area cond given) ReaderFailed held tt)
+        subst (λ (h : Option Text). Ended held h (Hunted protocols nodes_of form area cond given ReaderFailed)) (sym n.2) (nothing (outcome protocols nodes_of form area cond given) ReaderFailed held tt)
     not_opened given ahead left held holds WriterFailed n = bad_told given held holds n.line n.fault WriterFailed (inr (refl, n.written))
     not_opened given ahead left held holds MemoryWanted n =
-        subst (λ (h : Option Text). Ended held h (Hunted protocols nodes_of area cond given MemoryWanted)) (sym n) (nothing (outcome protocols nodes_of area cond given) MemoryWanted held tt)
+        subst (λ (h : Option Text). Ended held h (Hunted protocols nodes_of form area cond given MemoryWanted)) (sym n) (nothing (outcome protocols nodes_of form area cond given) MemoryWanted held tt)
 
   pub as_job : (job asked : Job) (given : Text) (left held holds : Option Text) (ended : Status) → job ≡ asked
       → Ended held holds (Performed protocols nodes_of asked given left ended) → Ended held holds (Performed protocols nodes_of job given left ended)
   as_job job asked given left held holds ended same p = subst (λ (j : Job). Ended held holds (Performed protocols nodes_of j given left ended)) (sym same) p
 
-module _ (protocols : List Protocol) (nodes : ℕ → Scenario → Nodes) (area : Area) (cond : Text) where
+module _ (protocols : List Protocol) (nodes : ℕ → Scenario → Nodes) (form : Form) (area : Area) (cond : Text) where
   -- the answer of a hunt over the nodes of a scenario that was read
   pub opened_answer : (given : Text) (left : Option Text) (opened : Opened) (o : IsOpened protocols (nodes_by nodes) given left opened)
-      → outcome protocols (nodes_by nodes) area cond given ≡ answered (hunt_answer (nodes opened.protocol opened.scenario).rules opened.names area cond o.head.script)
+      → outcome protocols (nodes_by nodes) form area cond given ≡ answered form (hunt_answer (nodes opened.protocol opened.scenario).rules opened.names area cond o.head.script)
   opened_answer given left opened o =
       let s = o.said in
       let script = o.head.script in
@@ -151,4 +153,4 @@ module _ (protocols : List Protocol) (nodes : ℕ → Scenario → Nodes) (area 
       ap (λ (k : ℕ). hunt_answer (nodes k opened.scenario).rules opened.names area cond script) o.protocol
       ∙ ap (λ (x : Scenario). hunt_answer (nodes s.protocol x).rules opened.names area cond script) o.scenario
       ∙ ap (λ (n : Names). hunt_answer (nodes s.protocol (scenario s)).rules n area cond script) o.names in
-      outcome_read protocols (nodes_by nodes) area cond given o.text _ s o.head o.read ∙ ap answered (sym same)
+      outcome_read protocols (nodes_by nodes) form area cond given o.text _ s o.head o.read ∙ ap (answered form) (sym same)

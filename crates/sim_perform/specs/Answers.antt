@@ -1,11 +1,16 @@
 -- What a search and a sweep answer, and the lines that tell it.
 use Rattle.std.specs.Prelude.{ℕ, codes, List, [], ◌++◌, Option, Some, None, Result, Ok, Err, ◌≡◌}
 use Rattle.std.specs.Fmt.{decimal}
+use Rattle.serde_json.specs.Data.{Data, null, number, object, member, no_members, unsigned}
+use Rattle.serde_json.specs.Written.{compact_text}
 use Rattle.sim_search.specs.declared.SearchFault.{SearchFault}
 use Rattle.sim_search.specs.declared.SearchFault.TheVariants as fault
 use Rattle.sim_cli.specs.declared.status.Status.{Status}
 use Rattle.sim_cli.specs.declared.status.Status.TheVariants.{Well, BadRequest}
 use Rattle.sim_perform.specs.declared.answer.Answer.{Answer}
+use Rattle.sim_perform.specs.declared.answer.Form.{Form}
+use Rattle.sim_perform.specs.declared.answer.Form.TheVariants.{Words, Json}
+use Rattle.sim_perform.specs.declared.answer.Swept.{Swept}
 use Rattle.sim_perform.specs.declared.answer.Answer.TheVariants.{Place, Seed, Nowhere, BadRange, BadCondition, BadScript}
 
 abbrev pub answer_words : Answer → List ℕ
@@ -16,10 +21,34 @@ answer_words BadRange = codes "bad range"
 answer_words BadCondition = codes "bad condition"
 answer_words BadScript = codes "bad script"
 
+abbrev pub optional : Option ℕ → Data
+optional None = null
+optional (Some n) = number (unsigned n)
+
+-- what a sweep found, with its numbers; the keys are in the order of their names
+abbrev pub swept_value : Swept → Option ℕ → Option ℕ → Data
+swept_value swept seed place = object
+    (member (codes "count") (number (unsigned swept.count))
+    (member (codes "events") (number (unsigned swept.events))
+    (member (codes "first") (number (unsigned swept.first))
+    (member (codes "place") (optional place)
+    (member (codes "seed") (optional seed)
+    no_members)))))
+
+-- JSON tells what a sweep found; all else is told in words
+abbrev pub swept_text : Swept → Answer → List ℕ
+swept_text swept (Seed i p) = compact_text (swept_value swept (Some i) (Some p))
+swept_text swept Nowhere = compact_text (swept_value swept None None)
+swept_text swept a = answer_words a
+
+abbrev pub answer_text : Form → Answer → List ℕ
+answer_text Words a = answer_words a
+answer_text (Json swept) a = swept_text swept a
+
 -- A line of the script that is at fault is told elsewhere.
-abbrev pub answer_line : Answer → List ℕ
-answer_line BadScript = []
-answer_line a = answer_words a ++ codes "\n"
+abbrev pub answer_line : Form → Answer → List ℕ
+answer_line form BadScript = []
+answer_line form a = answer_text form a ++ codes "\n"
 
 -- the status after an answer: a wrong request is told apart
 abbrev pub status_of : Answer → Status

@@ -1,5 +1,6 @@
 -- What a job writes, and the status with which it ends.
 use Rattle.std.specs.Prelude.{◌≡◌, ℕ, Bool, true, false, List, [], ◌++◌, Option, Result, Ok, Err, ◌⊎◌}
+use Rattle.std.specs.Borrow.{Bor}
 use Rattle.std.specs.Io.KnownBytes.{Appends}
 use Rattle.sim_lines.specs.Cut.{head_of}
 use Rattle.sim_lines.specs.Left.{AppendsPart}
@@ -17,7 +18,13 @@ use Rattle.sim_export.specs.declared.planned.SeedRun.{SeedRun}
 use Rattle.sim_export.specs.Exports.{Written}
 use Rattle.sim_export.specs.SeedRuns.{seed_run_right}
 use Rattle.sim_export.specs.Shrinks.{shrink_right}
+use Rattle.sim_page.specs.declared.log.LogRange.{LogRange}
+use Rattle.sim_page.specs.declared.paging.PageRequest.{PageRequest}
+use Rattle.sim_page.specs.Logs.{log_right}
+use Rattle.sim_page.specs.Pages.{page_right}
 use Rattle.sim_perform.specs.declared.answer.Answer.{Answer}
+use Rattle.sim_perform.specs.declared.answer.Form.{Form}
+use Rattle.sim_perform.specs.declared.answer.Form.TheVariants.{Words, Json}
 use Rattle.sim_perform.specs.declared.hunting.Area.{Area}
 use Rattle.sim_perform.specs.declared.hunting.Area.TheVariants.{Places}
 use Rattle.sim_perform.specs.Answers.{answer_line, status_of}
@@ -27,6 +34,12 @@ abbrev pub seed_run : FaultPlan → ℕ → ℕ → SeedRun
 seed_run plan seed events =
     record { seed = seed; events = events; faults = plan.faults; quiet = plan.quiet }
 
+abbrev pub log_range : Option ℕ → Option ℕ → Bool → LogRange
+log_range from to json = record { from = from; to = to; json = json }
+
+abbrev pub page_request : Option (Bor Text) → Option (Bor Text) → PageRequest
+page_request title watch = record { title = title; watch = watch }
+
 -- the status and the line with which a hunt ends where the reader, the writer and memory serve
 pub record Outcome : Type 0 where
   pub status : Status
@@ -35,8 +48,14 @@ pub record Outcome : Type 0 where
 abbrev pub faulty : Fault → Outcome
 faulty why = record { status = BadScenario; line = fault_line why }
 
-abbrev pub answered : Answer → Outcome
-answered a = record { status = status_of a; line = answer_line a }
+abbrev pub answered : Form → Answer → Outcome
+answered form a = record { status = status_of a; line = answer_line form a }
+
+-- a sweep is answered in words, or as JSON with its numbers
+abbrev pub form_of : Bool → ℕ → ℕ → ℕ → Form
+form_of false first count events = Words
+form_of true first count events =
+    Json (record { first = first; count = count; events = events })
 
 -- what was written of an outcome, by the status: its line, or nothing, or a beginning of the line
 abbrev pub EndsBy : Outcome → Status → Text → Type 0
@@ -54,18 +73,18 @@ WritesOutcome held holds o ended =
     ⊎ ((ended ≡ WriterFailed) × AppendsPart held holds o.line)
 
 -- the line of an answer was written with its status, or memory was wanted and nothing was written
-abbrev pub WritesAnswer : Option Text → Option Text → Answer → Status → Type 0
-WritesAnswer held holds a ended =
-    WritesOutcome held holds (answered a) ended ⊎ ((ended ≡ MemoryWanted) × Appends held holds [])
+abbrev pub WritesAnswer : Option Text → Option Text → Form → Answer → Status → Type 0
+WritesAnswer held holds form a ended =
+    WritesOutcome held holds (answered form a) ended ⊎ ((ended ≡ MemoryWanted) × Appends held holds [])
 
 -- A scenario names one of these protocols, and stands for the nodes of a run.
 module _ (protocols : List Protocol) (nodes_of : ScenarioText → Nodes) where
-  module _ (area : Area) (cond : Text) where
+  module _ (form : Form) (area : Area) (cond : Text) where
     -- the answer to a hunt, or the fault of the scenario
     abbrev pub outcome_of : Result ScenarioText Fault → Text → Outcome
     outcome_of (Err why) script = faulty why
     outcome_of (Ok s) script =
-        answered (hunt_answer (nodes_of s).rules (names_of nodes_of s) area cond script)
+        answered form (hunt_answer (nodes_of s).rules (names_of nodes_of s) area cond script)
 
     -- The outcome of a hunt for an input. The scenario is what stands before the first line `---`,
     -- and the script follows it. A sweep does not depend on the script.
@@ -87,11 +106,16 @@ module _ (protocols : List Protocol) (nodes_of : ScenarioText → Nodes) where
   Performed (jobs.Play strict) given left ended written =
       PlayedBy strict given left ended written
   Performed (jobs.Search team strict lo hi cond) given left ended written =
-      Hunted (Places lo hi strict) cond.now given ended written
-  Performed (jobs.Sweep team plan at_end script strict first count events cond) given left ended
-      written = Hunted (area_of (planned_runs plan at_end script strict first count events)) cond.now
-      given ended written
+      Hunted Words (Places lo hi strict) cond.now given ended written
+  Performed (jobs.Sweep team plan at_end script strict json first count events cond) given left
+      ended written = Hunted (form_of json first count events)
+      (area_of (planned_runs plan at_end script strict first count events)) cond.now given ended
+      written
   Performed (jobs.Script plan seed events) given left ended written =
       Written (seed_run_right (seed_run plan seed events)) protocols nodes_of given ended written
   Performed (jobs.Shrink progress cond) given left ended written =
       Written (shrink_right cond.now) protocols nodes_of given ended written
+  Performed (jobs.Log from to json) given left ended written =
+      Written (log_right (log_range from to json)) protocols nodes_of given ended written
+  Performed (jobs.Page title watch) given left ended written =
+      Written (page_right (page_request title watch)) protocols nodes_of given ended written

@@ -1,10 +1,15 @@
-//! What a search or a sweep is answered.
-ghost use Rattle.std.specs.Prelude.{◌≡◌, Some, Err, IfOk, OnErr};
-ghost use Rattle.sim_perform.specs.Answers.{answer_words, at_place, at_seed, status_of, Tells};
+//! What a search or a sweep is answered, and the line that tells it.
+ghost use Rattle.std.specs.Prelude.{◌≡◌, ◌++◌, Some, Err, IfOk, OnErr, codes, string_bytes};
+ghost use Rattle.serde_json.specs.View.{view};
+ghost use Rattle.serde_json.specs.Written.{compact_text};
+ghost use Rattle.sim_perform.specs.Answers.{answer_text, answer_words, at_place, at_seed};
+ghost use Rattle.sim_perform.specs.Answers.{optional, status_of, swept_value, Tells};
 
 use crate::Status;
+use serde_json::{Value, json};
 use sim_node::NoMemory;
 use sim_search::SearchFault;
+use std::alloc::Global;
 use std::fmt;
 
 /// The answer of a search or a sweep.
@@ -48,6 +53,81 @@ impl Answer {
             Answer::BadRange | Answer::BadCondition | Answer::BadScript => Status::BadRequest,
             Answer::Place(_) | Answer::Seed(_, _) | Answer::Nowhere => Status::Well,
         }
+    }
+}
+
+/// How an answer is written.
+#[derive(Clone, Copy, Debug, PartialEq, Eq)]
+pub enum Form {
+    /// In words.
+    Words,
+    /// What a sweep found as a JSON object, which has the numbers of the sweep too. Why there is
+    /// no such answer is told in words.
+    Json(Swept),
+}
+
+/// The numbers of a sweep.
+#[derive(Clone, Copy, Debug, PartialEq, Eq)]
+pub struct Swept {
+    pub first: u64,
+    pub count: u64,
+    pub events: u64,
+}
+
+// A number, or null.
+fn optional(number: Option<u64>) -> Value
+    ensures { view result ≡ optional number }
+{
+    match number {
+        Some(number) => Value::from(number),
+        None => Value::Null,
+    }
+}
+
+// What a sweep found: the first seed and its first failing place, or none.
+fn swept_value(
+    alloc: Global,
+    swept: Swept,
+    seed: Option<u64>,
+    place: Option<u64>,
+) -> Result<Value, NoMemory>
+    ensures { IfOk result (λ v. view v ≡ swept_value swept seed place) }
+{
+    let (seed, place) = (optional(seed), optional(place));
+    json!(in alloc; {
+        "count": swept.count,
+        "events": swept.events,
+        "first": swept.first,
+        "place": place,
+        "seed": seed,
+    })
+}
+
+// The same as a line.
+fn swept_line(
+    alloc: Global,
+    swept: Swept,
+    seed: Option<u64>,
+    place: Option<u64>,
+) -> Result<String, NoMemory>
+    ensures { IfOk result (λ s. string_bytes s
+        ≡ compact_text (swept_value swept seed place) ++ codes "\n") }
+{
+    let mut line = swept_value(alloc, swept, seed, place)?.to_string(alloc)?;
+    line.push('\n')?;
+    Ok(line)
+}
+
+/// The line of an answer.
+pub fn line_of(alloc: Global, form: Form, answer: Answer) -> Result<String, NoMemory>
+    ensures { IfOk result (λ s. string_bytes s ≡ answer_text form answer ++ codes "\n") }
+{
+    match (form, answer) {
+        (Form::Json(swept), Answer::Seed(seed, place)) => {
+            swept_line(alloc, swept, Some(seed), Some(u64::from(place)))
+        }
+        (Form::Json(swept), Answer::Nowhere) => swept_line(alloc, swept, None, None),
+        _ => format!(in alloc; "{answer}\n"),
     }
 }
 

@@ -3,14 +3,18 @@
 //!
 //! [`perform`] is the one call, for a list of at most eight protocols ([`Searchable`]). It gives a
 //! play to `sim_cli::play`, with the same contract. A search or a sweep (a hunt) reads the scenario
-//! as a play does, looks for the condition with several workers, and writes one line: `first P`, `seed I place P`, `none`, `bad range` or `bad
-//! condition`. With `--progress` it reports on standard error how many pieces are done, at most
+//! as a play does, looks for the condition with several workers, and writes one line: `first P`,
+//! `seed I place P`, `none`, `bad range` or `bad condition`. With `--json` a sweep tells what it
+//! found as a JSON object, by serde_json, and the contract gives its text by the definitions of
+//! that library. With `--progress` it reports on standard error how many pieces are done, at most
 //! twice a second; the standard output does not change.
 //!
 //! [`run`] is the whole of a program: it reads the words of the command line and gives the job to
-//! `perform`, over the standard input and output. Help goes to the standard output with status 0, a
-//! mistake to the standard error with status 2. Words that are not UTF-8 end with status 2 and are
-//! not repeated. If the standard error takes nothing, the status stays the same.
+//! `perform`, over the file that the words name or the standard input, and the standard output. A
+//! file that cannot be opened or read is told on the standard error, with status 3. Help goes to
+//! the standard output with status 0, a mistake to the standard error with status 2. Words that are
+//! not UTF-8 end with status 2 and are not repeated. If the standard error takes nothing, the
+//! status stays the same.
 //!
 //! The contract of `perform` covers all three jobs, for every reader and writer whose bytes
 //! contracts can name (`Performed` in `specs/Outcomes.antt`). What a hunt writes is a function of
@@ -42,4 +46,4 @@ pub use performing::perform;
 pub use program::run;
 pub use searchable::Searchable;
 pub use sim_cli::Status;
-pub use sim_job::{FaultPlan, Job, LineError, Team, job};
+pub use sim_job::{FaultPlan, Job, LineError, Request, Team, request};

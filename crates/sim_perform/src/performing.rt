@@ -8,17 +8,18 @@ ghost use Rattle.sim_cli.specs.Plain.{IsDone, IsPlain};
 ghost use Rattle.sim_cli.specs.Subjects.{nodes_by};
 ghost use Rattle.sim_replay.specs.Following.{Stops};
 ghost use Rattle.sim_perform.specs.Hunts.{IsTeam, area_of, found_on, hunt_answer};
-ghost use Rattle.sim_perform.specs.Outcomes.{Hunted, Performed};
+ghost use Rattle.sim_perform.specs.Outcomes.{Hunted, Performed, form_of};
 ghost use Rattle.sim_perform.specs.Outcomes.{WritesAnswer, WritesOutcome};
 
 use crate::Status;
-use crate::answer::Answer;
+use crate::answer::{Answer, Form, Swept, line_of};
 use crate::hunting::{Area, Hunt, PlannedRuns, Quest, hunt_nodes};
 use crate::searchable::Searchable;
 use sim_cli::{Answered, Opened, Subject, open, play, play_strictly, write_text};
 use sim_export::{SeedRun, Shrink, write_run, write_shrunk};
 use sim_job::Job;
 use sim_lines::Ahead;
+use sim_page::{LogRange, PageRequest, write_log, write_page};
 use sim_script::condition_of;
 use std::alloc::Global;
 use std::io::{Read, Write};
@@ -150,13 +151,13 @@ fn end_with<W: Write>(writer: &mut W, line: &[u8], status: Status) -> Status
 }
 
 // Writes the line of an answer, or nothing where the script was told to be at fault.
-fn write_answer<W: Write>(alloc: Global, writer: &mut W, answer: Answer) -> Status
-    ensures { WritesAnswer (W.contents writer.old) (W.contents writer.new) answer result }
+fn write_answer<W: Write>(alloc: Global, writer: &mut W, form: Form, answer: Answer) -> Status
+    ensures { WritesAnswer (W.contents writer.old) (W.contents writer.new) form answer result }
 {
     if let Answer::BadScript = answer {
         return end_with(writer, b"", Status::BadRequest);
     }
-    match format!(in alloc; "{answer}\n") {
+    match line_of(alloc, form, answer) {
         Ok(line) => end_with(writer, line.as_bytes(), answer.status()),
         Err(_) => Status::MemoryWanted,
     }
@@ -167,6 +168,7 @@ fn hunt_scenario<L: Searchable, H: Threads + Wait + Sync + Clock + Eprint, R: Re
     rt: &H,
     alloc: Global,
     hunt: &Hunt<'_>,
+    form: Form,
     reader: &mut R,
     writer: &mut W,
 ) -> Status
@@ -174,7 +176,7 @@ fn hunt_scenario<L: Searchable, H: Threads + Wait + Sync + Clock + Eprint, R: Re
     requires few { length L.listed ≤ 8 }
     ensures { (given : List ℕ) → R.remaining reader.old ≡ Some given →
         Ended (W.contents writer.old) (W.contents writer.new)
-        (Hunted L.listed (nodes_by L.nodes) hunt.now.area hunt.now.cond.now given result) }
+        (Hunted L.listed (nodes_by L.nodes) form hunt.now.area hunt.now.cond.now given result) }
 {
     let mut ahead = Ahead::new();
     let opened = match open::<L, R, W>(alloc, reader, &mut ahead, writer) {
@@ -182,7 +184,7 @@ fn hunt_scenario<L: Searchable, H: Threads + Wait + Sync + Clock + Eprint, R: Re
         Err(status) => return status,
     };
     match hunt_runs::<L, H, R>(rt, alloc, &opened, hunt, reader, &mut ahead) {
-        Ok(answer) => write_answer(alloc, writer, answer),
+        Ok(answer) => write_answer(alloc, writer, form, answer),
         Err(status) => status,
     }
 }
@@ -204,11 +206,19 @@ fn area_of(runs: PlannedRuns) -> Area
     }
 }
 
+// How a sweep is answered.
+fn form_of(json: bool, swept: Swept) -> Form
+    ensures { result ≡ form_of json swept.first swept.count swept.events }
+{
+    if json { Form::Json(swept) } else { Form::Words }
+}
+
 /// Carries out a job with 1 to 16 workers over a reader and a writer, for the protocols of a list.
 /// A play writes one line for each command of the script. A search or a sweep writes one line: what
-/// it found, or why it was refused. A fault of the scenario is reported first, then words that are
-/// no condition, then a bad range, and last a host or probe of the condition that the scenario does
-/// not have. If the reader fails or memory is wanted, a search or a sweep writes nothing.
+/// it found, or why it was refused. A sweep can tell what it found as JSON. A fault of the scenario
+/// is reported first, then words that are no condition, then a bad range, and last a host or probe
+/// of the condition that the scenario does not have. If the reader fails or memory is wanted, a
+/// search or a sweep writes nothing.
 ///
 /// A strict play ends with the answer to the first line of its script that is at fault: one that is
 /// no command, or whose command is refused or not taken. A strict search or sweep, and each
@@ -249,7 +259,8 @@ pub fn perform<L: Searchable, H: Threads + Wait + Sync + Clock + Eprint, R: Read
             cond,
         } => {
             let area = Area::Places { lo, hi, strict };
-            hunt_scenario::<L, H, R, W>(rt, alloc, &Hunt { area, cond, team }, reader, writer)
+            let hunt = Hunt { area, cond, team };
+            hunt_scenario::<L, H, R, W>(rt, alloc, &hunt, Form::Words, reader, writer)
         }
         Job::Sweep {
             team,
@@ -257,6 +268,7 @@ pub fn perform<L: Searchable, H: Threads + Wait + Sync + Clock + Eprint, R: Read
             at_end,
             script,
             strict,
+            json,
             first,
             count,
             events,
@@ -271,7 +283,16 @@ pub fn perform<L: Searchable, H: Threads + Wait + Sync + Clock + Eprint, R: Read
                 script,
                 strict,
             });
-            hunt_scenario::<L, H, R, W>(rt, alloc, &Hunt { area, cond, team }, reader, writer)
+            let form = form_of(
+                json,
+                Swept {
+                    first,
+                    count,
+                    events,
+                },
+            );
+            let hunt = Hunt { area, cond, team };
+            hunt_scenario::<L, H, R, W>(rt, alloc, &hunt, form, reader, writer)
         }
         Job::Script { plan, seed, events } => {
             let run = SeedRun {
@@ -284,6 +305,14 @@ pub fn perform<L: Searchable, H: Threads + Wait + Sync + Clock + Eprint, R: Read
         }
         Job::Shrink { progress, cond } => {
             write_shrunk::<L, H, R, W>(rt, alloc, Shrink { cond, progress }, reader, writer)
+        }
+        Job::Log { from, to, json } => {
+            let range = LogRange { from, to, json };
+            write_log::<L, H, R, W>(rt, alloc, range, reader, writer)
+        }
+        Job::Page { title, watch } => {
+            let asked = PageRequest { title, watch };
+            write_page::<L, H, R, W>(rt, alloc, asked, reader, writer)
         }
     }
 }

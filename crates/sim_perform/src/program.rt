@@ -1,14 +1,39 @@
-//! The whole of a program: its command line, its standard input and its standard output.
+//! The whole of a program: its command line, its input and its standard output.
 ghost use Rattle.std.specs.Prelude.{◌≤◌, length};
+ghost use Rattle.sim_job.specs.CommandLine.{HasFewWorkers};
 
 use crate::Status;
 use crate::performing::perform;
 use crate::searchable::Searchable;
-use sim_job::{LineError, job};
-use std::rt::{Clock, Env};
+use sim_job::{Job, LineError, request};
+use std::fs::File;
+use std::io::Read;
+use std::rt::{Clock, Env, Files};
 use std::sync::Wait;
 use std::thread::Threads;
 use std::{env, io};
+
+// A file that is read, and why the last read that failed did.
+#[derive(Drop)]
+struct InputFile<F: Read + Drop> {
+    file: F,
+    fault: Option<io::Error>,
+}
+
+impl<F: Read + Drop> Read for InputFile<F> {
+    ghost remaining = { λ input. F.remaining input.file };
+
+    fn read(&mut self, buf: &mut [u8]) -> io::Result<usize> {
+        match self.file.read(buf) {
+            Ok(count) => Ok(count),
+            Err(fault) => {
+                let kind = fault.kind();
+                self.fault = Some(fault);
+                Err(io::Error::from(kind))
+            }
+        }
+    }
+}
 
 // The words of the command line, the first of which names the program.
 fn words<R: Env + AllocGlobal>(rt: &R) -> io::Result<Vec<String>> {
@@ -30,29 +55,64 @@ fn tell<R: Print + Eprint>(rt: &R, fault: &LineError) -> u8 {
     fault.status()
 }
 
+// Tells that a file cannot be read, and why.
+fn tell_unread<R: Eprint>(rt: &R, name: &str, fault: &io::Error) {
+    let _told = eprintln!(rt; "error: cannot read {name:?}: {fault}");
+}
+
+// Carries out a job over the file of this name.
+fn run_file<L: Searchable, R: Threads + Wait + Sync + Clock + Files + Print + Eprint + AllocGlobal>(
+    rt: &R,
+    job: &Job<'_>,
+    name: &str,
+) -> Status
+    requires workers { HasFewWorkers job.now }
+    requires few { length L.listed ≤ 8 }
+{
+    let mut reader = match File::open(rt, name) {
+        Ok(file) => InputFile { file, fault: None },
+        Err(fault) => {
+            tell_unread(rt, name, &fault);
+            return Status::ReaderFailed;
+        }
+    };
+    let mut writer = io::writer(rt);
+    let status = perform::<L, R, _, _>(rt, rt.alloc(), job, &mut reader, &mut writer);
+    if let Some(fault) = &reader.fault {
+        if status == Status::ReaderFailed {
+            tell_unread(rt, name, fault);
+        }
+    }
+    status
+}
+
 // Carries out what the words ask for, and answers the exit status.
 fn run_words<
     L: Searchable,
-    R: Threads + Wait + Sync + Clock + Input + Print + Eprint + AllocGlobal,
+    R: Threads + Wait + Sync + Clock + Files + Input + Print + Eprint + AllocGlobal,
 >(rt: &R, words: &[String]) -> u8
     requires few { length L.listed ≤ 8 }
 {
-    match job(rt.alloc(), words) {
+    match request(rt.alloc(), words) {
         Ok(asked) => {
+            if let Some(name) = asked.file {
+                return run_file::<L, R>(rt, &asked.job, name).number();
+            }
             let mut reader = rt.reader();
             let mut writer = io::writer(rt);
-            perform::<L, R, _, _>(rt, rt.alloc(), &asked, &mut reader, &mut writer).number()
+            perform::<L, R, _, _>(rt, rt.alloc(), &asked.job, &mut reader, &mut writer).number()
         }
         Err(fault) => tell(rt, &fault),
     }
 }
 
-/// Carries out what the command line asks for, for the protocols of a list, which are at most eight,
-/// over the standard input and output. The result is the exit status, 0 to 4. It is all that a
-/// `main` does.
+/// Carries out what the command line asks for, for the protocols of a list, which are at most
+/// eight, over the file that it names, or the standard input, and the standard output. If the file
+/// cannot be opened or read, its name and the reason are told on standard error. The result is the
+/// exit status, 0 to 4. It is all that a `main` does.
 pub fn run<
     L: Searchable,
-    R: Threads + Wait + Sync + Clock + Env + Input + Print + Eprint + AllocGlobal,
+    R: Threads + Wait + Sync + Clock + Env + Files + Input + Print + Eprint + AllocGlobal,
 >(rt: &R) -> u8
     requires few { length L.listed ≤ 8 }
 {

@@ -5,4 +5,5 @@ use Rattle.sim_job.proofs.definition.play.Goals as goal
 pub returns : goal.returns
 returns c =
     let none = named _ _ c.after_help.result c.new.ensures.app c.new.ensures.local c.about.ensures c.after_help.ensures in
-    IfOk-weaker c.arg.result _ _ (λ made adds. with_argument adds none c.strict.ensures) c.arg.ensures
+    let one = with_argument c.in_ok-arg.ensures none c.strict.ensures in
+    IfOk-weaker c.arg-2.result _ _ (λ made adds. with_argument adds one c.input.ensures) c.arg-2.ensures

@@ -8,4 +8,5 @@ returns c =
     let one = with_argument c.in_ok-arg.ensures none c.faults.ensures in
     let two = with_argument c.in_ok-arg-2.ensures one c.quiet.ensures in
     let three = with_argument c.in_ok-arg-3.ensures two c.number.ensures in
-    IfOk-weaker c.arg-4.result _ _ (λ made adds. with_argument adds three c.number-2.ensures) c.arg-4.ensures
+    let four = with_argument c.in_ok-arg-4.ensures three c.number-2.ensures in
+    IfOk-weaker c.arg-5.result _ _ (λ made adds. with_argument adds four c.input.ensures) c.arg-5.ensures

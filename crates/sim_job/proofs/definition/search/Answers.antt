@@ -10,4 +10,5 @@ returns c =
     let three = with_argument c.in_ok-arg-3.ensures two c.strict.ensures in
     let four = with_argument c.in_ok-arg-4.ensures three c.number.ensures in
     let five = with_argument c.in_ok-arg-5.ensures four c.number-2.ensures in
-    IfOk-weaker c.arg-6.result _ _ (λ made adds. with_argument adds five c.cond.ensures) c.arg-6.ensures
+    let six = with_argument c.in_ok-arg-6.ensures five c.cond.ensures in
+    IfOk-weaker c.arg-7.result _ _ (λ made adds. with_argument adds six c.input.ensures) c.arg-7.ensures

@@ -12,7 +12,9 @@ returns c =
     let five = with_argument c.in_ok-arg-5.ensures four c.faults.ensures in
     let six = with_argument c.in_ok-arg-6.ensures five c.quiet.ensures in
     let seven = with_argument c.in_ok-arg-7.ensures six c.at_end.ensures in
-    let eight = with_argument c.in_ok-arg-8.ensures seven c.number.ensures in
-    let nine = with_argument c.in_ok-arg-9.ensures eight c.number-2.ensures in
-    let ten = with_argument c.in_ok-arg-10.ensures nine c.number-3.ensures in
-    IfOk-weaker c.arg-11.result _ _ (λ made adds. with_argument adds ten c.cond.ensures) c.arg-11.ensures
+    let eight = with_argument c.in_ok-arg-8.ensures seven c.flag.ensures in
+    let nine = with_argument c.in_ok-arg-9.ensures eight c.number.ensures in
+    let ten = with_argument c.in_ok-arg-10.ensures nine c.number-2.ensures in
+    let eleven = with_argument c.in_ok-arg-11.ensures ten c.number-3.ensures in
+    let twelve = with_argument c.in_ok-arg-12.ensures eleven c.cond.ensures in
+    IfOk-weaker c.arg-13.result _ _ (λ made adds. with_argument adds twelve c.input.ensures) c.arg-13.ensures

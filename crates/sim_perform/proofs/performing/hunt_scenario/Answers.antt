@@ -13,21 +13,21 @@ returns-in-Ok-hunt_runs g c = λ given e.
     let area = c.args.hunt.now.area in
     let cond = c.args.hunt.now.cond.now in
     let o = c.in-Ok.ensures.opened given start in
-    let read = opened_answer g.L.Protocols.listed g.L.Subjects.nodes area cond given _ c.in-Ok.opened o in
-    let told = told_answer (outcome g.L.Protocols.listed (nodes_by g.L.Subjects.nodes) area cond given) c.in-Ok-hunt_runs.answer c.write_answer.result
+    let read = opened_answer g.L.Protocols.listed g.L.Subjects.nodes c.args.form area cond given _ c.in-Ok.opened o in
+    let told = told_answer (outcome g.L.Protocols.listed (nodes_by g.L.Subjects.nodes) c.args.form area cond given) c.args.form c.in-Ok-hunt_runs.answer c.write_answer.result
     (g.W.Write.contents c.open.new.writer) (g.W.Write.contents c.write_answer.new.writer)
-    (read ∙ ap answered (sym (c.in-Ok-hunt_runs.ensures.answer o.head.script o.head.left))) c.write_answer.ensures in
-    subst (λ (h : Option Text). Ended h (g.W.Write.contents c.write_answer.new.writer) (Hunted g.L.Protocols.listed (nodes_by g.L.Subjects.nodes) area cond given c.write_answer.result)) c.in-Ok.ensures.same told
+    (read ∙ ap (answered c.args.form) (sym (c.in-Ok-hunt_runs.ensures.answer o.head.script o.head.left))) c.write_answer.ensures in
+    subst (λ (h : Option Text). Ended h (g.W.Write.contents c.write_answer.new.writer) (Hunted g.L.Protocols.listed (nodes_by g.L.Subjects.nodes) c.args.form area cond given c.write_answer.result)) c.in-Ok.ensures.same told
 
 pub returns-in-Err : goal.returns-in-Err
 returns-in-Err g c = λ given e.
     let start = given_is c.new-ahead.result.bytes _ given (ap (λ w. w.bytes) c.new-ahead.ensures) e in
-    not_opened g.L.Protocols.listed (nodes_by g.L.Subjects.nodes) c.args.hunt.now.area c.args.hunt.now.cond.now given c.open.new.ahead _ _ _ c.in-Err.status (c.in-Err.ensures.not given start)
+    not_opened g.L.Protocols.listed (nodes_by g.L.Subjects.nodes) c.args.form c.args.hunt.now.area c.args.hunt.now.cond.now given c.open.new.ahead _ _ _ c.in-Err.status (c.in-Err.ensures.not given start)
 
 pub returns : goal.returns
 returns g c = λ given e.
     let area = c.args.hunt.now.area in
     let cond = c.args.hunt.now.cond.now in
     let held = g.W.Write.contents c.open.new.writer in
-    subst (λ (h : Option Text). Ended h held (Hunted g.L.Protocols.listed (nodes_by g.L.Subjects.nodes) area cond given c.in-Err-hunt_runs.status)) c.in-Ok.ensures.same
-    (nothing (outcome g.L.Protocols.listed (nodes_by g.L.Subjects.nodes) area cond given) c.in-Err-hunt_runs.status held c.in-Err-hunt_runs.ensures.stops)
+    subst (λ (h : Option Text). Ended h held (Hunted g.L.Protocols.listed (nodes_by g.L.Subjects.nodes) c.args.form area cond given c.in-Err-hunt_runs.status)) c.in-Ok.ensures.same
+    (nothing (outcome g.L.Protocols.listed (nodes_by g.L.Subjects.nodes) c.args.form area cond given) c.in-Err-hunt_runs.status held c.in-Err-hunt_runs.ensures.stops)

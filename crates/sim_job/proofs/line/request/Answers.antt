@@ -1,8 +1,8 @@
 use Rattle.std.proofs.Common.{map}
 use Rattle.clap.specs.Words.{app_of}
 use Rattle.sim_job.proofs.Asked.{asks_few}
-use Rattle.sim_job.proofs.Faults.{entered_is, no_fault, some_fault, job_is, missing, told_is}
-use Rattle.sim_job.proofs.line.job.Goals as goal
+use Rattle.sim_job.proofs.Faults.{entered_is, no_fault, some_fault, request_is, missing, told_is}
+use Rattle.sim_job.proofs.line.request.Goals as goal
 
 pub returns-in-Some : goal.returns-in-Some
 returns-in-Some g c =
@@ -10,7 +10,7 @@ returns-in-Some g c =
     let found = c.in-Ok-try_get_matches_from in
     let sound = no_fault (app_of c.in-Ok.command) words c.in-Ok.ensures found.ensures.kinds in
     let same = entered_is (app_of c.in-Ok.command) words c.in-Ok.ensures found.matches found.ensures.matches in
-    record { answer = job_is words found.matches c.in-Some.asked sound same c.in-Some.ensures; workers = asks_few c.in-Some.ensures.0 c.in-Some.ensures.1 c.in-Some.asked c.in-Some.ensures.3 }
+    record { answer = request_is words found.matches c.in-Some.asked sound same c.in-Some.ensures; workers = asks_few c.in-Some.ensures.0 c.in-Some.ensures.1 c.in-Some.asked.job c.in-Some.ensures.3 }
 
 pub returns-in-Ok-try_get_matches_from : goal.returns-in-Ok-try_get_matches_from
 returns-in-Ok-try_get_matches_from g c =
