@@ -2,6 +2,7 @@
 ghost use Rattle.std.specs.Prelude.{◌<◌, ◌≤◌};
 
 use crate::dice::Dice;
+use crate::planned::Plan;
 use sim_watch::{Comparison, JoinedTerm, Op, Term, Value};
 use sim_world::{Fault, Query};
 use std::alloc::{AllocError, Global};
@@ -212,6 +213,21 @@ impl Asker {
             6 => "watch up s0 and",
             _ => "look host S0",
         })
+    }
+
+    /// Few planned events, mostly with a fault in every few of them.
+    pub fn plan(&mut self) -> Plan {
+        let spacing = 2 + self.dice.below(10);
+        let quiet = self.dice.below(40);
+        Plan {
+            faults: if self.dice.once_in(3) {
+                None
+            } else {
+                Some(spacing)
+            },
+            events: self.dice.below(80),
+            quiet: if self.dice.once_in(2) { 0 } else { quiet },
+        }
     }
 
     /// A line, mostly a command on the first branch.

@@ -1,15 +1,24 @@
-//! A case: an input at random, and what a play of it and a hunt in its runs are to write.
-use crate::answering::Branches;
+//! A case: an input at random, and what a play, a hunt, a log and a script of it are to write.
+use crate::answering::{Answer, Branches};
 use crate::asking::{Asker, Line};
 use crate::dice::Dice;
+use crate::exporting::Export;
 use crate::hunting::Hunt;
+use crate::logging::log;
 use crate::naming::Naming;
 use crate::plain::Trouble;
+use crate::planned::Fold;
 use crate::setting::Setting;
-use sim_cli::{Shipped, Status, Tally, play};
+use crate::trial::{Difference, differs};
+use sim_cli::{Status, Tally};
 use sim_node::Node;
+use sim_perform::Job;
 use sim_protocols::{AbdRegister, Echo, PrimaryBackup, Protocol, TwoPhase, probe_name};
 use std::alloc::{AllocError, Global};
+use std::fmt::Debug;
+use std::rt::Clock;
+use std::sync::Wait;
+use std::thread::Threads;
 
 /// The most probes of a protocol.
 const MOST_PROBES: u8 = 16;
@@ -17,20 +26,14 @@ const MOST_PROBES: u8 = 16;
 /// The most bytes of a line, with its end.
 const MOST_LINE: usize = 257;
 
-/// An input, what is to be written for it, and a hunt in its runs.
+/// An input, and what a play of it is to write.
 #[derive(Drop)]
-pub struct Case {
-    pub input: String,
-    /// What a play is to write.
-    pub expected: String,
-    pub hunt: Hunt,
-}
-
-/// What was written, and how it ended.
-#[derive(Drop)]
-pub struct Written {
-    pub status: Status,
-    pub text: Vec<u8>,
+struct Case {
+    naming: Naming,
+    input: String,
+    play: String,
+    /// The input without the lines that are at fault.
+    sound: String,
 }
 
 /// How many probes a protocol has.
@@ -44,119 +47,131 @@ fn probes(protocol: Protocol) -> u8 {
     count
 }
 
-/// So many lines of a script, which are written to the input. One that is too long is bad.
-fn script(
-    alloc: Global,
-    asker: &mut Asker,
-    naming: Naming,
-    count: u32,
-    input: &mut String,
-) -> Result<Vec<Line>, AllocError> {
-    let mut lines = Vec::new(alloc);
-    for _line in 0..count {
-        let line = asker.line(alloc)?;
-        let start = input.len();
-        naming.line(input, &line)?;
-        if MOST_LINE < input.len().saturating_sub(start) {
-            lines.push(Line::Bad(""))?;
-        } else {
-            lines.push(line)?;
-        }
+impl Case {
+    /// The scenario alone.
+    fn new(alloc: Global, setting: &Setting, naming: Naming) -> Result<Case, AllocError> {
+        let mut input = String::new(alloc);
+        setting.write(alloc, &mut input)?;
+        write!(input, "---\n")?;
+        Ok(Case {
+            naming,
+            sound: String::from_str(alloc, input.as_str())?,
+            input,
+            play: String::new(alloc),
+        })
     }
-    Ok(lines)
+
+    /// Adds a line, and what it is answered. One that is too long is bad.
+    fn add<N: Node>(
+        &mut self,
+        line: &Line,
+        branches: &mut Branches,
+        meter: &mut N::Meter,
+    ) -> Result<(), Trouble> {
+        let start = self.input.len();
+        self.naming.line(&mut self.input, line)?;
+        match line {
+            Line::Nothing(_) => {}
+            Line::Asked(branch, ask) if self.input.len().saturating_sub(start) <= MOST_LINE => {
+                let answer = branches.answer::<N>(*branch, ask, meter)?;
+                let events = branches.events(*branch);
+                self.naming.answer(&mut self.play, *branch, events, answer)?;
+                if !matches!(answer, Answer::Refused(_)) {
+                    self.naming.line(&mut self.sound, line)?;
+                }
+            }
+            Line::Bad(_) | Line::Asked(_, _) => write!(self.play, "bad line\n")?,
+        }
+        Ok(())
+    }
 }
 
-/// What a play of the lines is to write, and a hunt in the run that they leave.
-fn expected<N: Node>(
+/// How what is written for a case differs from what is wanted, over nodes of a type.
+fn tried_on<N: Node, R: Threads + Wait + Sync + Clock + Eprint>(
+    rt: &R,
     alloc: Global,
     setting: &Setting,
     naming: Naming,
-    lines: &[Line],
     asker: &mut Asker,
     meter: N::Meter,
-) -> Result<(String, Hunt), Trouble> {
+) -> Result<Option<Difference>, Trouble>
+where
+    N::Msg: Debug,
+{
     let Some(scenario) = setting.scenario() else {
         return Err(Trouble::Impossible);
     };
     let mut meter = meter;
-    let mut branches = Branches::new(alloc, scenario)?;
-    let mut play = String::new(alloc);
-    for line in lines {
-        match line {
-            Line::Nothing(_) => {}
-            Line::Bad(_) => write!(play, "bad line\n")?,
-            Line::Asked(branch, ask) => {
-                let answer = branches.answer::<N>(*branch, ask, &mut meter)?;
-                naming.answer(&mut play, *branch, branches.events(*branch), answer)?;
-            }
-        }
+    let mut branches = Branches::new(alloc, scenario.copy())?;
+    let mut case = Case::new(alloc, setting, naming)?;
+    for _line in 0..1 + asker.dice.below(60) {
+        case.add::<N>(&asker.line(alloc)?, &mut branches, &mut meter)?;
+    }
+    let (input, play) = (case.input.as_bytes(), case.play.as_str());
+    let job = Job::Play { strict: false };
+    if let Some(found) = differs(rt, alloc, &job, input, (Status::Well, play))? {
+        return Ok(Some(found));
     }
     let events = branches.events(0);
     let hunt = Hunt::some::<N>(alloc, asker, setting, naming, events, &mut meter)?;
-    Ok((play, hunt))
+    if let Some(found) = differs(rt, alloc, &hunt.job(), input, hunt.wanted())? {
+        return Ok(Some(found));
+    }
+    let fold = &mut Fold::<N> {
+        alloc,
+        scenario: &scenario,
+        terms: &[],
+        meter: &mut meter,
+    };
+    let log = log(fold, naming, setting.seed, events)?;
+    let job = Job::Log {
+        from: None,
+        to: None,
+        json: false,
+    };
+    let wanted = if events.is_empty() {
+        (Status::BadRequest, "bad range\n")
+    } else {
+        (Status::Well, log.as_str())
+    };
+    if let Some(found) = differs(rt, alloc, &job, case.sound.as_bytes(), wanted)? {
+        return Ok(Some(found));
+    }
+    let export = Export::some(alloc, asker, setting, naming)?;
+    export.wrong::<N, R>(rt, alloc, input, meter)
 }
 
-/// The same, over the nodes of the setting's protocol.
-fn expected_of(
+/// How what is written for the case of a number differs from what is wanted.
+pub fn tried<R: Threads + Wait + Sync + Clock + Eprint>(
+    rt: &R,
     alloc: Global,
-    setting: &Setting,
-    naming: Naming,
-    lines: &[Line],
-    asker: &mut Asker,
-) -> Result<(String, Hunt), Trouble> {
+    number: u64,
+) -> Result<Option<Difference>, Trouble> {
+    let mut dice = Dice::new(number);
+    let setting = Setting::some(&mut dice);
+    let (protocol, servers, hosts) = (setting.protocol, setting.servers, setting.hosts);
+    let naming = Naming {
+        protocol,
+        servers,
+        hosts,
+    };
+    let asker = &mut Asker {
+        dice,
+        hosts,
+        probes: probes(protocol),
+    };
     let meter = Tally::new();
-    match setting.protocol {
-        Protocol::Echo => expected::<Echo<Tally>>(alloc, setting, naming, lines, asker, meter),
+    let setting = &setting;
+    match protocol {
+        Protocol::Echo => tried_on::<Echo<Tally>, R>(rt, alloc, setting, naming, asker, meter),
         Protocol::PrimaryBackup => {
-            expected::<PrimaryBackup<Tally>>(alloc, setting, naming, lines, asker, meter)
+            tried_on::<PrimaryBackup<Tally>, R>(rt, alloc, setting, naming, asker, meter)
         }
         Protocol::AbdRegister => {
-            expected::<AbdRegister<Tally>>(alloc, setting, naming, lines, asker, meter)
+            tried_on::<AbdRegister<Tally>, R>(rt, alloc, setting, naming, asker, meter)
         }
         Protocol::TwoPhase => {
-            expected::<TwoPhase<Tally>>(alloc, setting, naming, lines, asker, meter)
-        }
-    }
-}
-
-impl Case {
-    /// The case of a number.
-    pub fn new(alloc: Global, number: u64) -> Result<Case, Trouble> {
-        let mut dice = Dice::new(number);
-        let setting = Setting::some(&mut dice);
-        let naming = Naming {
-            protocol: setting.protocol,
-            servers: setting.servers,
-            hosts: setting.hosts,
-        };
-        let mut input = String::new(alloc);
-        setting.write(alloc, &mut input)?;
-        write!(input, "---\n")?;
-        let count = 1 + dice.below(60);
-        let mut asker = Asker {
-            dice,
-            hosts: setting.hosts,
-            probes: probes(setting.protocol),
-        };
-        let lines = script(alloc, &mut asker, naming, count, &mut input)?;
-        let (expected, hunt) = expected_of(alloc, &setting, naming, lines.as_slice(), &mut asker)?;
-        Ok(Case {
-            input,
-            expected,
-            hunt,
-        })
-    }
-
-    /// What the play writes where it is not what it is to write.
-    pub fn wrong_play(&self, alloc: Global) -> Option<Written> {
-        let mut reader = self.input.as_bytes();
-        let mut text = Vec::new(alloc);
-        let status = play::<Shipped, _, _>(alloc, &mut reader, &mut text);
-        let same = status == Status::Well && text.as_slice() == self.expected.as_bytes();
-        if same {
-            None
-        } else {
-            Some(Written { status, text })
+            tried_on::<TwoPhase<Tally>, R>(rt, alloc, setting, naming, asker, meter)
         }
     }
 }

@@ -1,30 +1,39 @@
-//! Searches and sweeps at random, and what they are to write: scans of plain folds, place by place and seed by seed.
+//! Searches and sweeps at random, with planned faults and scripts too, and what they are to write: scans of plain folds, place by
+//! place and seed by seed.
 ghost use Rattle.std.specs.Prelude.{◌≤◌};
 ghost use Rattle.sim_job.specs.CommandLine.{HasFewWorkers};
 
 use crate::asking::Asker;
-use crate::case::Written;
 use crate::naming::Naming;
-use crate::plain::{Trouble, after, holds};
+use crate::plain::Trouble;
+use crate::planned::{Fold, Looked, Plan};
 use crate::refusals::bad_condition;
 use crate::setting::Setting;
-use sim_cli::Shipped;
 use sim_node::Node;
-use sim_perform::{FaultPlan, Job, Status, Team, perform};
+use sim_perform::{Job, Status, Team};
 use sim_watch::JoinedTerm;
-use sim_world::{Event, Scenario, World};
+use sim_world::Event;
 use std::alloc::{AllocError, Global};
-use std::rt::Clock;
-use std::sync::Wait;
-use std::thread::Threads;
 
 /// Where a condition is hunted for.
 #[derive(Clone, Copy)]
 enum Ground {
     /// In these places of the run that the script leaves.
     Places { lo: u32, hi: u32 },
-    /// In the runs of at most so many steps of these seeds.
-    Seeds { first: u64, count: u64, events: u32 },
+    /// In the runs of seeds.
+    Seeds(Seeds),
+}
+
+/// The runs of so many seeds, from a number on.
+#[derive(Clone, Copy)]
+struct Seeds {
+    first: u64,
+    count: u64,
+    plan: Plan,
+    /// Whether the last place of each run is looked at alone.
+    at_end: bool,
+    /// Whether each run begins with the events that the script leaves.
+    script: bool,
 }
 
 /// What is found.
@@ -49,72 +58,21 @@ pub struct Hunt {
     ghost few: { workers ≤ 16 },
 }
 
-/// The first place from `lo` on at which no alternative holds, on the way of the events.
-fn failing_place<N: Node>(
-    alloc: Global,
-    scenario: &Scenario,
-    events: &[Event],
-    lo: usize,
-    terms: &[JoinedTerm],
-    meter: &mut N::Meter,
-) -> Result<Option<usize>, Trouble> {
-    let mut world = World::<N>::start(alloc, scenario, meter)?;
-    for (place, event) in events.iter().enumerate() {
-        if lo <= place && !holds(&world, terms) {
-            return Ok(Some(place));
-        }
-        world = after(alloc, world, *event, meter)?;
-    }
-    if holds(&world, terms) {
-        Ok(None)
-    } else {
-        Ok(Some(events.len()))
-    }
-}
-
-/// The first place, at most so many steps from the start, at which no alternative holds.
-fn failing_step<N: Node>(
-    alloc: Global,
-    scenario: &Scenario,
-    steps: u32,
-    terms: &[JoinedTerm],
-    meter: &mut N::Meter,
-) -> Result<Option<usize>, Trouble> {
-    let mut world = World::<N>::start(alloc, scenario, meter)?;
-    for step in 0..steps {
-        if !holds(&world, terms) {
-            return Ok(Some(step as usize));
-        }
-        if world.can(Event::Step).is_err() {
-            return Ok(None);
-        }
-        world = after(alloc, world, Event::Step, meter)?;
-    }
-    if holds(&world, terms) {
-        Ok(None)
-    } else {
-        Ok(Some(steps as usize))
-    }
-}
-
 /// What a search of the events is to find.
 fn search<N: Node>(
-    alloc: Global,
-    scenario: &Scenario,
+    fold: &mut Fold<'_, N>,
     events: &[Event],
     (lo, hi): (u32, u32),
-    terms: &[JoinedTerm],
-    meter: &mut N::Meter,
 ) -> Result<Found, Trouble> {
     let (low, high) = (lo as usize, hi as usize);
     if high < low || events.len() < high {
         return Ok(Found::BadRange);
     }
-    if bad_condition(scenario.hosts(), N::PROBES, terms).is_some() {
+    if bad_condition(fold.scenario.hosts(), N::PROBES, fold.terms).is_some() {
         return Ok(Found::BadCondition);
     }
     let events = events.split_at(high).0;
-    match failing_place::<N>(alloc, scenario, events, low, terms, meter)? {
+    match fold.failing(events, Looked::From(low))? {
         Some(place) => Ok(Found::Place(place)),
         None => Ok(Found::Nowhere),
     }
@@ -124,23 +82,36 @@ fn search<N: Node>(
 fn sweep<N: Node>(
     alloc: Global,
     setting: &Setting,
-    hosts: u16,
-    (first, count, events): (u64, u64, u32),
+    events: &[Event],
+    seeds: Seeds,
     terms: &[JoinedTerm],
     meter: &mut N::Meter,
 ) -> Result<Found, Trouble> {
-    if count == 0 || 65_536 < events {
+    let given = if seeds.script { events } else { &[] };
+    if seeds.count == 0 {
         return Ok(Found::BadRange);
     }
-    if bad_condition(hosts, N::PROBES, terms).is_some() {
+    if bad_condition(setting.hosts, N::PROBES, terms).is_some() {
         return Ok(Found::BadCondition);
     }
-    for i in 0..count {
-        let seed = first.wrapping_add(i);
+    let looked = if seeds.at_end {
+        Looked::Last
+    } else {
+        Looked::From(0)
+    };
+    for i in 0..seeds.count {
+        let seed = seeds.first.wrapping_add(i);
         let Some(scenario) = setting.numbered(seed) else {
             return Err(Trouble::Impossible);
         };
-        if let Some(place) = failing_step::<N>(alloc, &scenario, events, terms, meter)? {
+        let planned = seeds.plan.planned(alloc, setting, seed, given)?;
+        let mut fold = Fold::<N> {
+            alloc,
+            scenario: &scenario,
+            terms,
+            meter: &mut *meter,
+        };
+        if let Some(place) = fold.failing(planned.as_slice(), looked)? {
             return Ok(Found::Seed(seed, place));
         }
     }
@@ -161,16 +132,15 @@ fn found_on<N: Node>(
     };
     match ground {
         Ground::Places { lo, hi } => {
-            search::<N>(alloc, &scenario, events, (lo, hi), terms, meter)
+            let mut fold = Fold::<N> {
+                alloc,
+                scenario: &scenario,
+                terms,
+                meter,
+            };
+            search(&mut fold, events, (lo, hi))
         }
-        Ground::Seeds {
-            first,
-            count,
-            events,
-        } => {
-            let range = (first, count, events);
-            sweep::<N>(alloc, setting, scenario.hosts(), range, terms, meter)
-        }
+        Ground::Seeds(seeds) => sweep::<N>(alloc, setting, events, seeds, terms, meter),
     }
 }
 
@@ -188,19 +158,22 @@ fn write_found(alloc: Global, found: Found) -> Result<String, AllocError> {
 impl Ground {
     /// Places of a run of so many events, seldom past its end, or a few seeds.
     fn some(asker: &mut Asker, len: usize) -> Ground {
+        let plan = asker.plan();
         let dice = &mut asker.dice;
-        if dice.once_in(2) {
+        if dice.once_in(3) {
             let most = len.min(65_536) as u32 + 2;
             Ground::Places {
                 lo: dice.below(most) / 2,
                 hi: dice.below(most),
             }
         } else {
-            Ground::Seeds {
+            Ground::Seeds(Seeds {
                 first: u64::from(dice.below(1_000)),
                 count: u64::from(dice.below(6)),
-                events: dice.below(60),
-            }
+                plan,
+                at_end: dice.once_in(4),
+                script: dice.once_in(3),
+            })
         }
     }
 }
@@ -230,34 +203,6 @@ impl Hunt {
         })
     }
 
-    /// The words that ask for it.
-    pub fn words(&self, alloc: Global) -> Result<String, AllocError> {
-        let Hunt {
-            workers,
-            condition,
-            ..
-        } = self;
-        match self.ground {
-            Ground::Places { lo, hi } => {
-                format!(in alloc; "search --workers {workers} {lo} {hi} '{condition}'")
-            }
-            Ground::Seeds {
-                first,
-                count,
-                events,
-            } => {
-                format!(in alloc;
-                    "sweep --workers {workers} {first} {count} {events} '{condition}'"
-                )
-            }
-        }
-    }
-
-    /// What it is to write.
-    pub fn expected(&self) -> &str {
-        self.expected.as_str()
-    }
-
     /// Who looks for it.
     fn team(&self) -> Team
         ensures { (1 ≤ result.workers) × (result.workers ≤ 16) }
@@ -269,7 +214,7 @@ impl Hunt {
     }
 
     /// The job of the program.
-    fn job(&self) -> Job<'_>
+    pub fn job(&self) -> Job<'_>
         ensures { HasFewWorkers result }
     {
         let cond = self.condition.as_str();
@@ -281,50 +226,27 @@ impl Hunt {
                 hi: u64::from(hi),
                 cond,
             },
-            Ground::Seeds {
-                first,
-                count,
-                events,
-            } => Job::Sweep {
+            Ground::Seeds(seeds) => Job::Sweep {
                 team: self.team(),
-                plan: FaultPlan {
-                    faults: None,
-                    quiet: 0,
-                },
-                at_end: false,
-                script: false,
+                plan: seeds.plan.asked(),
+                at_end: seeds.at_end,
+                script: seeds.script,
                 strict: false,
-                first,
-                count,
-                events: u64::from(events),
+                json: false,
+                first: seeds.first,
+                count: seeds.count,
+                events: u64::from(seeds.plan.events),
                 cond,
             },
         }
     }
 
-    /// How it is to end.
-    fn status(&self) -> Status {
-        match self.found {
+    /// How it is to end, and what it is to write.
+    pub fn wanted(&self) -> (Status, &str) {
+        let status = match self.found {
             Found::BadRange | Found::BadCondition => Status::BadRequest,
             Found::Place(_) | Found::Seed(_, _) | Found::Nowhere => Status::Well,
-        }
-    }
-
-    /// What it writes over an input where that is not what it is to write.
-    pub fn wrong<R: Threads + Wait + Sync + Clock + Eprint>(
-        &self,
-        rt: &R,
-        alloc: Global,
-        input: &str,
-    ) -> Option<Written> {
-        let mut reader = input.as_bytes();
-        let mut text = Vec::new(alloc);
-        let status = perform::<Shipped, R, _, _>(rt, alloc, &self.job(), &mut reader, &mut text);
-        let same = status == self.status() && text.as_slice() == self.expected.as_bytes();
-        if same {
-            None
-        } else {
-            Some(Written { status, text })
-        }
+        };
+        (status, self.expected.as_str())
     }
 }

@@ -1,5 +1,5 @@
-//! Compares plays, searches and sweeps of inputs at random with plain folds of events from the start: no tape, no book, no undo, and
-//! no workers.
+//! Compares plays, searches, sweeps, logs, scripts and shrinks of inputs at random with plain folds of events from the start: no
+//! tape, no book, no undo, and no workers.
 //!
 //! `tool_fuzz COUNT FIRST` tries so many cases from a number on, 300 from 0 without these words, and tells the first that differs.
 #![tactic(auto)]
@@ -8,16 +8,21 @@ mod answering;
 mod asking;
 mod case;
 mod dice;
+mod exporting;
 mod hunting;
+mod logging;
 mod naming;
 mod plain;
+mod planned;
 mod refusals;
 mod setting;
+mod shrinking;
 mod telling;
+mod trial;
 mod writing;
 
-use crate::case::{Case, Written};
-use std::alloc::Global;
+use crate::case::tried;
+use crate::trial::{Difference, Written};
 use std::process::ExitCode;
 use std::rt::Clock;
 use std::sync::Wait;
@@ -35,41 +40,19 @@ fn number_or(word: Option<String>, otherwise: u64) -> u64 {
     }
 }
 
-/// Tells how a case differs from what is wanted, asked by these words.
-fn tell<R: Print>(
-    rt: &R,
-    number: u64,
-    words: &str,
-    input: &str,
-    written: &Written,
-    wanted: &str,
-) -> io::Result<()> {
-    let Written { status, text } = written;
+/// Tells how a case differs from what is wanted.
+fn tell<R: Print>(rt: &R, number: u64, found: &Difference) -> io::Result<()> {
+    let Difference {
+        job,
+        input,
+        wanted,
+        written: Written { status, text },
+    } = found;
+    let input = str::from_utf8(input.as_slice()).unwrap_or("no text");
     let text = str::from_utf8(text.as_slice()).unwrap_or("no text");
     println!(rt;
-        "case {number} differs: {words}: {status:?}\n== input\n{input}== expected\n{wanted}== written\n{text}"
+        "case {number} differs: {job}: {status:?}\n== input\n{input}== expected\n{wanted}== written\n{text}"
     )
-}
-
-/// Tries a case, and tells whether it is as expected; if not, how it differs.
-fn is_right<R: Threads + Wait + Sync + Clock + Print + Eprint>(
-    rt: &R,
-    alloc: Global,
-    number: u64,
-    case: &Case,
-) -> io::Result<bool> {
-    let input = case.input.as_str();
-    if let Some(written) = case.wrong_play(alloc) {
-        tell(rt, number, "play", input, &written, case.expected.as_str())?;
-        return Ok(false);
-    }
-    if let Some(written) = case.hunt.wrong(rt, alloc, input) {
-        let words = case.hunt.words(alloc)?;
-        let wanted = case.hunt.expected();
-        tell(rt, number, words.as_str(), input, &written, wanted)?;
-        return Ok(false);
-    }
-    Ok(true)
 }
 
 /// Tries so many cases from a number on, up to the first that differs, and tells of it.
@@ -81,12 +64,16 @@ fn run<R: Threads + Wait + Sync + Clock + Print + Eprint + AllocGlobal>(
     let alloc = rt.alloc();
     for i in 0..count {
         let number = first.wrapping_add(i);
-        let Ok(case) = Case::new(alloc, number) else {
-            println!(rt; "case {number} could not be made")?;
-            return Ok(ExitCode::from(2));
-        };
-        if !is_right(rt, alloc, number, &case)? {
-            return Ok(ExitCode::from(1));
+        match tried(rt, alloc, number) {
+            Ok(None) => {}
+            Ok(Some(found)) => {
+                tell(rt, number, &found)?;
+                return Ok(ExitCode::from(1));
+            }
+            Err(_) => {
+                println!(rt; "case {number} could not be tried")?;
+                return Ok(ExitCode::from(2));
+            }
         }
     }
     println!(rt; "{count} cases from {first} on are as expected")?;

@@ -2,7 +2,7 @@
 use sim_node::Node;
 use sim_watch::{Comparison, JoinedTerm, Op, Term, Value};
 use sim_world::{Event, Scenario, World};
-use std::alloc::{AllocError, Global};
+use std::alloc::{AllocError, AllocFailed, Global};
 
 /// The most watches of a branch.
 const MOST_WATCHES: usize = 8;
@@ -20,6 +20,12 @@ pub enum Trouble {
 
 impl From<AllocError> for Trouble {
     fn from(_fault: AllocError) -> Trouble {
+        Trouble::NoMemory
+    }
+}
+
+impl<T: Drop> From<AllocFailed<T>> for Trouble {
+    fn from(_fault: AllocFailed<T>) -> Trouble {
         Trouble::NoMemory
     }
 }

@@ -22,7 +22,7 @@ pub struct Setting {
     pub protocol: Protocol,
     /// Whether it is written in format 2.
     second_format: bool,
-    seed: [u8; 32],
+    pub seed: [u8; 32],
     tick: u32,
     way: Way,
     link: Option<Link>,
@@ -186,13 +186,18 @@ impl Setting {
         self.seeded(self.seed)
     }
 
-    /// The scenario under a seed whose last eight bytes are a number, the least byte first.
-    pub fn numbered(&self, number: u64) -> Option<Scenario> {
+    /// The seed whose last eight bytes are a number, the least byte first.
+    pub fn numbered_seed(&self, number: u64) -> [u8; 32] {
         let mut seed = self.seed;
         for (byte, part) in seed.iter_mut().skip(24).zip(number.to_le_bytes()) {
             *byte = part;
         }
-        self.seeded(seed)
+        seed
+    }
+
+    /// The scenario under that seed.
+    pub fn numbered(&self, number: u64) -> Option<Scenario> {
+        self.seeded(self.numbered_seed(number))
     }
 
     /// The scenario under another seed.

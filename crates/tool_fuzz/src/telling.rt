@@ -114,7 +114,8 @@ impl Naming {
         }
     }
 
-    fn event(&self, text: &mut String, event: Event) -> Result<(), AllocError> {
+    /// Writes the words of an event.
+    pub fn event(&self, text: &mut String, event: Event) -> Result<(), AllocError> {
         match event {
             Event::Step => write!(text, "step"),
             Event::Advance(to) => write!(text, "advance {to}"),

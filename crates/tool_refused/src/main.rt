@@ -1,11 +1,12 @@
-//! Carries out commands on a book, from a shared book's seat, and as searches and sweeps, and gives each that wanted memory again.
+//! Carries out commands on a book, from a shared book's seat, and as whole jobs of the program, and gives each that wanted memory
+//! again.
 //!
 //! What wanted memory has left all branches as they were, and the next command goes on; so what is told in the end does not depend on
 //! which growths were refused. The program ends well where all of this is so.
 #![tactic(auto)]
 
 mod book;
-mod hunts;
+mod jobs;
 mod opening;
 mod seats;
 
@@ -51,7 +52,7 @@ fn again<T, F: Fn() -> Result<T, Trouble>>(attempt: F) -> Result<T, Trouble>
     attempt()
 }
 
-/// Tells the lines of a book, and how they compare with those of a seat and of a second time.
+/// Tells the lines of a book, which are those of a seat and of a second time too, and those of the jobs.
 fn told<R: Threads + Wait + Sync + Clock + Eprint>(
     rt: &R,
     alloc: Global,
@@ -62,8 +63,8 @@ fn told<R: Threads + Wait + Sync + Clock + Eprint>(
     if first.as_str() != second.as_str() || first.as_str() != shared.as_str() {
         return Err(Trouble::Wrong);
     }
-    hunts::all(rt, alloc)?;
-    Ok(first)
+    let others = again(|| jobs::lines(rt, alloc))?;
+    again(|| Ok(format!(in alloc; "{first}{others}")?))
 }
 
 fn main(rt: HostRuntime) -> io::Result<ExitCode> {
