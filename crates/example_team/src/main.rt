@@ -1,7 +1,22 @@
-//! Four sessions at one book, each in a thread of its own. A run of two-phase commit is crashed after more and more events, on a
-//! branch for each crash, and each session looks at what became of its own.
+//! Four sessions at one book, each in a thread of its own. A run of two-phase commit is crashed
+//! after more and more events, on a branch for each crash, and each session looks at what became of
+//! its own.
 //!
-//! Nobody says which session comes first. Since each has a branch of its own, its receipts are the same each time.
+//! docs/SESSIONS.md says what the calls promise. The program makes a book, lends it to four seats
+//! (`Shared::new`), lets each thread give seven commands through its seat, and writes the entries
+//! of each session from the history at the end.
+//!
+//! Why it is built this way:
+//!
+//! - Nobody says which session comes first. Each has a branch of its own, so its answers are the
+//!   same each time, and the gate can compare what the program writes with `stdout`. The numbers of
+//!   the entries in the whole history are not written, since they depend on the order.
+//! - Session 0 makes all branches before the threads start, since the number of a branch depends on
+//!   the order in which they are made.
+//! - A session that is refused a command ends early. The contracts of the helpers say only that a
+//!   seat stays at its book (`IsAt`), which the next call asks for.
+//! - Entries are told by `told.rt` in a few words of its own; a program that wants the lines of
+//!   `simback play` calls `sim_replies`.
 #![tactic(auto)]
 
 mod told;

@@ -55,7 +55,7 @@ fn asked(place: u32, clock: u64) -> Told {
     Told::Moved(place, clock, Stop::Asked)
 }
 
-// One server and one client with so many operations, a checkpoint after each `interval` events, and
+// One server and one client with this many operations, a checkpoint after each `interval` events, and
 // `window` records.
 fn scenario(operations: u16, interval: u32, window: u32) -> Result<Scenario, Fail> {
     let setting = Setting {
@@ -196,7 +196,7 @@ fn a_frozen_run_has_the_kept_events(rt: HostRuntime) -> Result<(), Fail> {
     has_kept(&rt, rt.alloc(), &book)
 }
 
-// A rewind from a place to the start, by so many events at a time, until a watch fails.
+// A rewind from a place to the start, by this many events at a time, until a watch fails.
 fn rewound(alloc: Global, book: &mut EchoBook, from: u32, count: u32) -> Result<Told, Fail> {
     book.turn(alloc, 0, Command::Goto(0, from))?;
     for _ in 0..from {
@@ -246,7 +246,7 @@ fn a_rewind_stops_where_one_by_one_does(rt: HostRuntime) -> Result<(), Fail> {
     Ok(())
 }
 
-// A jump is answered so, and takes so many turns, copies and undos; the only branch's world is there.
+// A jump is answered so, and takes this many turns, copies and undos; the only branch's world is there.
 fn jumps(
     rt: &impl Abort,
     alloc: Global,
@@ -306,7 +306,7 @@ fn sessions_are_numbered_apart(rt: HostRuntime) -> Result<(), Fail> {
     Ok(())
 }
 
-// So many turns at random.
+// This many turns at random.
 fn turns_at_random(rt: &impl Abort, alloc: Global, seed: u64, turns: u32) -> Result<(), Fail> {
     let scenario = scenario(9, 3, 2)?;
     let mut fold = Fold::new(alloc, &scenario)?;

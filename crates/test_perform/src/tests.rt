@@ -12,10 +12,12 @@
 //! - `planned`: the option of a sweep that is left out or taken for another; a failure under planned
 //!   faults that is not found, or found elsewhere; a number past its limit that is taken; the script of
 //!   a run that is another run; a fault that was not needed and stays.
+//! - `shown`: a log or a page that leaves an event out, or that tells another.
 //! - `strict`: `--strict` that is left out or taken for another; a line at fault that does not end the
 //!   job, or of which not all is told that a play tells.
 mod command_line;
 mod conditions;
 mod hunts;
 mod planned;
+mod shown;
 mod strict;

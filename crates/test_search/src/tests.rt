@@ -5,7 +5,7 @@
 //!   reason; a piece that is entered or left twice, or never.
 //! - `rows::searches_that_are_refused`, `rows::sweeps_that_are_refused`: a request that is refused
 //!   for want of memory in place of its reason.
-//! - `long::places_of_a_long_run`, `long::three_thousand_seeds`: a search that gives up past the
+//! - `long::places_of_a_long_run`, `long::thousands_of_seeds`: a search that gives up past the
 //!   size of the small runs, with one worker or with several.
 //! - `overlap::two_workers_search_at_once`, `overlap::two_workers_sweep_at_once`: a search or a
 //!   sweep that begins no second worker, or whose workers work one after the other.

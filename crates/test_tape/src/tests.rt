@@ -206,7 +206,7 @@ fn branches_and_frozen_runs(rt: HostRuntime) -> Result<(), Fail> {
     freezes(rt.alloc())
 }
 
-// A walk at random: first so many events are added, then so many calls are made.
+// A walk at random: first this many events are added, then this many calls are made.
 fn walk(alloc: Global, scenario: &Scenario, first: u32, calls: u32) -> Result<(), Fail> {
     let mut walk = Walk::new(alloc, scenario)?;
     walk.adds(first)?;

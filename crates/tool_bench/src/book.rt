@@ -66,7 +66,7 @@ fn opened(alloc: Global, watched: bool) -> Result<EchoBook, AllocError> {
     Ok(book)
 }
 
-// Runs of so many steps in all.
+// Runs of this many steps in all.
 fn runs(alloc: Global, watched: bool, turns: u32) -> Result<u64, AllocError> {
     let mut left = turns;
     let mut sum = 0;
@@ -97,7 +97,7 @@ fn there_and_back(alloc: Global, watched: bool, turns: u32) -> Result<u64, Alloc
 }
 
 impl BookTurn {
-    /// Takes so many turns.
+    /// Takes this many turns.
     pub fn run(self, alloc: Global, turns: u32) -> Result<u64, AllocError> {
         match self {
             BookTurn::Run => runs(alloc, false, turns),

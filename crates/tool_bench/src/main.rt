@@ -1,6 +1,23 @@
-//! Measures the layers up to the world: how many turns of each kind they do in a second, so that two states of the code can be compared.
+//! Measures the layers from the streams to shared books: how many turns of each kind they do in a
+//! second, so that two states of the code can be compared.
 //!
-//! With the word `quiet` each measure takes few turns and no time is written, so that what is written is always the same.
+//! Each line has a name, a rate, the number of turns and a checksum. docs/PERFORMANCE.md has
+//! figures with their date and machine; `bench/play.sh` and `bench/sweep.sh` measure the whole
+//! program.
+//!
+//! Why it is built this way:
+//!
+//! - Each measure mixes what its turns give into one number and writes it, so that the compiler
+//!   cannot leave out the work that is measured. A checksum that differs between two states of the
+//!   code says that they do not do the same.
+//! - With the word `quiet` each measure takes 1,000 turns and writes no time, so that the text is
+//!   always the same. The gate runs it so, and compares it with `stdout`.
+//! - It measures libraries through their public calls and not parts of them, so that a layer can be
+//!   built in another way and measured again.
+//! - No contract speaks of speed, so nothing is proved here but that the program is safe and ends.
+//!
+//! Where to find what: `main.rt` has the list of measures; each other file has the turns of the
+//! layer that it is named for.
 #![tactic(auto)]
 
 mod book;
@@ -28,13 +45,13 @@ const QUIET_TURNS: u32 = 1_000;
 /// What is measured. A turn is
 ///     `Draws`        a draw, of each stream in turn
 ///     `Undraws`      three draws and two undraws of one word, of two streams
-///     `QueueTurns`   `first`, `take_first` and `insert`, with so many pending
-///     `QueueUndos`   `take_first`, `insert`, `uninsert` and `put_back`, with so many pending
+///     `QueueTurns`   `first`, `take_first` and `insert`, with this many pending
+///     `QueueUndos`   `take_first`, `insert`, `uninsert` and `put_back`, with this many pending
 ///     `WorldSteps`   a step of a cluster of echo; a run that has ended starts anew
 ///     `WorldUndos`   a step, its undo, and the step again
 ///     `WorldCopies`  a copy of a world in the midst of a run
-///     `RingSteps`    a step whose record is kept until so many younger ones are
-///     `RingUndos`    an event where so many steps are taken and then taken back, again and again
+///     `RingSteps`    a step whose record is kept until this many younger ones are
+///     `RingUndos`    an event where this many steps are taken and then taken back, again and again
 ///     `TapeTurns`    a turn on a tape
 ///     `BookTurns`    an event of a turn of a book
 ///     `Looks`        a look of a session at a shared book
@@ -55,7 +72,7 @@ enum Measure {
 }
 
 impl Measure {
-    // Takes so many turns, and answers a number that depends on what each of them gave.
+    // Takes this many turns, and answers a number that depends on what each of them gave.
     fn run<R: Threads + Wait + Sync>(
         self,
         rt: &R,
@@ -93,7 +110,7 @@ struct Bench<'a, R> {
 }
 
 impl<R: Threads + Wait + Sync + Clock + Print + AllocGlobal> Bench<'_, R> {
-    // Takes so many turns of a measure, or under `quiet` few.
+    // Takes this many turns of a measure, or under `quiet` few.
     fn row(&self, name: &str, turns: u32, measure: Measure) -> io::Result<()> {
         let rt = self.rt;
         if self.quiet {

@@ -11,7 +11,7 @@ fn due_of(n: u32) -> u64
     u64::from(n.wrapping_mul(2_654_435_761) >> 16)
 }
 
-// A queue with so many pending.
+// A queue with this many pending.
 fn filled(alloc: Global, pending: u32) -> Result<Queue<u32>, NoMemory>
     ensures { IfOk result (λ queue. queue.next_serial ≡ pending) }
 {

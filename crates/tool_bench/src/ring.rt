@@ -11,7 +11,7 @@ use std::collections::VecDeque;
 
 type EchoUndo = Undo<Echo<Tally>>;
 
-/// The records of the last steps, at most so many.
+/// The records of the last steps, at most this many.
 #[derive(Drop)]
 struct Ring {
     records: VecDeque<EchoUndo>,
@@ -62,7 +62,7 @@ pub fn steps(alloc: Global, most: usize, turns: u32) -> Result<u64, NoMemory> {
     Ok(mixed(shown(&world), ring.records.len() as u64))
 }
 
-// Takes so many steps, or as many as there are, adds to the sum what the world shows then, and takes them back.
+// Takes this many steps, or as many as there are, adds to the sum what the world shows then, and takes them back.
 fn there_and_back(
     alloc: Global,
     world: EchoWorld,

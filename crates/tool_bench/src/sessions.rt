@@ -36,7 +36,7 @@ impl Sessions {
         }
     }
 
-    // So many looks at a new book, and a number that depends on the entries but not on their order.
+    // This many looks at a new book, and a number that depends on the entries but not on their order.
     fn share<R: Threads + Wait + Sync>(
         self,
         rt: &R,
@@ -58,7 +58,7 @@ impl Sessions {
         )
     }
 
-    /// Takes so many turns, as many by each session.
+    /// Takes this many turns, as many by each session.
     pub fn run<R: Threads + Wait + Sync>(
         self,
         rt: &R,
@@ -76,7 +76,7 @@ impl Sessions {
     }
 }
 
-// A session looks so many times.
+// A session looks this many times.
 fn look<R: Wait>(rt: &R, shared: &Shared<Node>, seat: &mut Seat<Node>, times: u32)
     requires { IsAt shared.now seat.old }
     ensures { IsAt shared.now seat.new }

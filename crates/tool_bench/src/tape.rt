@@ -10,7 +10,7 @@ use sim_tape::{NoMemory, Tape};
 use sim_world::{Event, Scenario};
 use std::alloc::Global;
 
-/// What a turn on a tape is. Checkpoints stand so many events apart, 1,024 where nothing is said.
+/// What a turn on a tape is. Checkpoints stand this many events apart, 1,024 where nothing is said.
 #[derive(Clone, Copy)]
 pub enum TapeTurn {
     /// a step that is added, with records of the last 1,024; where a run has ended, a tape of no events
@@ -23,7 +23,7 @@ pub enum TapeTurn {
     Jump(u32),
     /// the same, to a checkpoint at random: a copy of one of all its worlds, and no event
     CheckpointJump(u32),
-    /// a branch at the end of so many events
+    /// a branch at the end of this many events
     Branch(u32),
 }
 
@@ -68,7 +68,7 @@ fn add(alloc: Global, tape: &mut EchoTape, tally: &mut Tally) -> Result<bool, No
     Ok(true)
 }
 
-// A tape of so many steps, or as many as can happen.
+// A tape of this many steps, or as many as can happen.
 fn filled(
     alloc: Global,
     scenario: &Scenario,
@@ -103,7 +103,7 @@ fn adds(alloc: Global, turns: u32) -> Result<u64, NoMemory> {
     Ok(shown(&tape))
 }
 
-// Goes from the start to the end of a tape of so many events.
+// Goes from the start to the end of a tape of this many events.
 fn forward(alloc: Global, turns: u32) -> Result<u64, NoMemory> {
     let mut tally = Tally::new();
     let mut tape = filled(
@@ -165,7 +165,7 @@ fn branches(alloc: Global, events: u32, turns: u32) -> Result<u64, NoMemory> {
 }
 
 impl TapeTurn {
-    /// Takes so many turns.
+    /// Takes this many turns.
     pub fn run(self, alloc: Global, turns: u32) -> Result<u64, NoMemory> {
         match self {
             TapeTurn::Add => adds(alloc, turns),

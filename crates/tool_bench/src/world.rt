@@ -31,7 +31,7 @@ pub const MOST_EVENTS: u32 = 65_536;
 /// After how many steps a world is copied.
 const STEPS_BEFORE_COPY: u32 = 100;
 
-// So many servers and hosts, and 1,000 operations for each client.
+// This many servers and hosts, and 1,000 operations for each client.
 fn echo_setup(servers: u16, hosts: u16) -> Setup
     requires servers { 1 ≤ servers }
     requires clients { servers < hosts }
@@ -121,7 +121,7 @@ fn there_and_back(alloc: Global, world: EchoWorld, tally: &mut Tally) -> Result<
     }
 }
 
-// The world after so many steps from the start.
+// The world after this many steps from the start.
 fn walked(
     alloc: Global,
     scenario: &Scenario,

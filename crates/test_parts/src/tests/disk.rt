@@ -8,11 +8,11 @@ use std::test::Fail;
 #[derive(Clone, Copy)]
 enum Act {
     Write(u32, &'static [u8]),
-    // A write, for which a sync asks with so many writes twice; all three are taken back, the first sync by its light record.
+    // A write, for which a sync asks with this many writes twice; all three are taken back, the first sync by its light record.
     WriteAndBack(u32, &'static [u8], u32),
     // It would end past the disk.
     OutOfDisk(u32, &'static [u8]),
-    // A sync asks for so many writes, and comes.
+    // A sync asks for this many writes, and comes.
     Sync(u32),
     // The words of a crash.
     Crash(&'static [u32]),

@@ -6,7 +6,7 @@ use std::test::Fail;
 
 const INPUT: &[u8] = b"a = 1\n--- \n---\r\nstep\r\n\nlook\r";
 
-/// Gives one byte a read, and fails after so many reads.
+/// Gives one byte a read, and fails after this many reads.
 #[derive(Drop)]
 struct Pieces<'a> {
     rest: &'a [u8],
@@ -28,7 +28,7 @@ impl Read for Pieces<'_> {
     }
 }
 
-/// Takes one byte a write, and fails after so many writes.
+/// Takes one byte a write, and fails after this many writes.
 #[derive(Drop)]
 struct Narrow {
     held: Vec<u8>,
@@ -152,7 +152,7 @@ fn gathers_what_it_writes(rt: HostRuntime) -> Result<(), Fail> {
     Ok(())
 }
 
-// What a text leaves in a writer that fails after so many writes, or nothing where it does not fail.
+// What a text leaves in a writer that fails after this many writes, or nothing where it does not fail.
 fn left_after(alloc: Global, writes_left: usize, text: &[u8]) -> Option<Vec<u8>> {
     let mut writer = Narrow {
         held: Vec::new(alloc),

@@ -14,7 +14,7 @@ const COUNTED: [u8; 32] = [
 enum Act {
     // The next word of the stream.
     Draw(u16, u32),
-    // So many words back.
+    // This many words back.
     Undraw(u16, u64),
     // The place of the stream.
     Place(u16, u64),
@@ -103,7 +103,7 @@ fn words_by_place(rt: HostRuntime) {
     }
 }
 
-// Draws the words again, from so many words back on, and says whether they are the same.
+// Draws the words again, from this many words back on, and says whether they are the same.
 fn drawn_again(streams: &mut Streams, words: &[u32], back: usize) -> bool {
     let Some(from) = words.len().checked_sub(back) else {
         return false;

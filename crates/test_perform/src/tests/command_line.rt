@@ -1,18 +1,31 @@
-//! Command lines, and what is told where they ask for no job.
-use sim_job::{FaultPlan, Job, LineError, Team, job};
+//! Command lines, and what is told where they make no request.
+use sim_job::{FaultPlan, Job, LineError, Request, Team, request};
 use std::process::Abort;
 
-// The words ask for this job.
-fn asks(rt: &HostRuntime, words: &[&str], wanted: Job<'_>) -> bool {
-    match job(rt.alloc(), words) {
-        Ok(asked) => asked == wanted,
+// The words make this request.
+fn requests(rt: &HostRuntime, words: &[&str], job: Job<'_>, file: Option<&str>) -> bool {
+    match request(rt.alloc(), words) {
+        Ok(asked) => asked == Request { job, file },
+        Err(_) => false,
+    }
+}
+
+// The words ask for this job over standard input.
+fn asks(rt: &HostRuntime, words: &[&str], job: Job<'_>) -> bool {
+    requests(rt, words, job, None)
+}
+
+// The words that end with a file's name ask for a job over this file.
+fn reads(rt: &HostRuntime, words: &[&str], file: &str) -> bool {
+    match request(rt.alloc(), words) {
+        Ok(asked) => asked.file == Some(file),
         Err(_) => false,
     }
 }
 
 // Help is told, with all these texts in it.
 fn helps(rt: &HostRuntime, words: &[&str], texts: &[&str]) -> bool {
-    match job(rt.alloc(), words) {
+    match request(rt.alloc(), words) {
         Err(LineError::Help(told)) => texts.iter().all(|text| told.as_str().contains(*text)),
         _ => false,
     }
@@ -20,7 +33,7 @@ fn helps(rt: &HostRuntime, words: &[&str], texts: &[&str]) -> bool {
 
 // Usage is told, with this mistake.
 fn blames(rt: &HostRuntime, words: &[&str], mistake: &str) -> bool {
-    match job(rt.alloc(), words) {
+    match request(rt.alloc(), words) {
         Err(LineError::Usage(told)) => {
             told.as_str().contains("error: ") && told.as_str().contains(mistake)
         }
@@ -28,9 +41,9 @@ fn blames(rt: &HostRuntime, words: &[&str], mistake: &str) -> bool {
     }
 }
 
-// The exit status of words that ask for no job.
+// The exit status of words that make no request.
 fn status_of(rt: &HostRuntime, words: &[&str]) -> Option<u8> {
-    let Err(fault) = job(rt.alloc(), words) else {
+    let Err(fault) = request(rt.alloc(), words) else {
         return None;
     };
     Some(fault.status())
@@ -83,6 +96,7 @@ fn jobs(rt: HostRuntime) {
         at_end: false,
         script: false,
         strict: false,
+        json: true,
         first: 18446744073709551615,
         count: 2,
         events: 6,
@@ -97,8 +111,30 @@ fn jobs(rt: HostRuntime) {
         "up a",
         "--workers",
         "16",
+        "--json",
+        "a.play",
     ];
-    assert!(rt; asks(&rt, &words, sweep));
+    assert!(rt; requests(&rt, &words, sweep, Some("a.play")));
+}
+
+#[test]
+fn files(rt: HostRuntime) {
+    assert!(rt; reads(&rt, &["simback", "play", "--strict", "a.play"], "a.play"));
+    assert!(rt;
+        reads(
+            &rt,
+            &["simback", "search", "0", "6", "up a", "b.play"],
+            "b.play"
+        )
+    );
+    let last = ["simback", "sweep", "0", "2", "6", "up a", "--", "-x"];
+    assert!(rt; reads(&rt, &last, "-x"));
+    assert!(rt; reads(&rt, &["simback", "script", "654", "120", "c"], "c"));
+    assert!(rt; reads(&rt, &["simback", "shrink", "up a", "d"], "d"));
+    assert!(rt; reads(&rt, &["simback", "log", "--from", "2", "e"], "e"));
+    assert!(rt; reads(&rt, &["simback", "page", "f", "--title", "x"], "f"));
+    let two = ["simback", "play", "a.play", "b.play"];
+    assert!(rt; blames(&rt, &two, "unexpected argument 'b.play'"));
 }
 
 #[test]
@@ -108,16 +144,22 @@ fn help_and_version(rt: HostRuntime) {
         "play",
         "search",
         "sweep",
+        "help",
         "--help",
         "--version",
     ];
     assert!(rt; helps(&rt, &["simback", "--help"], &commands));
+    assert!(rt; helps(&rt, &["simback", "help"], &commands));
     assert!(rt; helps(&rt, &["simback", "-V"], &["simback 0.1.0"]));
     assert!(rt; helps(&rt, &["simback", "--version"], &["simback 0.1.0"]));
-    let play = ["Usage: simback play", "Example: simback play <"];
+    let play = [
+        "Usage: simback play [OPTIONS] [FILE]",
+        "Example: simback play examples/",
+    ];
     assert!(rt; helps(&rt, &["simback", "play", "--help"], &play));
+    assert!(rt; helps(&rt, &["simback", "help", "play"], &play));
     let search = [
-        "Usage: simback search [OPTIONS] <LO> <HI> <COND>",
+        "Usage: simback search [OPTIONS] <LO> <HI> <COND> [FILE]",
         "--workers <N>",
         "[default: 2]",
         "--progress",
@@ -125,7 +167,7 @@ fn help_and_version(rt: HostRuntime) {
     ];
     assert!(rt; helps(&rt, &["simback", "search", "--help"], &search));
     let sweep = [
-        "Usage: simback sweep [OPTIONS] <FIRST> <COUNT> <EVENTS> <COND>",
+        "Usage: simback sweep [OPTIONS] <FIRST> <COUNT> <EVENTS> <COND> [FILE]",
         "--workers <N>",
         "[default: 2]",
         "--progress",
@@ -140,8 +182,20 @@ fn mistakes(rt: HostRuntime) {
     assert!(rt; blames(&rt, &["simback"], "Usage: simback <COMMAND>"));
     assert_eq!(rt; status_of(&rt, &["simback"]), Some(2));
     assert!(rt; blames(&rt, &["simback", "walk"], "unrecognized subcommand 'walk'"));
-    assert!(rt; blames(&rt, &["simback", "help"], "unrecognized subcommand 'help'"));
-    assert!(rt; blames(&rt, &["simback", "play", "x"], "unexpected argument 'x'"));
+    assert!(rt;
+        blames(
+            &rt,
+            &["simback", "help", "walk"],
+            "unrecognized subcommand 'walk'"
+        )
+    );
+    assert!(rt;
+        blames(
+            &rt,
+            &["simback", "play", "--json"],
+            "unexpected argument '--json'"
+        )
+    );
     assert!(rt; blames(&rt, &["simback", "search", "0", "6"], "<COND>"));
     assert!(rt;
         blames(

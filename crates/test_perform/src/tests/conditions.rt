@@ -66,7 +66,7 @@ name = "x"
 ops = 4
 "#;
 
-// A sweep over so many seeds, of 200 events each, finds this of a condition.
+// A sweep over this many seeds, of 200 events each, finds this of a condition.
 fn finds<R: Threads + Wait + Sync + Clock + Eprint + Abort>(
     rt: &R,
     alloc: Global,

@@ -35,7 +35,7 @@ step
 look
 "#;
 
-// A search by so many workers.
+// A search by this many workers.
 fn search(workers: u64, lo: u64, hi: u64, cond: &str) -> Job<'_>
     requires { (1 ≤ workers) × (workers ≤ 16) }
     ensures { HasFewWorkers result }
@@ -52,7 +52,7 @@ fn search(workers: u64, lo: u64, hi: u64, cond: &str) -> Job<'_>
     }
 }
 
-// A sweep by so many workers.
+// A sweep by this many workers.
 pub fn sweep(workers: u64, first: u64, count: u64, events: u64, cond: &str) -> Job<'_>
     requires { (1 ≤ workers) × (workers ≤ 16) }
     ensures { HasFewWorkers result }
@@ -69,6 +69,7 @@ pub fn sweep(workers: u64, first: u64, count: u64, events: u64, cond: &str) -> J
         at_end: false,
         script: false,
         strict: false,
+        json: false,
         first,
         count,
         events,
@@ -93,7 +94,7 @@ pub fn ends<R: Threads + Wait + Sync + Clock + Eprint>(
     ended == status && written.as_slice() == want.as_bytes()
 }
 
-// The job of so many workers over the base scenario ends so, and writes this.
+// The job of this many workers over the base scenario ends so, and writes this.
 fn is_answered<R: Threads + Wait + Sync + Clock + Eprint + Abort>(
     rt: &R,
     alloc: Global,
@@ -140,7 +141,7 @@ fn sweeps_of_the_base_scenario(rt: HostRuntime) {
     }
 }
 
-// A search up to a place and a sweep over so many seeds are refused for the same fault.
+// A search up to a place and a sweep over this many seeds are refused for the same fault.
 fn are_refused<R: Threads + Wait + Sync + Clock + Eprint + Abort>(
     rt: &R,
     alloc: Global,

@@ -2,7 +2,7 @@
 use super::conditions::{ABD, PRIMARY_BACKUP};
 use super::hunts::ends;
 use sim_cli::Shipped;
-use sim_job::job;
+use sim_job::request;
 use sim_perform::{Status, perform};
 use std::alloc::{AllocError, Global};
 use std::process::Abort;
@@ -38,8 +38,8 @@ fn is_answered<R: Threads + Wait + Sync + Clock + Eprint + Abort>(
     status: Status,
     want: &str,
 ) {
-    let is = match job(alloc, words) {
-        Ok(job) => ends(rt, alloc, job, input, status, want),
+    let is = match request(alloc, words) {
+        Ok(asked) => ends(rt, alloc, asked.job, input, status, want),
         Err(_) => false,
     };
     assert!(rt; is, "{want}");
@@ -86,6 +86,25 @@ fn faults_that_break_two_phase_commit(rt: HostRuntime) {
             "seed 654 place 26\n",
         );
     }
+    let json = [
+        "simback",
+        "sweep",
+        "--json",
+        "--faults",
+        "8",
+        "0",
+        "1500",
+        "120",
+        "agree first unless 0",
+    ];
+    is_answered(
+        &rt,
+        alloc,
+        TWO_PHASE,
+        &json,
+        Status::Well,
+        "{\"count\":1500,\"events\":120,\"first\":0,\"place\":26,\"seed\":654}\n",
+    );
     let quiet = [
         "simback", "sweep", "--faults", "8", "--quiet", "500", "--at-end", "0", "1500", "120",
         "done w",
@@ -183,8 +202,8 @@ fn written<R: Threads + Wait + Sync + Clock + Eprint + Abort>(
 ) -> String {
     let mut reader = input.as_bytes();
     let mut text = Vec::new(alloc);
-    let status = match job(alloc, words) {
-        Ok(job) => perform::<Shipped, R, _, _>(rt, alloc, &job, &mut reader, &mut text),
+    let status = match request(alloc, words) {
+        Ok(asked) => perform::<Shipped, R, _, _>(rt, alloc, &asked.job, &mut reader, &mut text),
         Err(_) => Status::BadRequest,
     };
     assert!(rt; status == Status::Well);

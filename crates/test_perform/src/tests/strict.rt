@@ -1,6 +1,6 @@
 //! Strict plays, searches, sweeps and shrinkings, from the words of the command line on.
 use super::hunts::ends;
-use sim_job::job;
+use sim_job::request;
 use sim_perform::Status;
 use std::alloc::Global;
 use std::process::Abort;
@@ -37,8 +37,8 @@ fn is_answered<R: Threads + Wait + Sync + Clock + Eprint + Abort>(
 ) -> Result<(), Fail> {
     let mut input = String::from_str(alloc, SCENARIO)?;
     input.push_str(script)?;
-    let is = match job(alloc, words) {
-        Ok(job) => ends(rt, alloc, job, input.as_str(), status, want),
+    let is = match request(alloc, words) {
+        Ok(asked) => ends(rt, alloc, asked.job, input.as_str(), status, want),
         Err(_) => false,
     };
     assert!(rt; is, "{script}: {want}");

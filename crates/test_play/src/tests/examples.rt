@@ -1,4 +1,4 @@
-//! The plays of the folder `examples`, as they stand there.
+//! The plays of the folder `examples` and what they answer, byte by byte. Those that tear a write are in `torn`.
 use super::scenes::status_of;
 use sim_cli::Status;
 use std::alloc::Global;
@@ -6,6 +6,7 @@ use std::process::Abort;
 
 const FIRST_RUN: &str =
     r#"# One server `a` and one client `w`, which sends two pings. Every message takes 10 ms.
+# It shows the smallest run: a step for each thing that happens, until nothing is pending.
 format = 1
 seed = "0000000000000000000000000000000000000000000000000000000000000000"
 protocol = "echo"
@@ -43,6 +44,7 @@ place 6 clock 40 serial 6 net 8 torn 0 pending 0 held 0
 
 const PARTITION: &str =
     r#"# Two servers and two clients. The link between `a` and `w` is cut while a ping is on its way, and heals later.
+# It shows what a cut loses, and a step back over 13 events to before it.
 format = 1
 seed = "000102030405060708090a0b0c0d0e0f101112131415161718191a1b1c1d1e1f"
 protocol = "echo"
@@ -139,6 +141,7 @@ a served 0
 
 const CRASH_AND_BOUNCE: &str =
     r#"# One server and three clients. The server crashes while pings are on their way to it, and starts again.
+# It shows that what was sent to a stopped host is lost, that echo keeps nothing on its disk, and the world just before the crash.
 format = 1
 seed = "000102030405060708090a0b0c0d0e0f101112131415161718191a1b1c1d1e1f"
 protocol = "echo"
@@ -214,6 +217,7 @@ s up done no draws 2 stable 0 unsynced 0
 
 const SLOW_DISKS: &str =
     r#"# Primary-backup on slow disks. `a` is the primary, `b` the backup, and a sync takes 20 ms.
+# It shows a crash of `a` between a write and its sync: how much of each write its disk keeps, and what `a` knows after its restart.
 format = 2
 seed = "000102030405060708090a0b0c0d0e0f101112131415161718191a1b1c1d1e1f"
 protocol = "primary_backup"
@@ -295,6 +299,7 @@ b applied 0
 
 const LOSSY_DIRECTION: &str =
     r#"# Three servers keep a register. All that `c` sends to the client `w` is lost, and nothing else: a majority is enough for `w`.
+# It shows a link with numbers of its own, for one direction.
 format = 2
 seed = "000102030405060708090a0b0c0d0e0f101112131415161718191a1b1c1d1e1f"
 protocol = "abd"
@@ -381,151 +386,6 @@ w up done yes draws 6 stable 0 unsynced 0
 none
 ";
 
-const TORN_COMMIT: &str =
-    r#"# Two-phase commit on slow disks: a is the coordinator, b the participant, and a sync takes 5 ms.
-# A crash that tears the coordinator's write of its commit breaks their agreement on transaction 1.
-format = 2
-seed = "0000000000000000000000000000000000000000000000000500000000000000"
-protocol = "two_phase"
-tick = 100
-latency_min = 10
-latency_max = 10
-loss = 0
-disk_latency = 5
-servers = ["a", "b"]
-checkpoint = 4
-window = 2
-
-[[client]]
-name = "w"
-ops = 1
----
-# w asks for a transaction, a asks b for its vote, and b votes for it. At place 8 a writes that it commits:
-# transaction 1, the commit flag, and what became of transaction 1. That write is not stable yet.
-step
-step
-step
-step
-step
-step
-step
-step
-look host a
-
-# The crash tears the write after its ninth byte: the commit flag is on the disk, what became of transaction 1 is not.
-crash a
-bounce a
-look host a
-
-# At its boot a found transaction 1 open, and presumed that it was aborted (2). For b it is open (0).
-look probe a first
-look probe b first
-
-# At its start a looks at its commit flag, and tells b to commit.
-step
-look next
-step
-
-# Now transaction 1 is aborted for a and committed (1) for b.
-look probe a first
-look probe b first
-
-# A step back they still agreed.
-back 1
-look probe b first
-"#;
-
-const TORN_COMMIT_ANSWERS: &str = "place 1 clock 0
-place 2 clock 0
-place 3 clock 0
-place 4 clock 10
-place 5 clock 15
-place 6 clock 25
-place 7 clock 30
-place 8 clock 40
-a up done no draws 4 stable 10 unsynced 1
-place 9 clock 40
-place 10 clock 40
-a up done no draws 4 stable 10 unsynced 0
-a first 2
-b first 0
-place 11 clock 40
-due 50 serial 15 host b message
-place 12 clock 50
-a first 2
-b first 1
-place 11 clock 40
-b first 0
-";
-
-const WALK_BACK: &str =
-    r#"# The run of torn-commit.play, approached from behind: a watch stops the run where the servers disagree, a rewind finds where it
-# began, and a branch shows what happens without the crash.
-format = 2
-seed = "0000000000000000000000000000000000000000000000000500000000000000"
-protocol = "two_phase"
-tick = 100
-latency_min = 10
-latency_max = 10
-loss = 0
-disk_latency = 5
-servers = ["a", "b"]
-checkpoint = 4
-window = 2
-
-[[client]]
-name = "w"
-ops = 1
----
-# Servers that know of transaction 1 agree on it. Eight events in, a writes that it commits; a branch is made there for later.
-watch agree first unless 0
-run 8
-branch 8
-
-# The crash tears that write, and from the start of a on the run stops as soon as the watch fails.
-crash a
-bounce a
-run 100
-look probe a first
-look probe b first
-
-# When did a come to hold it for aborted (2)? A rewind stops at the last place where it did not.
-watch a.first = 2
-rewind 12
-look host a
-forward 1
-forward 1
-look probe a first
-
-# On the branch there was no crash: after a tick (100 ms) both have committed.
-@1 tick
-@1 look probe a first
-@1 look probe b first
-
-# All events that the first branch keeps.
-trace
-"#;
-
-const WALK_BACK_ANSWERS: &str = r#"made 0
-place 8 clock 40
-made 1
-place 9 clock 40
-place 10 clock 40
-place 12 clock 50 watch 0
-a first 2
-b first 1
-made 1
-place 8 clock 40 watch 1
-a up done no draws 4 stable 10 unsynced 1
-place 9 clock 40
-place 10 clock 40
-a first 2
-place 16 clock 140 all done
-a first 1
-b first 1
-{"branch":0,"events":["step","step","step","step","step","step","step","step","crash a","bounce a","step","step"]}
-"#;
-
 const ABORTED: &str =
     r#"# Two-phase commit on slow disks: a is the coordinator, b the participant, and a sync takes 5 ms.
 # Under this seed b votes against transaction 1, and it is aborted.
@@ -552,7 +412,7 @@ const ABORTED_ANSWERS: &str = "place 11 clock 45 all done
 ";
 
 // The play of an input writes just this.
-fn plays(rt: &impl Abort, alloc: Global, input: &str, want: &str) {
+pub fn plays(rt: &impl Abort, alloc: Global, input: &str, want: &str) {
     let status = status_of(alloc, input.as_bytes(), b"", want.as_bytes());
     assert_eq!(rt; status, Some(Status::Well), "{want}");
 }
@@ -565,7 +425,5 @@ fn plays_the_examples(rt: HostRuntime) {
     plays(&rt, alloc, CRASH_AND_BOUNCE, CRASH_AND_BOUNCE_ANSWERS);
     plays(&rt, alloc, SLOW_DISKS, SLOW_DISKS_ANSWERS);
     plays(&rt, alloc, LOSSY_DIRECTION, LOSSY_DIRECTION_ANSWERS);
-    plays(&rt, alloc, TORN_COMMIT, TORN_COMMIT_ANSWERS);
-    plays(&rt, alloc, WALK_BACK, WALK_BACK_ANSWERS);
     plays(&rt, alloc, ABORTED, ABORTED_ANSWERS);
 }

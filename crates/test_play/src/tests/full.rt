@@ -7,13 +7,15 @@ use std::alloc::{AllocError, Global};
 use std::process::Abort;
 use std::test::Fail;
 
-/// A play that fills a table: a line so many times, and a script; and a line of the answers so many times, and other answers.
+/// A play that fills a table: a line several times, and a script; and how the answers begin, a text several times, and other
+/// answers.
 #[derive(Clone, Copy)]
 struct Full {
     scene: Scene,
     line: &'static str,
     times: u32,
     script: &'static str,
+    head: &'static str,
     answer: &'static str,
     answers: u32,
     want: &'static str,
@@ -24,15 +26,16 @@ const DEAF: Scene = Scene {
     ..TWO_SERVERS
 };
 
-/// 64 branches.
+/// 64 branches, of which one late one is traced.
 const BRANCHES: Full = Full {
     scene: TWO_PINGS,
     line: "branch 0\n",
     times: 64,
-    script: "@63 step; @64 step",
+    script: "@63 step; @64 step; @60 crash a; @60 trace",
+    head: "",
     answer: "",
     answers: 0,
-    want: "made 1; made 2; made 3; made 4; made 5; made 6; made 7; made 8; made 9; made 10; made 11; made 12; made 13; made 14; made 15; made 16; made 17; made 18; made 19; made 20; made 21; made 22; made 23; made 24; made 25; made 26; made 27; made 28; made 29; made 30; made 31; made 32; made 33; made 34; made 35; made 36; made 37; made 38; made 39; made 40; made 41; made 42; made 43; made 44; made 45; made 46; made 47; made 48; made 49; made 50; made 51; made 52; made 53; made 54; made 55; made 56; made 57; made 58; made 59; made 60; made 61; made 62; made 63; refused 8 BranchesFull; place 1 clock 0; refused 1 UnknownBranch",
+    want: "made 1; made 2; made 3; made 4; made 5; made 6; made 7; made 8; made 9; made 10; made 11; made 12; made 13; made 14; made 15; made 16; made 17; made 18; made 19; made 20; made 21; made 22; made 23; made 24; made 25; made 26; made 27; made 28; made 29; made 30; made 31; made 32; made 33; made 34; made 35; made 36; made 37; made 38; made 39; made 40; made 41; made 42; made 43; made 44; made 45; made 46; made 47; made 48; made 49; made 50; made 51; made 52; made 53; made 54; made 55; made 56; made 57; made 58; made 59; made 60; made 61; made 62; made 63; refused 8 BranchesFull; place 1 clock 0; refused 1 UnknownBranch; place 1 clock 0; {\"branch\":60,\"events\":[\"crash a\"]}",
 };
 
 /// 8 watches of a branch.
@@ -41,6 +44,7 @@ const WATCHES: Full = Full {
     line: "watch up a\n",
     times: 9,
     script: "unwatch 3; watch up w",
+    head: "",
     answer: "",
     answers: 0,
     want: "made 0; made 1; made 2; made 3; made 4; made 5; made 6; made 7; refused 9 WatchesFull; dropped 3; made 3",
@@ -52,6 +56,7 @@ const COMMANDS: Full = Full {
     line: "cut\n",
     times: 65_536,
     script: "cut",
+    head: "",
     answer: "place 0 clock 0\n",
     answers: 65_536,
     want: "not taken HistoryFull",
@@ -63,9 +68,22 @@ const EVENTS: Full = Full {
     line: "",
     times: 0,
     script: "run 999999999; look; step; back 1; step; cut; step",
+    head: "",
     answer: "",
     answers: 0,
     want: "place 65536 clock 13106600 full; place 65536 clock 13106600 serial 65537 net 131068 torn 0 pending 1 held 0; refused 6 EventsFull; place 65535 clock 13106400; refused 4 NotAtEnd; place 65535 clock 13106400; place 65536 clock 13106600",
+};
+
+/// A trace of 5,000 events.
+const TRACE: Full = Full {
+    scene: DEAF,
+    line: "",
+    times: 0,
+    script: "run 5000; trace",
+    head: "place 5000 clock 999400\n{\"branch\":0,\"events\":[\"step\"",
+    answer: ",\"step\"",
+    answers: 4_999,
+    want: "]}",
 };
 
 /// 4,096 messages that are held.
@@ -74,12 +92,13 @@ const MESSAGES: Full = Full {
     line: "",
     times: 0,
     script: "hold a w; run 5000; look; release a w; look; back 1; look",
+    head: "",
     answer: "",
     answers: 0,
     want: "place 1 clock 0; place 5001 clock 999400; place 5001 clock 999400 serial 5001 net 0 torn 0 pending 1 held 4096; place 5002 clock 999400; place 5002 clock 999400 serial 9097 net 0 torn 0 pending 4097 held 0; place 5001 clock 999400; place 5001 clock 999400 serial 5001 net 0 torn 0 pending 1 held 4096",
 };
 
-/// The line so many times, and the script.
+/// The line this many times, and the script.
 fn script_of(alloc: Global, row: &Full) -> Result<String, AllocError> {
     let mut script = String::from_str(alloc, "---\n")?;
     push_times(&mut script, row.line, row.times)?;
@@ -87,9 +106,9 @@ fn script_of(alloc: Global, row: &Full) -> Result<String, AllocError> {
     Ok(script)
 }
 
-/// The answer so many times, and the other answers.
+/// How the answers begin, the repeated answer, and the other answers.
 fn answers_of(alloc: Global, row: &Full) -> Result<String, AllocError> {
-    let mut answers = String::new(alloc);
+    let mut answers = String::from_str(alloc, row.head)?;
     push_times(&mut answers, row.answer, row.answers)?;
     push_lines(&mut answers, row.want)?;
     Ok(answers)
@@ -122,6 +141,7 @@ fn fills_the_history(rt: HostRuntime) -> Result<(), Fail> {
 
 #[test]
 fn fills_events(rt: HostRuntime) -> Result<(), Fail> {
+    fills(&rt, rt.alloc(), &TRACE)?;
     Ok(fills(&rt, rt.alloc(), &EVENTS)?)
 }
 

@@ -132,7 +132,7 @@ bad line
 place 0 clock 0
 ";
 
-/// Adds what stands first, a piece so many times, and the end of the line.
+/// Adds what stands first, a piece this many times, and the end of the line.
 fn push_line(
     text: &mut String,
     first: &str,

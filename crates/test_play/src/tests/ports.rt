@@ -2,8 +2,8 @@
 use std::io;
 use std::io::{ErrorKind, Read, Write};
 
-/// Gives at most so many bytes a read, of two texts, one after the other. After so many reads it fails once; whoever reads on is
-/// given more.
+/// Gives two texts, one after the other, at most a given number of bytes a read. After a given number
+/// of reads it fails once; whoever reads on is given more.
 #[derive(Clone, Copy)]
 pub struct Pieces<'a> {
     pub rest: &'a [u8],
@@ -43,8 +43,8 @@ impl Read for Pieces<'_> {
     }
 }
 
-/// Compares what it takes with what is to come, at most so many bytes a write. After so many writes it fails once, as after so many
-/// flushes; whoever writes on has more taken.
+/// Compares what it takes with what is to come, at most a given number of bytes a write. After a given
+/// number of writes, or of flushes, it fails once; whoever writes on has more taken.
 #[derive(Clone, Copy)]
 pub struct Narrow<'a> {
     pub to_come: &'a [u8],

@@ -108,7 +108,7 @@ fn push_client(
     write!(text, "[[client]]\nname = \"w\"\nops = {ops}\n")
 }
 
-/// The scenario, with the lines for its format, so many events between two checkpoints, and so many that can be undone.
+/// The scenario, with the lines for its format, this many events between two checkpoints, and this many that can be undone.
 pub fn scenario(
     alloc: Global,
     format: &str,
@@ -124,7 +124,7 @@ pub fn scenario(
     Ok(text)
 }
 
-/// Adds a text so many times.
+/// Adds a text this many times.
 pub fn push_times(text: &mut String, piece: &str, times: u32) -> Result<(), AllocError> {
     for _ in 0..times {
         text.push_str(piece)?;

@@ -185,7 +185,8 @@ impl Example {
         self.head.len().saturating_add(self.script.len())
     }
 
-    /// How many lines answer what so many reads of a byte gave: one for each whole line, and for the rest where the reads came to the end.
+    /// How many lines answer what this many reads of a byte gave: one for each whole line, and one for the
+    /// rest if the reads came to the end.
     fn answered_lines(&self, reads: usize) -> usize {
         if reads > self.len() {
             return line_ends(self.answers);
@@ -217,7 +218,7 @@ fn plays_a_byte_at_a_time(rt: HostRuntime) {
     }
 }
 
-/// A play whose reader fails after so many reads of a byte: whole lines are written, as many as there are to be, and all flushed.
+/// A play whose reader fails after this many reads of a byte: whole lines are written, as many as there are to be, and all flushed.
 fn a_read_fails<A: Abort + Drop>(rt: &A, alloc: Global, example: &Example, reads: usize) {
     let mut reader = example.reader();
     reader.reads_left = reads;
@@ -251,7 +252,7 @@ fn answers_whole_lines_up_to_a_failed_read(rt: HostRuntime) {
     }
 }
 
-/// A play, whose reader gives so many bytes a read, ends as its writer fails after so many writes of a byte.
+/// A play, whose reader gives this many bytes a read, ends as its writer fails after this many writes of a byte.
 fn a_write_fails<A: Abort + Drop>(
     rt: &A,
     alloc: Global,
@@ -285,7 +286,7 @@ fn stops_at_a_failed_write(rt: HostRuntime) {
 
 const TWO_STEPS: &[u8] = b"place 1 clock 0\nplace 2 clock 0\n";
 
-/// A play whose writer fails after so many flushes ends there, and just this is written.
+/// A play whose writer fails after this many flushes ends there, and just this is written.
 fn a_flush_fails<A: Abort + Drop>(
     rt: &A,
     alloc: Global,
@@ -324,7 +325,7 @@ fn a_writer_that_takes_nothing_has_failed(rt: HostRuntime) {
     assert!(rt; writer.took(FIRST_ANSWERS, 0));
 }
 
-/// Gives so many marks of a comment, a byte a read.
+/// Gives this many marks of a comment, a byte a read.
 #[derive(Clone, Copy)]
 struct Marks {
     left: usize,

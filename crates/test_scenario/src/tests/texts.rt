@@ -66,7 +66,7 @@ pub fn with_crlf(alloc: Global, lines: &str) -> Result<String, AllocError> {
     Ok(text)
 }
 
-/// A scenario with a comment behind it, so that it has so many bytes, and then an end.
+/// A scenario with a comment behind it, so that it has this many bytes, and then an end.
 pub fn padded(alloc: Global, len: usize, end: &str) -> Result<String, AllocError> {
     let mut text = text_with(alloc, LINES, "")?;
     text.push_str("#")?;

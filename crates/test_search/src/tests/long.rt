@@ -1,4 +1,4 @@
-//! A run of 20,000 events and 3,000 seeds, beside plain folds.
+//! A run of 20,000 events in pieces of 1,024, and thousands of seeds, beside plain folds.
 use crate::tests::fold::{first_above, first_seed, nexts};
 use crate::tests::scenes::{crowd, frozen_run, next_at_most, tallies};
 use sim_echo::Echo;
@@ -11,7 +11,7 @@ use std::sync::Wait;
 use std::test::Fail;
 use std::thread::Threads;
 
-// A search finds what a walk over these numbers does, by 1, 2 and 4 workers.
+// A search finds what a walk over these numbers does, by 1, 9 and 16 workers.
 fn finds<R: Threads + Wait + Sync + Abort>(
     rt: &R,
     alloc: Global,
@@ -22,7 +22,7 @@ fn finds<R: Threads + Wait + Sync + Abort>(
 ) -> Result<(), Fail> {
     let cond = next_at_most(5, most)?;
     let want = first_above(seen, lo, hi, most);
-    for workers in [1, 2, 4] {
+    for workers in [1, 9, 16] {
         let meters = tallies(alloc, workers)?;
         let (lo, hi) = (u64::from(lo), u64::from(hi));
         let found = search(rt, alloc, run, lo, hi, &cond, meters, &OpenGate);
@@ -54,15 +54,21 @@ fn places_of_a_long_run(rt: HostRuntime) -> Result<(), Fail> {
     finds_each(&rt, rt.alloc(), &run, seen.as_slice())
 }
 
-// A sweep finds what plain folds of 3,000 runs do, by 1, 2 and 4 workers.
-fn sweeps<R: Threads + Wait + Sync + Abort>(rt: &R, alloc: Global, most: u64) -> Result<(), Fail> {
+// A sweep finds what plain folds of these runs of so many steps do, by 1, 2 and 9 workers.
+fn sweeps<R: Threads + Wait + Sync + Abort>(
+    rt: &R,
+    alloc: Global,
+    (count, steps): (u64, u32),
+    most: u64,
+) -> Result<(), Fail> {
     let scenario = crowd(3, 300)?;
     let cond = next_at_most(2, most)?;
-    let want = first_seed(alloc, &scenario, 2, 3_000, 100, most)?;
-    for workers in [1, 2, 4] {
+    let want = first_seed(alloc, &scenario, 2, count, steps, most)?;
+    for workers in [1, 2, 9] {
         let meters = tallies(alloc, workers)?;
+        let steps = u64::from(steps);
         let found = sweep::<Echo<Tally>, _, _>(
-            rt, alloc, &scenario, 0, 3_000, 100, &cond, meters, &OpenGate,
+            rt, alloc, &scenario, 0, count, steps, &cond, meters, &OpenGate,
         );
         assert!(rt; found == Ok(want), "above {most}: {want:?}");
     }
@@ -70,9 +76,13 @@ fn sweeps<R: Threads + Wait + Sync + Abort>(rt: &R, alloc: Global, most: u64) ->
 }
 
 #[test]
-fn three_thousand_seeds(rt: HostRuntime) -> Result<(), Fail> {
+fn thousands_of_seeds(rt: HostRuntime) -> Result<(), Fail> {
     for most in [1, 9, 10, 40] {
-        sweeps(&rt, rt.alloc(), most)?;
+        sweeps(&rt, rt.alloc(), (3_000, 100), most)?;
+    }
+    // A client whose next operation is that late has lost none of its 18 or 20 messages.
+    for most in [9, 10] {
+        sweeps(&rt, rt.alloc(), (10_000, 24), most)?;
     }
     Ok(())
 }

@@ -1,4 +1,4 @@
-//! Two workers that wait for each other at a gate, each for so many looks at most.
+//! Two workers that wait for each other at a gate, each for at most this many looks.
 use sim_search::Gate;
 use std::sync::Wait;
 use std::sync::atomic::Ordering::SeqCst;

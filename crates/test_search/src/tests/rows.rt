@@ -58,8 +58,8 @@ impl Gate for Counts {
     }
 }
 
-// The first place at which the client's next operation is above this, as so many workers find it. Each of the two pieces is entered
-// and left once.
+// The first place at which the client's next operation is above this number, as this many workers find
+// it. Each of the two pieces is entered and left once.
 fn finds<R: Threads + Wait + Sync + Abort>(
     rt: &R,
     alloc: Global,
@@ -125,7 +125,7 @@ struct Seeds {
     events: u64,
 }
 
-// How a sweep by so many workers ends.
+// How a sweep by this many workers ends.
 fn swept<R: Threads + Wait + Sync>(
     rt: &R,
     alloc: Global,

@@ -26,8 +26,8 @@ pub fn echoes() -> Result<Scenario, Fail> {
     Ok(Scenario::new([0; 32], 100, ways, 0, setup, 4, 2)?)
 }
 
-/// One server of echo and its clients, of a thousand operations each; a message takes 1 to 100 ms, and so many in a thousand are
-/// lost: a client whose message was lost goes no further.
+/// One server of echo and its clients, of a thousand operations each; a message takes 1 to 100 ms, and this many in a thousand are
+/// lost: a client whose message was lost goes no further. Checkpoints are as far apart as can be.
 pub fn crowd(hosts: u16, loss: u32) -> Result<Scenario, Fail> {
     let ways = Ways::all(Way {
         latency_min: 1,
@@ -39,7 +39,7 @@ pub fn crowd(hosts: u16, loss: u32) -> Result<Scenario, Fail> {
         hosts,
         ops: [1_000; 32],
     };
-    Ok(Scenario::new([7; 32], 100, ways, 0, setup, 256, 64)?)
+    Ok(Scenario::new([7; 32], 100, ways, 0, setup, 1_024, 64)?)
 }
 
 /// The client's next operation is at most this.
@@ -75,7 +75,7 @@ fn add<M: Meter>(alloc: Global, tape: &mut Tape<Echo<M>>, meter: &mut M) -> Resu
     Ok(true)
 }
 
-/// The run of so many steps, or of as many as can happen.
+/// The run of this many steps, or of as many as can happen.
 pub fn frozen_run<M: Meter>(
     alloc: Global,
     scenario: &Scenario,

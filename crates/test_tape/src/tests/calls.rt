@@ -53,7 +53,7 @@ pub fn goto<N: Node>(
     Ok(tape.goto(alloc, to, meter)?)
 }
 
-/// Goes back by so many events.
+/// Goes back by this many events.
 pub fn back<N: Node>(
     alloc: Global,
     tape: &mut Tape<N>,
@@ -66,7 +66,7 @@ pub fn back<N: Node>(
     Ok(tape.back(alloc, count, meter)?)
 }
 
-/// Goes forward by so many events.
+/// Goes forward by this many events.
 pub fn forward<N: Node>(
     alloc: Global,
     tape: &mut Tape<N>,

@@ -15,13 +15,13 @@ pub enum Act {
     Add(Event),
     /// A step is added, which leads to this time of the clock.
     Step(u64),
-    /// So many events back.
+    /// This many events back.
     Back(u32),
-    /// So many events forward.
+    /// This many events forward.
     Forward(u32),
     /// The events past the place are dropped.
     Cut,
-    /// The place is a number of events, of so many, at this time of the clock.
+    /// The place is a number of events, of this many, at this time of the clock.
     Place(u32, u32, u64),
     /// The view of the whole world at a place: clock, serial, net, pending, held.
     Summary(u32, u64, u64, u64, u32, u32),
@@ -29,9 +29,9 @@ pub enum Act {
     Message,
     /// No step can happen.
     Idle,
-    /// So many turns, copies and undos were counted.
+    /// This many turns, copies and undos were counted.
     Counted((u64, u64, u64)),
-    /// A jump to a place takes so many turns, copies and undos, and ends at this time of the clock.
+    /// A jump to a place takes this many turns, copies and undos, and ends at this time of the clock.
     Jump(u32, (u64, u64, u64), u64),
 }
 
@@ -96,7 +96,7 @@ impl Scene {
         self.thaws(frozen, 6, (2, 2, 0), 40)
     }
 
-    // A frozen run gives a warm tape at a place, which takes so many turns and copies.
+    // A frozen run gives a warm tape at a place, which takes this many turns and copies.
     fn thaws(
         &mut self,
         frozen: &Frozen<Echo<Counts>>,

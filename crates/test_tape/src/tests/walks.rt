@@ -40,7 +40,7 @@ enum Means {
     MakeAnew,
 }
 
-// At most so many turns, and just so many copies and undos.
+// At most this many turns, and just this many copies and undos.
 fn is_work(
     work: (u64, u64, u64),
     turns: u64,
@@ -361,7 +361,7 @@ impl Walk {
         self.is_same()
     }
 
-    /// Adds so many events at random.
+    /// Adds this many events at random.
     pub fn adds(&mut self, count: u32) -> Result<(), Fail> {
         for _event in 0..count {
             self.add()?;
@@ -369,7 +369,7 @@ impl Walk {
         Ok(())
     }
 
-    /// So many calls at random.
+    /// This many calls at random.
     pub fn turns(&mut self, count: u32) -> Result<(), Fail> {
         for _call in 0..count {
             self.turn()?;

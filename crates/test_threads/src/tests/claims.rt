@@ -106,7 +106,7 @@ impl Gate for Counts {
     }
 }
 
-// So many workers find this, and enter and leave each piece once. How many scans that took.
+// This many workers find this, and enter and leave each piece once. How many scans that took.
 fn scans_of<R: Threads + Wait + Sync + Abort>(
     rt: &R,
     alloc: Global,

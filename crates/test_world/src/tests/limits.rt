@@ -9,7 +9,7 @@ use std::alloc::Global;
 use std::test::Fail;
 use test_support::{Setting, applied, ran};
 
-// The world after its client started anew so many times, each time at once.
+// The world after its client started anew this many times, each time at once.
 fn started_anew<N: Node>(
     alloc: Global,
     world: World<N>,
@@ -34,7 +34,7 @@ fn summary(clock: u64, serial: u64, net: u64, torn: u64, pending: u32, held: u32
     }
 }
 
-// What is seen of a run whose client starts anew so many times, while all that it sends is held but
+// What is seen of a run whose client starts anew this many times, while all that it sends is held but
 // the first message.
 fn holds(alloc: Global, times: u32) -> Result<View, Fail> {
     let mut meter = Tally::new();
