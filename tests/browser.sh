@@ -28,9 +28,10 @@ drive() {                                 # drive SCRIPT ARGUMENT..
 pages() {                                 # pages EXAMPLE..
     program=${SIMBACK:-$(command -v simback)} || { echo "build simback first, or set SIMBACK" >&2; exit 2; }
     for name in "$@"; do
-        "$program" page < "examples/$name.play" > "$folder/$name.html"
+        "$program" page "${options[@]}" "examples/$name.play" > "$folder/$name.html"
     done
 }
+options=()
 for part in "${parts[@]}"; do
     case $part in
         embed)
@@ -43,6 +44,7 @@ for part in "${parts[@]}"; do
             pages "${names[@]}"
             drive tests/browser/walk.mjs "$program" "$folder" "${names[@]}" ;;
         picture)
+            options=(--title "A torn commit" --watch "agree first unless 0")
             pages torn-commit
             drive tests/browser/picture.mjs "$folder/torn-commit.html#p=9" docs/page.png ;;
         *)

@@ -73,8 +73,8 @@ async function keys() {
   const press = async selector => { const [x, y, w, h] = await box(selector); await p.click(x + w / 2, y + h / 2); };
   const after = async (key, place, what) => { await p.key(key); equal(await at(), place, what || key); };
 
-  equal(await at(), 11, 'it opens where the script left the place');
-  await after('ArrowRight', 12); await after('ArrowRight', 12, 'right at the end stays');
+  equal(await at(), 12, 'it opens at the end');
+  await after('ArrowLeft', 11); await after('ArrowRight', 12); await after('ArrowRight', 12, 'right at the end stays');
   ok(await p.evaluate('document.querySelector("#bForward").disabled'));
   await p.sleep(250); ok((await p.evaluate('location.hash')).startsWith('#p=12'), 'the address keeps the place');
   await p.key('ArrowLeft', {times: 3}); equal(await at(), 9);
