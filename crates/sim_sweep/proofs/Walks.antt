@@ -1,17 +1,20 @@
 -- A walk along a planned run goes on, and stops.
-use Rattle.std.proofs.Common.{◌≡◌, ◌⊎◌, ℕ, ◌+◌, ◌-◌, ◌<◌, ◌≤◌, true, false, not, Bool, List, [], ◌∷◌, Some, None, length, drop, get_or, refl, sym, ap, ◌∙◌, subst, arith, inl, inr}
+use Rattle.std.proofs.Common.{◌≡◌, ◌⊎◌, ℕ, ◌+◌, ◌-◌, ◌<◌, ◌≤◌, true, false, not, Bool, List, [], ◌∷◌, Option, Some, None, length, drop, get_or, refl, sym, ap, ◌∙◌, subst, arith, inl, inr}
 use Rattle.std.specs.Prelude.{if◌then◌else◌}
+use Rattle.std.specs.Option.{unwrap_or}
 use Rattle.std.proofs.lemmas.List.{length-drop, drop_more}
 use Rattle.sim_node.specs.Node.{NodeLaws}
+use Rattle.sim_node.specs.Work.{Work}
 use Rattle.sim_world.specs.declared.Event.{Event}
 use Rattle.sim_world.specs.declared.Event.TheVariants as event
 use Rattle.sim_world.specs.World.{Scenario}
 use Rattle.sim_world.specs.Records.{InHand}
 use Rattle.sim_world.specs.Events.{Rules, rules, start, next}
+use Rattle.sim_tape.specs.Works.{OnlyTurns}
 use Rattle.sim_tape.proofs.Placing.{at-next}
 use Rattle.sim_watch.specs.Condition.{Cond, holds}
 use Rattle.sim_watch.specs.Search.{fails_at, first_failing}
-use Rattle.sim_watch.proofs.Scans.{at_start, fails_here, found_is, found_none}
+use Rattle.sim_watch.proofs.Scans.{at_start, fails_here, found_is, found_none, turns_within}
 use Rattle.sim_plan.specs.Happening.{happening}
 use Rattle.sim_plan.proofs.Runs.{happening_on, happening_off}
 use Rattle.sim_sweep.specs.Planned.{failing_of_run}
@@ -104,6 +107,10 @@ module _ {State Msg : Type 0} (node : NodeLaws State Msg) (probes : ℕ) (c : Co
   walking_most p q w v A B (inl on) at was = omega (arith, at, was, on.1)
   walking_most p q w v A B (inr off) at was = let same = ap (λ (x : InHand State Msg). x.age) off.1 in omega (arith, at, was, same)
 
+  pub walking_least : (p q : ℕ) (w v : InHand State Msg) (A B : Type 0) → (A × (v.age ≡ w.age + 1)) ⊎ (B × (v ≡ w)) → q ≡ v.age → p ≡ w.age → p ≤ q
+  walking_least p q w v A B (inl on) at was = omega (arith, at, was, on.1)
+  walking_least p q w v A B (inr off) at was = let same = ap (λ (x : InHand State Msg). x.age) off.1 in omega (arith, at, was, same)
+
   -- the first failing place of all
   pub found_early : (run : List Event) (p : ℕ) (w : InHand State Msg) (rest : List Event) → IsWalking the_rules c at_end run p w rest → at_end ≡ false → not (holds node c w.world) ≡ true
       → Some p ≡ failing_of_run the_rules at_end c run
@@ -141,3 +148,24 @@ module _ {State Msg : Type 0} (node : NodeLaws State Msg) (probes : ℕ) (c : Co
             | inl same ↦ ap (fails_at the_rules c run) same ∙ here ∙ bad
             | inr less ↦ h.before last j less
           ])
+
+-- the turns up to a place, and from there on
+pub turns_on : (hosts p q : ℕ) (a b d : Work) → p ≤ q → OnlyTurns (hosts + p) a b → OnlyTurns (q - p) b d → OnlyTurns (hosts + q) a d
+turns_on hosts p q a b d le h on =
+    let x = h.turns in
+    let y = on.turns in
+    record { turns = omega (arith, x, y, le); copies = on.copies ∙ h.copies; undos = on.undos ∙ h.undos }
+
+-- the turns up to the place that is found, or up to the last
+pub turns_found : (hosts p most : ℕ) (fails : Bool) (found : Option ℕ) (a b : Work) → found ≡ (if fails then Some p else None) → p ≤ most
+    → OnlyTurns (hosts + p) a b → OnlyTurns (hosts + unwrap_or found most) a b
+turns_found hosts p most true found a b is le h = subst (λ (o : Option ℕ). OnlyTurns (hosts + unwrap_or o most) a b) (sym is) h
+turns_found hosts p most false found a b is le h =
+    subst (λ (o : Option ℕ). OnlyTurns (hosts + unwrap_or o most) a b) (sym is) (turns_within (hosts + p) (hosts + most) a b (omega arith) h)
+
+-- no turn at all, and at most one
+pub turns_none : (p : ℕ) (a : Work) → OnlyTurns (p - p) a a
+turns_none p a = record { turns = omega arith; copies = refl; undos = refl }
+
+pub turns_once : (p : ℕ) (a b : Work) → OnlyTurns 1 a b → OnlyTurns (p + 1 - p) a b
+turns_once p a b h = turns_within 1 (p + 1 - p) a b (omega arith) h

@@ -1,8 +1,10 @@
 //! A walk along a planned run.
-ghost use Rattle.std.specs.Prelude.{◌≡◌, ◌<◌, ◌≤◌, ◌+◌, ◌⊎◌, ℕ, IfOk, None, Some, IsSome, length, not, true, false, if◌then◌else◌};
+ghost use Rattle.std.specs.Prelude.{◌≡◌, ◌<◌, ◌≤◌, ◌+◌, ◌-◌, ◌⊎◌, ℕ, IfOk, OnOk, None, Some, IsSome, length, not, true, false, if◌then◌else◌};
 ghost use Rattle.std.specs.Prelude.{slice_index_or};
+ghost use Rattle.std.specs.Option.{unwrap_or};
 ghost use Rattle.std.specs.List.{list_any};
 ghost use Rattle.sim_world.specs.Events.{rules, next, start};
+ghost use Rattle.sim_tape.specs.Works.{OnlyTurns};
 ghost use Rattle.sim_watch.specs.Condition.{Cond as Condition, holds, fault_of, concerns, terms};
 ghost use Rattle.sim_plan.specs.Happening.{happening};
 ghost use Rattle.sim_sweep.specs.Planned.{failing_of_run};
@@ -47,6 +49,7 @@ impl<'a, N: Node> Watcher<'a, N> {
         ensures scenario { IfOk result (λ r. r.0.scenario ≡ world.scenario) }
         ensures age { IfOk result (λ r. r.0.age ≡ world.age + 1) }
         ensures cond { self.new.cond.now ≡ self.old.cond.now }
+        ensures work { OnOk result (OnlyTurns 1 (N.Meter.work meter.old) (N.Meter.work meter.new)) }
         ensures same { IfOk result (λ r. r.1 ≡ false → holds N.laws self.old.cond.now r.0.world ≡ holds N.laws self.old.cond.now world.world) }
     {
         match event {
@@ -82,6 +85,7 @@ impl<N: Node> Spot<N> {
         ensures world { IfOk result (λ s. s.world ≡ record { world = start (rules N.laws N.PROBES scenario.now); scenario = scenario.now; age = 0 }) }
         ensures place { IfOk result (λ s. s.place ≡ 0) }
         ensures fails { IfOk result (λ s. s.fails ≡ not (holds N.laws cond.now s.world.world)) }
+        ensures work { OnOk result (OnlyTurns scenario.now.setup.hosts (N.Meter.work meter.old) (N.Meter.work meter.new)) }
     {
         let world = World::<N>::start(alloc, scenario, meter)?;
         let fails = !holds(cond, &world);
@@ -111,6 +115,7 @@ impl<N: Node> Spot<N> {
         ensures place { IfOk result (λ s. s.place ≡ s.world.age) }
         ensures cond { watcher.new.cond.now ≡ watcher.old.cond.now }
         ensures fails { IfOk result (λ s. s.fails ≡ not (holds N.laws watcher.old.cond.now s.world.world)) }
+        ensures work { IfOk result (λ s. OnlyTurns (s.place - self.place) (N.Meter.work meter.old) (N.Meter.work meter.new)) }
     {
         match self.world.can(event) {
             Err(_) => return Ok(self),
@@ -149,8 +154,9 @@ impl<N: Node> Spot<N> {
 }
 
 /// Looks for the least place of a run at which a condition, which was checked, fails. The run begins at the start of the scenario
-/// and has the events of the planner that can happen, one after the other. With `at_end` its last place is looked at alone. The
-/// only error is want of memory.
+/// and has the events of the planner that can happen, one after the other. With `at_end` its last place is looked at alone. Each
+/// host is booted once, and at most one turn is counted for each event up to the place that is found. The only error is want of
+/// memory.
 pub fn scan_planned<N: Node>(
     alloc: Global,
     scenario: &Scenario,
@@ -161,8 +167,11 @@ pub fn scan_planned<N: Node>(
 ) -> Result<Option<u32>, NoMemory>
     requires few { length planner ≤ 65536 }
     requires checked { fault_of scenario.now.setup.hosts N.PROBES cond.now ≡ None }
-    ensures { IfOk result (λ found. found ≡ failing_of_run (rules N.laws N.PROBES scenario.now) at_end cond.now
+    ensures place { IfOk result (λ found. found ≡ failing_of_run (rules N.laws N.PROBES scenario.now) at_end cond.now
         (happening (rules N.laws N.PROBES scenario.now) (start (rules N.laws N.PROBES scenario.now)) planner.entry)) }
+    ensures work { IfOk result (λ found. OnlyTurns (scenario.now.setup.hosts + unwrap_or found
+        (length (happening (rules N.laws N.PROBES scenario.now) (start (rules N.laws N.PROBES scenario.now)) planner.entry)))
+        (N.Meter.work meter.old) (N.Meter.work meter.new)) }
 {
     let mut watcher = Watcher::new(alloc, cond);
     let mut spot = Spot::<N>::start(alloc, scenario, cond, meter)?;

@@ -1,10 +1,10 @@
-use Rattle.std.proofs.Common.{not, length, sym, ap, ◌∙◌, arith}
+use Rattle.std.proofs.Common.{◌+◌, not, length, sym, ap, ◌∙◌, arith}
 use Rattle.sim_world.specs.World.{Scenario}
 use Rattle.sim_world.specs.Events.{rules, start}
 use Rattle.sim_watch.specs.Condition.{Cond, holds, fault_of}
-use Rattle.sim_watch.proofs.Scans.{fails_here}
+use Rattle.sim_watch.proofs.Scans.{fails_here, turns_within}
 use Rattle.sim_plan.specs.Happening.{happening}
-use Rattle.sim_sweep.proofs.Walks.{walking_start, walking_on, walking_young, walking_room, walking_most, found_early, found_late}
+use Rattle.sim_sweep.proofs.Walks.{turns_on, turns_found, walking_least, walking_start, walking_on, walking_young, walking_room, walking_most, found_early, found_late}
 use Rattle.sim_sweep.proofs.walk.scan_planned.Goals as goal
 
 pub loop-event-init : goal.loop-event-init
@@ -17,6 +17,7 @@ loop-event-init g c =
       c.in_ok-spot.ensures.fails,
       c.new-watcher.ensures,
       omega (arith, long, first, c.requires.few),
+      turns_within c.args.scenario.now.setup.hosts (c.args.scenario.now.setup.hosts + c.in_ok-spot.spot.place) _ _ (omega arith) c.in_ok-spot.ensures.work,
     )
 
 pub passed-requires-clause-checked : goal.passed-requires-clause-checked
@@ -40,8 +41,8 @@ pub passed-requires-clause-fails : goal.passed-requires-clause-fails
 passed-requires-clause-fails g c =
     c.loop-event.invariant.1 ∙ ap (λ (x : Cond). not (holds g.N.Node.laws x c.loop-event.spot.world.world)) (sym c.loop-event.invariant.2)
 
-pub returns-then-is_found : goal.returns-then-is_found
-returns-then-is_found g c =
+pub returns-then-is_found-clause-place : goal.returns-then-is_found-clause-place
+returns-then-is_found-clause-place g c =
     let r = rules g.N.Node.laws g.N.Node.PROBES c.args.scenario.now in
     let yes = c.is_found.ensures.yes c.if-is_found.true in
     found_early g.N.Node.laws g.N.Node.PROBES c.args.cond.now c.args.scenario.now c.args.at_end (happening r (start r) c.args.planner) c.loop-event.spot.place c.loop-event.spot.world c.loop-event.event-iterator
@@ -63,11 +64,20 @@ loop-event-preserved g c =
       walking_room node g.N.Node.PROBES c.args.cond.now c.args.scenario.now c.args.at_end spot.place c.in_ok-spot-2.spot.place 65536 c.loop-event.event-iterator c.next.new.self c.in-Some.event
           c.in-Some.ensures.steps c.loop-event.invariant.3
           (walking_most node g.N.Node.PROBES c.args.cond.now c.args.scenario.now c.args.at_end spot.place c.in_ok-spot-2.spot.place spot.world c.in_ok-spot-2.spot.world _ _ ens.on ens.place (sym h.here.age)),
+      turns_on c.args.scenario.now.setup.hosts spot.place c.in_ok-spot-2.spot.place _ _ _
+          (walking_least node g.N.Node.PROBES c.args.cond.now c.args.scenario.now c.args.at_end spot.place c.in_ok-spot-2.spot.place spot.world c.in_ok-spot-2.spot.world _ _ ens.on ens.place (sym h.here.age))
+          c.loop-event.invariant.4 ens.work,
     )
 
-pub returns : goal.returns
-returns g c =
+pub returns-clause-place : goal.returns-clause-place
+returns-clause-place g c =
     let r = rules g.N.Node.laws g.N.Node.PROBES c.args.scenario.now in
     c.finding.ensures
     ∙ found_late g.N.Node.laws g.N.Node.PROBES c.args.cond.now c.args.scenario.now c.args.at_end (happening r (start r) c.args.planner) c.loop-event.spot.place c.loop-event.spot.world c.loop-event.event-iterator
     c.loop-event.spot.fails c.loop-event.invariant.0 c.in-None.ensures.steps.0 c.loop-event.invariant.1
+
+pub returns-clause-work : goal.returns-clause-work
+returns-clause-work g c =
+    let r = rules g.N.Node.laws g.N.Node.PROBES c.args.scenario.now in
+    turns_found c.args.scenario.now.setup.hosts c.loop-event.spot.place (length (happening r (start r) c.args.planner)) c.loop-event.spot.fails _ _ _
+    c.finding.ensures c.loop-event.invariant.0.within c.loop-event.invariant.4

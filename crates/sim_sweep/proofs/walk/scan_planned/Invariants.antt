@@ -1,5 +1,6 @@
 use Rattle.std.proofs.Common.{◌≡◌, ◌+◌, ◌≤◌, not, length}
 use Rattle.sim_world.specs.Events.{rules, start}
+use Rattle.sim_tape.specs.Works.{OnlyTurns}
 use Rattle.sim_watch.specs.Condition.{holds}
 use Rattle.sim_plan.specs.Happening.{happening}
 use Rattle.sim_sweep.specs.Walking.{IsWalking}
@@ -12,3 +13,4 @@ invariant-loop-event g l =
     × (l.spot.fails ≡ not (holds g.N.Node.laws l.cond l.spot.world.world))
     × (l.watcher.cond.now ≡ l.cond)
     × (l.spot.place + length l.event-iterator ≤ 65536)
+    × OnlyTurns (l.scenario.setup.hosts + l.spot.place) (g.N.Meter.Meter.work l.fn.meter) (g.N.Meter.Meter.work l.meter)

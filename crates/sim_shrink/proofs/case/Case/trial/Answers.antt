@@ -19,4 +19,4 @@ returns g c =
     let case = c.args.self.now in
     let r = rules g.N.Node.laws g.N.Node.PROBES case.scenario.now in
     subst (λ (es : List Event). IfOk c.scan_planned.result (λ (found : Option ℕ). found ≡ failing r case.cond.now es))
-    (c.of_events-planner.ensures ∙ c.deref.ensures.value ∙ c.in_ok-left.ensures) c.scan_planned.ensures
+    (c.of_events-planner.ensures ∙ c.deref.ensures.value ∙ c.in_ok-left.ensures) c.scan_planned.ensures.place

@@ -8,4 +8,4 @@ returns g c =
     let course = runs.course.now in
     subst (λ (z : Option ℕ). IfOk c.scan_planned.result (λ (r : Option ℕ). r ≡ z))
     (scan_is g.N.Node.laws g.N.Node.PROBES runs.cond.now course.scenario.now c.numbered-scenario.result (runs.first + c.args.number) course.given.now c.new-planner.result course.plan
-    c.numbered-scenario.ensures c.new-planner.ensures.events) c.scan_planned.ensures
+    c.numbered-scenario.ensures c.new-planner.ensures.events) c.scan_planned.ensures.place
