@@ -1,5 +1,7 @@
--- The tables of the counter: a client asks a server to add one, the server saves its count and tells the client.
-use Rattle.std.specs.Prelude.{ℕ, ◌+◌, ◌-◌, ◌%◌, ◌^◌, ◌==◌, nat_le, ◌&&◌, min, length, slice_index, List, [], ◌∷◌, if◌then◌else◌}
+-- The tables of the counter: a client asks a server to add one, the server saves its count and
+-- tells the client.
+use Rattle.std.specs.Prelude.{ℕ, ◌+◌, ◌-◌, ◌%◌, ◌^◌, ◌==◌, nat_le, ◌&&◌, min, length, slice_index}
+use Rattle.std.specs.Prelude.{List, [], ◌∷◌, if◌then◌else◌}
 use Rattle.std.specs.Int.{w64, to_le_bytes, from_le_bytes}
 use Rattle.sim_node.specs.declared.Setup.{Setup}
 use Rattle.sim_node.specs.declared.Input.{Input}
@@ -25,7 +27,13 @@ abbrev pub count_on : List ℕ → ℕ
 count_on bytes = if length bytes == 8 then from_le_bytes w64 bytes else 0
 
 abbrev pub boot : Setup → ℕ → List ℕ → State
-boot setup me bytes = record { setup = setup; me = me; role = if is_server setup me then Idle (count_on bytes) else Client 0 }
+boot setup me bytes =
+    record {
+      setup = setup;
+      me = me;
+      role = if is_server setup me then Idle
+          (count_on bytes) else Client 0;
+    }
 
 abbrev pub in_role : Role → State → State
 in_role role state = record state { role = role }
@@ -33,14 +41,21 @@ in_role role state = record state { role = role }
 abbrev pub nothing : State → Reaction
 nothing state = (state, [])
 
--- a client asks its server to add one, for the n-th time, and asks again where no answer has come in half a second
+-- a client asks its server to add one, for the n-th time, and asks again where no answer has come
+-- in half a second
 abbrev pub asking : ℕ → State → Reaction
-asking n state = (in_role (Client n) state, Effect.Send (state.me % state.setup.servers) (Add n) ∷ Effect.Timer 500 ∷ [])
+asking n state = (
+  in_role (Client n) state,
+  Effect.Send (state.me % state.setup.servers) (Add n)
+      ∷ Effect.Timer 500 ∷ [],
+)
 
 -- the answer to the n-th has come; after the last operation the client is done
 abbrev pub answered : ℕ → State → Reaction
 answered n state =
-    if n == slice_index state.setup.ops state.me then (in_role (Client (raised n)) state, Effect.Done ∷ []) else asking (raised n) state
+    if n == slice_index state.setup.ops state.me
+    then (in_role (Client (raised n)) state, Effect.Done ∷ [])
+    else asking (raised n) state
 
 -- a server adds one, and its new count is to become stable
 abbrev pub adding : ℕ → ℕ → ℕ → State → Reaction
@@ -53,10 +68,13 @@ adding count client n state = (
 abbrev pub react_as : Role → Input Message → State → Reaction
 react_as (Client next) input.Start state = asking 1 state
 react_as (Client next) input.Timer state =
-    if nat_le 1 next && nat_le next (slice_index state.setup.ops state.me) then asking next state else nothing state
-react_as (Client next) (input.Message sender (Added n)) state = if n == next then answered next state else nothing state
+    if nat_le 1 next && nat_le next (slice_index state.setup.ops state.me) then asking next state
+    else nothing state
+react_as (Client next) (input.Message sender (Added n)) state =
+    if n == next then answered next state else nothing state
 react_as (Idle count) (input.Message sender (Add n)) state = adding count sender n state
-react_as (Saving count client n) input.Synced state = (in_role (Idle count) state, Effect.Send client (Added n) ∷ [])
+react_as (Saving count client n) input.Synced state =
+    (in_role (Idle count) state, Effect.Send client (Added n) ∷ [])
 react_as _ _ state = nothing state
 
 -- probe 0 shows the `next` of a client, probe 1 the count of a server

@@ -27,7 +27,8 @@ impl<T> Model for Counter<T> {
 
     ghost view = { λ c. c.state };
 
-    ghost invariant = { λ c. IsSetup c.state.setup × (c.state.me < c.state.setup.hosts) × IsPlaced c.state.setup.hosts c.state.role };
+    ghost invariant = { λ c. IsSetup c.state.setup × (c.state.me < c.state.setup.hosts)
+        × IsPlaced c.state.setup.hosts c.state.role };
 }
 
 /// Shows what the host is. Its setup and its number never change, and are left out.
@@ -54,7 +55,10 @@ impl<T> Counter<T> {
     fn ask(&mut self, n: u64, effects: &mut Effects<Message>)
         requires { effects.old ≡ record { hosts = self.old.setup.hosts; list = [] } }
         ensures state { self.new ≡ (asking n self.old).0 }
-        ensures effects { effects.new ≡ record { hosts = self.old.setup.hosts; list = (asking n self.old).1 } }
+        ensures effects { effects.new ≡ record {
+          hosts = self.old.setup.hosts;
+          list = (asking n self.old).1;
+        } }
     {
         self.state.role = Role::Client { next: n };
         effects.send(self.state.me % self.state.setup.servers, Message::Add(n));
@@ -65,7 +69,10 @@ impl<T> Counter<T> {
     fn go_on(&mut self, n: u64, effects: &mut Effects<Message>)
         requires { effects.old ≡ record { hosts = self.old.setup.hosts; list = [] } }
         ensures state { self.new ≡ (answered n self.old).0 }
-        ensures effects { effects.new ≡ record { hosts = self.old.setup.hosts; list = (answered n self.old).1 } }
+        ensures effects { effects.new ≡ record {
+          hosts = self.old.setup.hosts;
+          list = (answered n self.old).1;
+        } }
     {
         let next = n.saturating_add(1);
         if n == self.operations() {
@@ -81,7 +88,10 @@ impl<T> Counter<T> {
         requires host { client < self.old.setup.hosts }
         requires empty { effects.old ≡ record { hosts = self.old.setup.hosts; list = [] } }
         ensures state { self.new ≡ (adding count client n self.old).0 }
-        ensures effects { effects.new ≡ record { hosts = self.old.setup.hosts; list = (adding count client n self.old).1 } }
+        ensures effects { effects.new ≡ record {
+          hosts = self.old.setup.hosts;
+          list = (adding count client n self.old).1;
+        } }
     {
         let count = count.saturating_add(1);
         self.state.role = Role::Saving { count, client, n };

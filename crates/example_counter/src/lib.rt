@@ -42,7 +42,8 @@ pub enum Role {
     Client { next: u64 },
     /// A server waits for somebody to ask.
     Idle { count: u64 },
-    /// A server waits for its disk, to answer this client. Whoever else asks gets no answer and asks again.
+    /// A server waits for its disk, to answer this client. Whoever else asks gets no answer and
+    /// asks again.
     Saving { count: u64, client: u16, n: u64 },
 }
 

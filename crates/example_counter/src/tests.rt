@@ -58,8 +58,8 @@ fn two_hosts() -> Setup
     }
 }
 
-/// One of two hosts reacts, is taken back, and shows what it showed before. Then it reacts again, and asks for these
-/// effects and no more.
+/// One of two hosts reacts, is taken back, and shows what it showed before. Then it reacts again,
+/// and asks for these effects and no more.
 fn react<T: Meter>(
     rt: &impl Abort,
     node: &mut Counter<T>,

@@ -1,6 +1,9 @@
--- The tables of Raft: servers elect a leader, the leader puts the values of clients into its log and spreads them,
--- and what a majority has is committed. A server speaks of a vote or of an entry only when its disk has told that it is stable.
-use Rattle.std.specs.Prelude.{ℕ, ◌+◌, ◌-◌, ◌*◌, ◌/◌, ◌%◌, ◌==◌, min, max, nat_lt, nat_le, Bool, true, false, ◌&&◌, ◌||◌, List, [], ◌∷◌, ◌++◌, take, count_by, slice_index_or, slice_set, Option, None, Some, if◌then◌else◌}
+-- The tables of Raft: servers elect a leader, the leader puts the values of clients into its log
+-- and spreads them, and what a majority has is committed. A server speaks of a vote or of an entry
+-- only when its disk has told that it is stable.
+use Rattle.std.specs.Prelude.{ℕ, ◌+◌, ◌-◌, ◌*◌, ◌/◌, ◌%◌, ◌==◌, min, max, nat_lt, nat_le, Bool}
+use Rattle.std.specs.Prelude.{true, false, ◌&&◌, ◌||◌, List, [], ◌∷◌, ◌++◌, take, count_by}
+use Rattle.std.specs.Prelude.{slice_index_or, slice_set, Option, None, Some, if◌then◌else◌}
 use Rattle.sim_node.specs.declared.Setup.{Setup}
 use Rattle.sim_node.specs.declared.Input.{Input}
 use Rattle.sim_node.specs.declared.Input.TheVariants as input
@@ -25,7 +28,8 @@ use Rattle.example_raft.specs.declared.roles.Server.{Server}
 use Rattle.example_raft.specs.declared.roles.Role.{Role}
 use Rattle.example_raft.specs.declared.roles.Role.TheVariants as role
 use Rattle.example_raft.specs.declared.roles.State.{State}
-use Rattle.example_raft.specs.RaftLog.{entry_at, term_of, value_of, place_of, saved_vote, saved_entry, server_on}
+use Rattle.example_raft.specs.RaftLog.{entry_at, term_of, value_of, place_of, saved_vote}
+use Rattle.example_raft.specs.RaftLog.{saved_entry, server_on}
 use Rattle.example_raft.specs.RaftProbes.{probe_as}
 
 abbrev pub with_standing : Standing → Server → Server
@@ -78,7 +82,8 @@ spread here s = to_others here (append_of (s.standing.len - 1) s)
 -- Terms.
 
 abbrev pub following : ℕ → Standing → Standing
-following term standing = record standing { term = term; voted = None; rank = rank.Follower; leader = None; matched = 0 }
+following term standing =
+    record standing { term = term; voted = None; rank = rank.Follower; leader = None; matched = 0 }
 
 abbrev pub waiting : Standing → Standing
 waiting standing = record standing { unsure = raised standing.unsure }
@@ -91,7 +96,8 @@ anew _ word = []
 -- it steps down to a later term
 abbrev pub steps_down : Context → ℕ → Server → Reaction Server Message
 steps_down here term s =
-    let new = waiting (following term s.standing) in (with_standing new s, saved_vote new ++ anew s.standing.rank here.word)
+    let new = waiting (following term s.standing) in
+    (with_standing new s, saved_vote new ++ anew s.standing.rank here.word)
 
 -- Elections.
 
@@ -111,7 +117,9 @@ candidacy me standing = record standing {
 
 -- it stands for election in the next term
 abbrev pub stands : Context → Server → Reaction Server Message
-stands here s = let new = candidacy here.me s.standing in (with_standing new s, saved_vote new ++ timeout here.word)
+stands here s =
+    let new = candidacy here.me s.standing in
+    (with_standing new s, saved_vote new ++ timeout here.word)
 
 abbrev pub blank : ℕ
 blank = 1
@@ -119,14 +127,18 @@ blank = 1
 -- it leads, and begins with a blank entry
 abbrev pub leads : ℕ → Server → Reaction Server Message
 leads me s =
-    let next = appended blank (with_standing (record s.standing { rank = rank.Leader; leader = Some me }) s) in
+    let next = appended blank (with_standing (record s.standing {
+      rank = rank.Leader;
+      leader = Some me;
+    }) s) in
     (next.0, next.1 ++ Effect.Timer 50 ∷ [])
 
 abbrev pub last_term : Server → ℕ
 last_term s = term_of s.standing.len s.log
 
 abbrev pub request_of : Server → Message
-request_of s = msg.RequestVote (record { term = s.standing.term; len = s.standing.len; last = last_term s })
+request_of s =
+    msg.RequestVote (record { term = s.standing.term; len = s.standing.len; last = last_term s })
 
 abbrev pub is_free : Option ℕ → ℕ → Bool
 is_free None candidate = true
@@ -134,7 +146,8 @@ is_free (Some voted) candidate = voted == candidate
 
 -- the log of the candidate is at least as new
 abbrev pub is_new : Ask → Server → Bool
-is_new ask s = nat_lt (last_term s) ask.last || ((ask.last == last_term s) && nat_le s.standing.len ask.len)
+is_new ask s =
+    nat_lt (last_term s) ask.last || ((ask.last == last_term s) && nat_le s.standing.len ask.len)
 
 -- as it is in the term of the message, where that is later than its own
 abbrev pub caught_up : ℕ → Standing → Standing
@@ -150,7 +163,8 @@ abbrev pub granted : Context → ℕ → Ask → Server → Reaction Server Mess
 granted here from ask s =
     let new = waiting (record (caught_up ask.term s.standing) { voted = Some from }) in (
       with_standing new s,
-      saved_vote new ++ timeout here.word ++ (if here.rules.hasty then Effect.Send from (msg.Vote true new.term) ∷ [] else []),
+      saved_vote new ++ timeout here.word ++ (if here.rules.hasty then Effect.Send from
+          (msg.Vote true new.term) ∷ [] else []),
     )
 
 abbrev pub asked : Context → ℕ → Ask → Server → Reaction Server Message
@@ -170,13 +184,15 @@ voted_by rank.Candidate here from true term s =
     if nat_lt s.standing.term term then steps_down here term s
     else if term == s.standing.term then elected here from s
     else (s, [])
-voted_by _ here from agrees term s = if nat_lt s.standing.term term then steps_down here term s else (s, [])
+voted_by _ here from agrees term s =
+    if nat_lt s.standing.term term then steps_down here term s else (s, [])
 
 -- Commitment.
 
 -- how many hosts have acknowledged n entries in this term
 abbrev pub holders : ℕ → Setup → Server → ℕ
-holders n setup s = count_by (λ p. (p.term == s.standing.term) && nat_le n p.has) (take setup.servers s.peers)
+holders n setup s =
+    count_by (λ p. (p.term == s.standing.term) && nat_le n p.has) (take setup.servers s.peers)
 
 -- an eager leader doesn't look at the entry's term
 abbrev pub may_commit : Context → ℕ → Server → Bool
@@ -189,11 +205,16 @@ may_commit here n s =
 abbrev pub fin_of : ℕ → Setup → List (Effect Message)
 fin_of value setup =
     let client = (value - 1) / 1000 in
-    if nat_le setup.servers client && nat_lt client setup.hosts then Effect.Send client (msg.Fin value) ∷ [] else []
+    if nat_le setup.servers client && nat_lt client setup.hosts
+    then Effect.Send client (msg.Fin value) ∷ []
+    else []
 
 abbrev pub commits : Context → ℕ → Server → Reaction Server Message
 commits here n s =
-    if may_commit here n s then (with_standing (record s.standing { commit = n }) s, fin_of (value_of n s.log) here.setup)
+    if may_commit here n s then (
+      with_standing (record s.standing { commit = n }) s,
+      fin_of (value_of n s.log) here.setup,
+    )
     else (s, [])
 
 -- What a follower hears of its leader.
@@ -207,11 +228,20 @@ fits a s = nat_le a.prev s.standing.len && (term_of a.prev s.log == a.before)
 
 -- it knows n entries to be the leader's, and to be committed as far as the leader says so
 abbrev pub verified : ℕ → ℕ → Standing → Standing
-verified n commit standing = record standing { matched = max standing.matched n; commit = max standing.commit (min commit n) }
+verified n commit standing =
+    record standing {
+      matched = max standing.matched n;
+      commit = max standing.commit
+          (min commit n);
+    }
 
 abbrev pub acknowledges : ℕ → Bool → ℕ → Standing → List (Effect Message)
 acknowledges to agrees at standing =
-    if_settled standing (Effect.Send to (msg.Appended (record { agrees = agrees; at = at; term = standing.term })) ∷ [])
+    if_settled standing (Effect.Send to (msg.Appended (record {
+      agrees = agrees;
+      at = at;
+      term = standing.term;
+    })) ∷ [])
 
 -- it has n entries of the leader already
 abbrev pub agreed : Context → ℕ → ℕ → ℕ → Server → Reaction Server Message
@@ -222,26 +252,32 @@ agreed here from n commit s =
 -- it takes the leader's entry
 abbrev pub took : Context → ℕ → Append → Entry → Server → Reaction Server Message
 took here from a e s =
-    let new = kept a.prev e (with_standing (verified (a.prev + 1) a.commit (follower_of from s.standing)) s) in
+    let new = kept a.prev e (with_standing (verified (a.prev + 1) a.commit
+    (follower_of from s.standing)) s) in
     (new, saved_entry a.prev new.log ++ timeout here.word)
 
 abbrev pub told_entry : Option Entry → Context → ℕ → Append → Server → Reaction Server Message
 told_entry None here from a s = agreed here from a.prev a.commit s
 told_entry (Some e) here from a s =
-    if nat_lt a.prev s.standing.len && (term_of (a.prev + 1) s.log == e.term) then agreed here from (a.prev + 1) a.commit s
+    if nat_lt a.prev s.standing.len && (term_of (a.prev + 1) s.log == e.term) then agreed here from
+    (a.prev + 1) a.commit s
     else if nat_lt a.prev 64 then took here from a e s
     else agreed here from a.prev a.commit s
 
 -- it lacks what stands before the entry
 abbrev pub lacks : Context → ℕ → ℕ → Server → Reaction Server Message
 lacks here from prev s =
-    let new = follower_of from s.standing in
-    (with_standing new s, timeout here.word ++ acknowledges from false (min s.standing.len (prev - 1)) new)
+    let new = follower_of from s.standing in (
+      with_standing new s,
+      timeout here.word ++ acknowledges from false
+          (min s.standing.len (prev - 1)) new,
+    )
 
 -- it follows the leader of a later term
 abbrev pub joins : Context → ℕ → ℕ → Server → Reaction Server Message
 joins here from term s =
-    let new = waiting (follower_of from (following term s.standing)) in (with_standing new s, saved_vote new ++ timeout here.word)
+    let new = waiting (follower_of from (following term s.standing)) in
+    (with_standing new s, saved_vote new ++ timeout here.word)
 
 abbrev pub told : Context → ℕ → Append → Server → Reaction Server Message
 told here from a s =
@@ -255,13 +291,15 @@ told here from a s =
 -- how much a host had acknowledged in this term
 abbrev pub known_of : ℕ → Server → ℕ
 known_of host s =
-    let p = slice_index_or s.peers host (record { term = 0; has = 0 }) in if p.term == s.standing.term then p.has else 0
+    let p = slice_index_or s.peers host (record { term = 0; has = 0 }) in
+    if p.term == s.standing.term then p.has else 0
 
 abbrev pub sends_next : ℕ → ℕ → Server → List (Effect Message)
 sends_next to place s = if_settled s.standing (Effect.Send to (append_of place s) ∷ [])
 
 abbrev pub noted : ℕ → ℕ → Server → Server
-noted from at s = record s { peers = slice_set s.peers from (record { term = s.standing.term; has = at }) }
+noted from at s =
+    record s { peers = slice_set s.peers from (record { term = s.standing.term; has = at }) }
 
 -- a follower has more of the log than before
 abbrev pub advanced : Context → ℕ → ℕ → Server → Reaction Server Message
@@ -270,7 +308,8 @@ advanced here from at s =
     (next.0, next.1 ++ (if nat_lt at s.standing.len then sends_next from at next.0 else []))
 
 abbrev pub heard_back : Bool → Context → ℕ → ℕ → Server → Reaction Server Message
-heard_back true here from at s = if nat_lt (known_of from s) at then advanced here from at s else (s, [])
+heard_back true here from at s =
+    if nat_lt (known_of from s) at then advanced here from at s else (s, [])
 heard_back false here from at s = (s, if nat_le at s.standing.len then sends_next from at s else [])
 
 abbrev pub acked : Rank → Context → ℕ → Ack → Server → Reaction Server Message
@@ -278,7 +317,8 @@ acked rank.Leader here from ack s =
     if nat_lt s.standing.term ack.term then steps_down here ack.term s
     else if ack.term == s.standing.term then heard_back ack.agrees here from ack.at s
     else (s, [])
-acked _ here from ack s = if nat_lt s.standing.term ack.term then steps_down here ack.term s else (s, [])
+acked _ here from ack s =
+    if nat_lt s.standing.term ack.term then steps_down here ack.term s else (s, [])
 
 -- What a server hears of a client.
 
@@ -288,7 +328,8 @@ redirected (Some leader) from = Effect.Send from (msg.Try leader) ∷ []
 
 abbrev pub put_again : Option ℕ → ℕ → ℕ → Server → Reaction Server Message
 put_again None from value s = appended value s
-put_again (Some place) from value s = (s, if nat_lt place s.standing.commit then Effect.Send from (msg.Fin value) ∷ [] else [])
+put_again (Some place) from value s =
+    (s, if nat_lt place s.standing.commit then Effect.Send from (msg.Fin value) ∷ [] else [])
 
 abbrev pub put_by : Rank → ℕ → ℕ → Server → Reaction Server Message
 put_by rank.Leader from value s = put_again (place_of value s.standing.len s.log) from value s
@@ -303,15 +344,21 @@ timed_out _ here s = stands here s
 -- a follower tells its leader what it has, or a candidate its vote
 abbrev pub answered : Option ℕ → Option ℕ → Standing → List (Effect Message)
 answered (Some leader) voted standing =
-    Effect.Send leader (msg.Appended (record { agrees = true; at = standing.matched; term = standing.term })) ∷ []
+    Effect.Send leader (msg.Appended (record {
+      agrees = true;
+      at = standing.matched;
+      term = standing.term;
+    })) ∷ []
 answered None (Some candidate) standing = Effect.Send candidate (msg.Vote true standing.term) ∷ []
 answered None None standing = []
 
 abbrev pub settled : Rank → Context → Server → Reaction Server Message
 settled rank.Follower here s = (s, answered s.standing.leader s.standing.voted s.standing)
 settled rank.Candidate here s =
-    if is_majority (size s.standing.votes) here.setup then leads here.me s else (s, to_others here (request_of s))
-settled rank.Leader here s = let next = commits here s.standing.len s in (next.0, next.1 ++ spread here next.0)
+    if is_majority (size s.standing.votes) here.setup then leads here.me s
+    else (s, to_others here (request_of s))
+settled rank.Leader here s =
+    let next = commits here s.standing.len s in (next.0, next.1 ++ spread here next.0)
 
 abbrev pub synced : Context → Server → Reaction Server Message
 synced here s =
@@ -325,7 +372,8 @@ react_server here s input.Timer = timed_out s.standing.rank here s
 react_server here s input.Synced = synced here s
 react_server here s (input.Message from (msg.Put value)) = put_by s.standing.rank from value s
 react_server here s (input.Message from (msg.RequestVote ask)) = asked here from ask s
-react_server here s (input.Message from (msg.Vote agrees term)) = voted_by s.standing.rank here from agrees term s
+react_server here s (input.Message from (msg.Vote agrees term)) =
+    voted_by s.standing.rank here from agrees term s
 react_server here s (input.Message from (msg.Append a)) = told here from a s
 react_server here s (input.Message from (msg.Appended ack)) = acked s.standing.rank here from ack s
 react_server here s _ = (s, [])
@@ -346,7 +394,8 @@ waits ops c = nat_le 1 c.next && nat_le c.next ops
 -- its value is committed; after the last it is done
 abbrev pub finished : ℕ → ℕ → Client → Reaction Client Message
 finished me ops c =
-    let new = record c { next = raised c.next } in if c.next == ops then (new, Effect.Done ∷ []) else puts me new
+    let new = record c { next = raised c.next } in if c.next == ops then (new, Effect.Done ∷ [])
+    else puts me new
 
 -- the server after this one; server 0 comes after the last
 abbrev pub next_server : ℕ → Setup → ℕ
@@ -356,11 +405,16 @@ next_server server setup = if nat_lt (server + 1) setup.servers then server + 1 
 abbrev pub react_client : Setup → ℕ → Client → Input Message → Reaction Client Message
 react_client setup me c input.Start = puts me (record c { next = 1 })
 react_client setup me c input.Timer =
-    if waits (ops_of setup me) c then puts me (record c { server = next_server c.server setup }) else (c, [])
+    if waits (ops_of setup me) c then puts me (record c { server = next_server c.server setup })
+    else (c, [])
 react_client setup me c (input.Message from (msg.Fin value)) =
-    if waits (ops_of setup me) c && (value == value_by me c.next) then finished me (ops_of setup me) c else (c, [])
+    if waits (ops_of setup me) c && (value == value_by me c.next)
+    then finished me (ops_of setup me) c
+    else (c, [])
 react_client setup me c (input.Message from (msg.Try server)) =
-    if waits (ops_of setup me) c && nat_lt server setup.servers then puts me (record c { server = server }) else (c, [])
+    if waits (ops_of setup me) c && nat_lt server setup.servers
+    then puts me (record c { server = server })
+    else (c, [])
 react_client setup me c _ = (c, [])
 
 -- A host.
@@ -373,7 +427,8 @@ role_at_boot setup me bytes =
 abbrev pub boot : Setup → ℕ → List ℕ → State
 boot setup me bytes = record { setup = setup; me = me; role = role_at_boot setup me bytes }
 
-abbrev pub in_role : {Part : Type 0} → (Part → Role) → Reaction Part Message → State → Reaction State Message
+abbrev pub in_role : {Part : Type 0} → (Part → Role) → Reaction Part Message → State
+    → Reaction State Message
 in_role as_role reaction state = (record state { role = as_role reaction.0 }, reaction.1)
 
 -- what a server has at hand when it reacts
@@ -381,8 +436,10 @@ abbrev pub context : Rules → ℕ → State → Context
 context rules word state = record { rules = rules; setup = state.setup; me = state.me; word = word }
 
 abbrev pub react_as : Rules → Role → Input Message → ℕ → State → Reaction State Message
-react_as rules (role.Client c) i word state = in_role role.Client (react_client state.setup state.me c i) state
-react_as rules (role.Server s) i word state = in_role role.Server (react_server (context rules word state) s i) state
+react_as rules (role.Client c) i word state =
+    in_role role.Client (react_client state.setup state.me c i) state
+react_as rules (role.Server s) i word state =
+    in_role role.Server (react_server (context rules word state) s i) state
 
 abbrev pub raft : Rules → NodeLaws State Message
 raft rules = record {

@@ -1,5 +1,7 @@
 -- The log of Raft, and what stands on a server's disk.
-use Rattle.std.specs.Prelude.{ℕ, zero, suc, ◌+◌, ◌-◌, ◌*◌, ◌==◌, nat_lt, nat_le, Bool, ◌&&◌, List, [], ◌∷◌, ◌++◌, take, replicate, position, slice_index, slice_index_or, slice_set, Option, None, Some, if◌then◌else◌}
+use Rattle.std.specs.Prelude.{ℕ, zero, suc, ◌+◌, ◌-◌, ◌*◌, ◌==◌, nat_lt, nat_le, Bool, ◌&&◌, List}
+use Rattle.std.specs.Prelude.{[], ◌∷◌, ◌++◌, take, replicate, position, slice_index, slice_index_or}
+use Rattle.std.specs.Prelude.{slice_set, Option, None, Some, if◌then◌else◌}
 use Rattle.std.specs.Int.{w64, to_be_bytes, from_be_bytes}
 use Rattle.sim_node.specs.declared.Setup.{Setup}
 use Rattle.sim_node.specs.Effects.{Effect}
@@ -57,12 +59,17 @@ saved_vote standing = Effect.Write 0 (vote_bytes standing) ∷ Effect.Sync ∷ [
 
 abbrev pub saved_entry : ℕ → List Entry → List (Effect Message)
 saved_entry place log =
-    Effect.Write (entry_offset place) (entry_bytes (entry_at place log) (term_of place log)) ∷ Effect.Sync ∷ []
+    Effect.Write (entry_offset place) (entry_bytes (entry_at place log) (term_of place log))
+    ∷ Effect.Sync ∷ []
 
 -- What a server boots from.
 
 abbrev pub entry_on : List ℕ → ℕ → Entry
-entry_on bytes place = record { term = number_at bytes (entry_offset place); value = number_at bytes (entry_offset place + 8) }
+entry_on bytes place =
+    record {
+      term = number_at bytes (entry_offset place);
+      value = number_at bytes (entry_offset place + 8);
+    }
 
 -- the entry at a place is whole, and it is the one that stood behind an entry of this term
 unfoldable pub is_linked : List ℕ → ℕ → ℕ → Bool
@@ -77,7 +84,8 @@ is_linked bytes place before =
 unfoldable pub log_from : List ℕ → ℕ → ℕ → ℕ → List Entry → ℕ × List Entry
 log_from bytes place zero before log = (place, log)
 log_from bytes place (suc n) before log =
-    if is_linked bytes place before then log_from bytes (place + 1) n (entry_on bytes place).term (slice_set log place (entry_on bytes place))
+    if is_linked bytes place before then log_from bytes (place + 1) n (entry_on bytes place).term
+    (slice_set log place (entry_on bytes place))
     else (place, log)
 
 abbrev pub log_on : List ℕ → ℕ × List Entry
@@ -92,7 +100,8 @@ term_on bytes = from_be_bytes w64 (
 -- a byte that names no server is no vote
 abbrev pub voted_on : Setup → List ℕ → Option ℕ
 voted_on setup bytes =
-    let byte = slice_index bytes 8 in if nat_le 1 byte && nat_le byte setup.servers then Some (byte - 1) else None
+    let byte = slice_index bytes 8 in
+    if nat_le 1 byte && nat_le byte setup.servers then Some (byte - 1) else None
 
 abbrev pub server_on : Setup → List ℕ → Server
 server_on setup bytes =

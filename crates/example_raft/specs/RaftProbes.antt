@@ -1,5 +1,6 @@
 -- The probes of Raft: their names, and what they show.
-use Rattle.std.specs.Prelude.{ℕ, ◌+◌, ◌-◌, ◌==◌, nat_le, ◌&&◌, List, [], ◌∷◌, Option, None, Some, codes, if◌then◌else◌}
+use Rattle.std.specs.Prelude.{ℕ, ◌+◌, ◌-◌, ◌==◌, nat_le, ◌&&◌, List, [], ◌∷◌, Option, None, Some}
+use Rattle.std.specs.Prelude.{codes, if◌then◌else◌}
 use Rattle.example_raft.specs.declared.roles.Rank.{Rank}
 use Rattle.example_raft.specs.declared.roles.Rank.TheVariants as rank
 use Rattle.example_raft.specs.declared.roles.Standing.{Standing}
@@ -12,8 +13,10 @@ use Rattle.example_raft.specs.RaftLog.{value_of}
 abbrev pub probe_names : List (List ℕ)
 probe_names =
     codes "next" ∷ codes "term" ∷ codes "leads" ∷ codes "commit" ∷ codes "len"
-    ∷ codes "c1" ∷ codes "c2" ∷ codes "c3" ∷ codes "c4" ∷ codes "c5" ∷ codes "c6" ∷ codes "c7" ∷ codes "c8"
-    ∷ codes "e1" ∷ codes "e2" ∷ codes "e3" ∷ codes "e4" ∷ codes "e5" ∷ codes "e6" ∷ codes "e7" ∷ codes "e8"
+    ∷ codes "c1" ∷ codes "c2" ∷ codes "c3" ∷ codes "c4" ∷ codes "c5" ∷ codes "c6" ∷ codes "c7"
+    ∷ codes "c8"
+    ∷ codes "e1" ∷ codes "e2" ∷ codes "e3" ∷ codes "e4" ∷ codes "e5" ∷ codes "e6" ∷ codes "e7"
+    ∷ codes "e8"
     ∷ []
 
 -- the term that a server leads

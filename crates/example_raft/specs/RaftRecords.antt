@@ -44,17 +44,24 @@ restored_peers (change.Peer host p) peers = slice_set peers host p
 restored_peers _ peers = peers
 
 abbrev pub server_before : Standing → Change → Server → Server
-server_before standing what s = record { standing = standing; log = restored_log what s.log; peers = restored_peers what s.peers }
+server_before standing what s =
+    record {
+      standing = standing;
+      log = restored_log what s.log;
+      peers = restored_peers what s.peers;
+    }
 
 -- a record fits a host of its kind
 abbrev pub fits_role : ℕ → RaftUndo → Role → Type 0
 fits_role hosts (undo.Client before) (role.Client c) = before.server < hosts
-fits_role hosts (undo.Server standing what) (role.Server s) = IsPlacedStanding hosts standing × IsPlacedChange what
+fits_role hosts (undo.Server standing what) (role.Server s) =
+    IsPlacedStanding hosts standing × IsPlacedChange what
 fits_role hosts _ r = ⊥
 
 abbrev pub role_before : RaftUndo → Role → Role
 role_before (undo.Client before) r = role.Client before
-role_before (undo.Server standing what) (role.Server s) = role.Server (server_before standing what s)
+role_before (undo.Server standing what) (role.Server s) =
+    role.Server (server_before standing what s)
 role_before _ r = r
 
 abbrev pub raft_records : NodeRecords State RaftUndo

@@ -7,7 +7,8 @@ use Rattle.example_raft.specs.declared.roles.Context.{Context}
 use Rattle.example_raft.specs.declared.roles.Message.{Message}
 use Rattle.example_raft.specs.declared.roles.Server.{Server}
 use Rattle.example_raft.specs.declared.roles.Change.{Change}
-use Rattle.example_raft.specs.RaftRecords.{IsPlacedStanding, IsPlacedChange, restored_log, restored_peers}
+use Rattle.example_raft.specs.RaftRecords.{IsPlacedStanding, IsPlacedChange, restored_log}
+use Rattle.example_raft.specs.RaftRecords.{restored_peers}
 
 -- what was asked for, and then more
 abbrev pub asking : List (Effect Message) → Effects Message → Effects Message
@@ -25,7 +26,8 @@ pub record MayReact (here : Context) (s : Server) (effects : Effects Message) : 
   pub empty : effects ≡ asked_for here.setup []
 
 -- a server has reacted so: its state, its effects, and what it names is there again
-pub record Reacted (here : Context) (reaction : Reaction Server Message) (new : Server) (out : Effects Message) : Type 0 where
+pub record Reacted (here : Context) (reaction : Reaction Server Message) (new : Server)
+    (out : Effects Message) : Type 0 where
   pub state : new ≡ reaction.0
   pub effects : out ≡ asked_for here.setup reaction.1
   pub placed : IsPlacedStanding here.setup.hosts new.standing

@@ -2,7 +2,8 @@ ghost use Rattle.std.specs.Prelude.{◌≡◌, ◌<◌, []};
 ghost use Rattle.sim_node.specs.Node.{IsSetup};
 ghost use Rattle.sim_hosts.specs.Numbers.{ops_of};
 ghost use Rattle.sim_hosts.specs.Reactions.{asked_for};
-ghost use Rattle.example_raft.specs.Raft.{value_by, puts, waits, finished, next_server, react_client};
+ghost use Rattle.example_raft.specs.Raft.{value_by, puts, waits, finished, next_server};
+ghost use Rattle.example_raft.specs.Raft.{react_client};
 
 use crate::{Client, Message};
 use sim_node::{Effects, Input, Setup};
@@ -80,7 +81,8 @@ impl Client {
         requires empty { effects.old ≡ asked_for setup.now [] }
         ensures state { self.new ≡ (react_client setup.now me self.old input.now).0 }
         ensures server { self.new.server < setup.now.hosts }
-        ensures effects { effects.new ≡ asked_for setup.now (react_client setup.now me self.old input.now).1 }
+        ensures effects { effects.new ≡ asked_for setup.now
+            (react_client setup.now me self.old input.now).1 }
     {
         match input {
             Input::Start => {

@@ -2,7 +2,9 @@ ghost use Rattle.std.specs.Prelude.{◌≡◌, ◌+◌, ◌<◌, ◌≤◌, ◌+
 ghost use Rattle.sim_node.specs.Node.{IsSetup};
 ghost use Rattle.example_raft.specs.declared.roles.Rank.TheVariants as rank;
 ghost use Rattle.example_raft.specs.RaftLog.{place_of};
-ghost use Rattle.example_raft.specs.Raft.{append_of, spread, holders, may_commit, fin_of, commits, known_of, sends_next, advanced, heard_back, acked, put_by};
+ghost use Rattle.example_raft.specs.Raft.{append_of, spread, holders, may_commit, fin_of, commits};
+ghost use Rattle.example_raft.specs.Raft.{known_of, sends_next, advanced, heard_back, acked};
+ghost use Rattle.example_raft.specs.Raft.{put_by};
 ghost use Rattle.example_raft.specs.Reacting.{asking, IsContext, MayReact, Reacted, LeadsBack};
 
 use crate::elections::send_to_others;
@@ -154,7 +156,8 @@ impl Server {
     ) -> Change
         requires from { from < here.now.setup.hosts }
         requires may { MayReact here.now self.old effects.old }
-        ensures did { Reacted here.now (heard_back agrees here.now from at self.old) self.new effects.new }
+        ensures did { Reacted here.now (heard_back agrees here.now from at self.old) self.new
+            effects.new }
         ensures back { LeadsBack result self.old self.new }
     {
         if agrees {
@@ -212,7 +215,8 @@ impl Server {
     ) -> Change
         requires from { from < here.now.setup.hosts }
         requires may { MayReact here.now self.old effects.old }
-        ensures did { Reacted here.now (put_by rank.Leader from value self.old) self.new effects.new }
+        ensures did { Reacted here.now (put_by rank.Leader from value self.old) self.new
+            effects.new }
         ensures back { LeadsBack result self.old self.new }
     {
         match self.place_of(value) {
@@ -236,7 +240,8 @@ impl Server {
     ) -> Change
         requires from { from < here.now.setup.hosts }
         requires may { MayReact here.now self.old effects.old }
-        ensures did { Reacted here.now (put_by self.old.standing.rank from value self.old) self.new effects.new }
+        ensures did { Reacted here.now (put_by self.old.standing.rank from value self.old) self.new
+            effects.new }
         ensures back { LeadsBack result self.old self.new }
     {
         if self.standing.rank == Rank::Leader {

@@ -1,5 +1,7 @@
 ghost use Rattle.std.specs.Prelude.{◌≡◌, ◌<◌, ◌≤◌, ◌++◌, length, IfSome};
-ghost use Rattle.example_raft.specs.RaftLog.{vote_byte, vote_bytes, half_bytes, entry_bytes, entry_on, is_linked, log_on, term_on, voted_on, server_on, saved_vote, saved_entry};
+ghost use Rattle.example_raft.specs.RaftLog.{vote_byte, vote_bytes, half_bytes, entry_bytes};
+ghost use Rattle.example_raft.specs.RaftLog.{entry_on, is_linked, log_on, term_on, voted_on};
+ghost use Rattle.example_raft.specs.RaftLog.{server_on, saved_vote, saved_entry};
 ghost use Rattle.example_raft.specs.RaftRecords.{IsPlacedStanding};
 ghost use Rattle.sim_node.specs.Node.{IsSetup};
 ghost use Rattle.example_raft.specs.Reacting.{asking};

@@ -1,5 +1,7 @@
 ghost use Rattle.std.specs.Prelude.{◌≡◌, ◌+◌, ◌<◌, ◌≤◌, ◌++◌, length};
-ghost use Rattle.example_raft.specs.Raft.{appended, anew, steps_down, stands, leads, request_of, is_free, is_new, last_term, grants, granted, asked, elected, voted_by, to_others};
+ghost use Rattle.example_raft.specs.Raft.{appended, anew, steps_down, stands, leads, request_of};
+ghost use Rattle.example_raft.specs.Raft.{is_free, is_new, last_term, grants, granted, asked};
+ghost use Rattle.example_raft.specs.Raft.{elected, voted_by, to_others};
 ghost use Rattle.example_raft.specs.Reacting.{asking, IsContext, MayReact, Reacted, LeadsBack};
 
 use crate::disk::{save_entry, save_vote};
@@ -205,7 +207,8 @@ impl Server {
     ) -> Change
         requires from { from < here.now.setup.hosts }
         requires may { MayReact here.now self.old effects.old }
-        ensures did { Reacted here.now (voted_by self.old.standing.rank here.now from agrees term self.old)
+        ensures did { Reacted here.now (voted_by self.old.standing.rank here.now from agrees term
+            self.old)
             self.new effects.new }
         ensures back { LeadsBack result self.old self.new }
     {

@@ -1,5 +1,6 @@
 ghost use Rattle.std.specs.Prelude.{◌≡◌, ◌≤◌, option_copied, slice_get};
-ghost use Rattle.example_raft.specs.RaftProbes.{probe_names, probe_server, leads_term, committed_at, leader_of, elected_in};
+ghost use Rattle.example_raft.specs.RaftProbes.{probe_names, probe_server, leads_term};
+ghost use Rattle.example_raft.specs.RaftProbes.{committed_at, leader_of, elected_in};
 
 use crate::standing::value_of;
 use crate::{Rank, Server};

@@ -1,5 +1,6 @@
 ghost use Rattle.std.specs.Prelude.{◌≡◌, ◌<◌, ◌≤◌, ◌++◌, length};
-ghost use Rattle.example_raft.specs.Raft.{follower_of, fits, verified, acknowledges, agreed, took, told_entry, lacks, joins, told};
+ghost use Rattle.example_raft.specs.Raft.{follower_of, fits, verified, acknowledges, agreed, took};
+ghost use Rattle.example_raft.specs.Raft.{told_entry, lacks, joins, told};
 ghost use Rattle.example_raft.specs.Reacting.{asking, MayReact, Reacted, LeadsBack};
 
 use crate::disk::{save_entry, save_vote};
@@ -84,7 +85,8 @@ impl Server {
         requires from { from < here.now.setup.hosts }
         requires place { append.now.prev < 64 }
         requires may { MayReact here.now self.old effects.old }
-        ensures did { Reacted here.now (took here.now from append.now entry self.old) self.new effects.new }
+        ensures did { Reacted here.now (took here.now from append.now entry self.old) self.new
+            effects.new }
         ensures back { LeadsBack result self.old self.new }
     {
         let place = append.prev;
@@ -106,7 +108,8 @@ impl Server {
     ) -> Change
         requires from { from < here.now.setup.hosts }
         requires may { MayReact here.now self.old effects.old }
-        ensures did { Reacted here.now (told_entry append.now.entry here.now from append.now self.old)
+        ensures did { Reacted here.now (told_entry append.now.entry here.now from append.now
+            self.old)
             self.new effects.new }
         ensures back { LeadsBack result self.old self.new }
     {
@@ -160,7 +163,8 @@ impl Server {
     ) -> Change
         requires from { from < here.now.setup.hosts }
         requires may { MayReact here.now self.old effects.old }
-        ensures did { Reacted here.now (told here.now from append.now self.old) self.new effects.new }
+        ensures did { Reacted here.now (told here.now from append.now self.old) self.new
+            effects.new }
         ensures back { LeadsBack result self.old self.new }
     {
         if append.term < self.standing.term {

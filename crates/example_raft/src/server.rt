@@ -16,7 +16,8 @@ impl Standing {
     fn answer(&self, setup: &Setup, effects: &mut Effects<Message>)
         requires placed { IsPlacedStanding setup.now.hosts self.now }
         requires empty { effects.old ≡ asked_for setup.now [] }
-        ensures { effects.new ≡ asked_for setup.now (answered self.now.leader self.now.voted self.now) }
+        ensures { effects.new ≡ asked_for setup.now (answered self.now.leader self.now.voted
+            self.now) }
     {
         let term = self.term;
         if let Some(leader) = self.leader {
@@ -42,7 +43,8 @@ impl Server {
     /// A candidate that is settled leads if its own vote is enough, and else asks for votes.
     fn seek(&mut self, here: &Context, effects: &mut Effects<Message>) -> Change
         requires { MayReact here.now self.old effects.old }
-        ensures did { Reacted here.now (settled rank.Candidate here.now self.old) self.new effects.new }
+        ensures did { Reacted here.now (settled rank.Candidate here.now self.old) self.new
+            effects.new }
         ensures back { LeadsBack result self.old self.new }
     {
         if is_majority(self.standing.votes.size(), &here.setup) {
@@ -55,7 +57,8 @@ impl Server {
     /// It is settled.
     fn settle(&mut self, here: &Context, effects: &mut Effects<Message>) -> Change
         requires { MayReact here.now self.old effects.old }
-        ensures did { Reacted here.now (settled self.old.standing.rank here.now self.old) self.new effects.new }
+        ensures did { Reacted here.now (settled self.old.standing.rank here.now self.old) self.new
+            effects.new }
         ensures back { LeadsBack result self.old self.new }
     {
         match self.standing.rank {
@@ -83,7 +86,8 @@ impl Server {
     /// The timer is over.
     fn time_out(&mut self, here: &Context, effects: &mut Effects<Message>)
         requires { MayReact here.now self.old effects.old }
-        ensures { Reacted here.now (timed_out self.old.standing.rank here.now self.old) self.new effects.new }
+        ensures { Reacted here.now (timed_out self.old.standing.rank here.now self.old) self.new
+            effects.new }
     {
         match self.standing.rank {
             Rank::Leader => {
@@ -105,7 +109,8 @@ impl Server {
     ) -> Change
         requires sender { IsFrom here.now.setup.hosts input.now }
         requires may { MayReact here.now self.old effects.old }
-        ensures did { Reacted here.now (react_server here.now self.old input.now) self.new effects.new }
+        ensures did { Reacted here.now (react_server here.now self.old input.now) self.new
+            effects.new }
         ensures back { LeadsBack result self.old self.new }
     {
         match input {

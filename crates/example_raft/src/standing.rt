@@ -1,7 +1,8 @@
 ghost use Rattle.std.specs.Prelude.{◌≡◌, ◌<◌, ◌≤◌, ◌++◌, length};
 ghost use Rattle.sim_hosts.specs.Numbers.{is_settled};
 ghost use Rattle.example_raft.specs.RaftLog.{term_of, value_of};
-ghost use Rattle.example_raft.specs.Raft.{following, waiting, caught_up, candidacy, timeout, is_majority};
+ghost use Rattle.example_raft.specs.Raft.{following, waiting, caught_up, candidacy, timeout};
+ghost use Rattle.example_raft.specs.Raft.{is_majority};
 ghost use Rattle.example_raft.specs.Reacting.{asking};
 
 use crate::{Entry, Message, Rank, Standing};

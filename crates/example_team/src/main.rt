@@ -48,10 +48,12 @@ const COORDINATOR: u16 = 0;
 
 const PARTICIPANT: u16 = 1;
 
-/// The probe that tells the outcome of the first transaction: 1 where it is committed, 2 where it is aborted, else 0.
+/// The probe that tells the outcome of the first transaction: 1 where it is committed, 2 where it
+/// is aborted, else 0.
 const FIRST: u8 = 1;
 
-// A coordinator, a participant and a client with one transaction. A message takes 10 ms, a sync of a disk 5 ms.
+// A coordinator, a participant and a client with one transaction. A message takes 10 ms, a sync of
+// a disk 5 ms.
 fn scenario() -> Result<Scenario> {
     let ways = Ways::all(Way {
         latency_min: 10,
@@ -83,8 +85,8 @@ fn make_branches<R: Wait>(rt: &R, shared: &Shared<Node>, seat: &mut Seat<Node>) 
     Ok(())
 }
 
-// A session crashes the coordinator of its branch, and asks both servers what became of the transaction. It ends early where a
-// command is not taken.
+// A session crashes the coordinator of its branch, and asks both servers what became of the
+// transaction. It ends early where a command is not taken.
 fn crash<R: Wait>(rt: &R, shared: &Shared<Node>, seat: &mut Seat<Node>)
     requires { IsAt shared.now seat.old }
     ensures { IsAt shared.now seat.new }

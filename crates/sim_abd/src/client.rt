@@ -3,7 +3,9 @@ ghost use Rattle.std.specs.Prelude.{◌≡◌, ◌<◌, ◌^◌, IsTrue, []};
 ghost use Rattle.sim_node.specs.Node.{IsSetup, IsFrom};
 ghost use Rattle.sim_hosts.specs.Reactions.{asked_for};
 ghost use Rattle.sim_abd.specs.AbdNumbers.{IsCounted};
-ghost use Rattle.sim_abd.specs.Abd.{untagged, is_greater, client_at_boot, is_write, is_majority, ask_of, store_of, begun, stores, has_told, finished, has_kept, asks_again, is_told, is_kept, react_client};
+ghost use Rattle.sim_abd.specs.Abd.{untagged, is_greater, client_at_boot, is_write, is_majority};
+ghost use Rattle.sim_abd.specs.Abd.{ask_of, store_of, begun, stores, has_told, finished, has_kept};
+ghost use Rattle.sim_abd.specs.Abd.{asks_again, is_told, is_kept, react_client};
 
 use crate::{AbdMsg, Client, Phase, Tagged};
 use sim_hosts::{HostSet, send_to_all, send_to_missing};
@@ -130,7 +132,8 @@ impl Client {
         requires empty { effects.old ≡ asked_for setup.now [] }
         ensures state { self.new ≡ (has_told from told.now me setup.now self.old).0 }
         ensures counted { IsCounted self.new.phase self.new.next }
-        ensures effects { effects.new ≡ asked_for setup.now (has_told from told.now me setup.now self.old).1 }
+        ensures effects { effects.new ≡ asked_for setup.now
+            (has_told from told.now me setup.now self.old).1 }
     {
         self.answers = self.answers.joined(from);
         if told.is_greater(&self.best) {
@@ -171,7 +174,8 @@ impl Client {
         requires empty { effects.old ≡ asked_for setup.now [] }
         ensures state { self.new ≡ (has_kept from ops setup.now self.old).0 }
         ensures counted { IsCounted self.new.phase self.new.next }
-        ensures effects { effects.new ≡ asked_for setup.now (has_kept from ops setup.now self.old).1 }
+        ensures effects { effects.new ≡ asked_for setup.now
+            (has_kept from ops setup.now self.old).1 }
     {
         self.answers = self.answers.joined(from);
         if is_majority(setup, self.answers) {
@@ -184,7 +188,8 @@ impl Client {
         requires setup { IsSetup setup.now }
         requires counted { IsCounted self.now.phase self.now.next }
         requires empty { effects.old ≡ asked_for setup.now [] }
-        ensures { effects.new ≡ asked_for setup.now (asks_again self.now.phase setup.now self.now).1 }
+        ensures { effects.new ≡ asked_for setup.now (asks_again self.now.phase setup.now
+            self.now).1 }
     {
         match self.phase {
             Phase::Resting => {}
@@ -240,7 +245,8 @@ impl Client {
         requires empty { effects.old ≡ asked_for setup.now [] }
         ensures state { self.new ≡ (react_client setup.now me self.old input.now).0 }
         ensures counted { IsCounted self.new.phase self.new.next }
-        ensures effects { effects.new ≡ asked_for setup.now (react_client setup.now me self.old input.now).1 }
+        ensures effects { effects.new ≡ asked_for setup.now
+            (react_client setup.now me self.old input.now).1 }
     {
         match input {
             Input::Start => self.begin(1, setup, effects),

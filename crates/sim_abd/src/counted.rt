@@ -8,8 +8,8 @@ use crate::{AbdMsg, Client};
 use sim_node::{Effects, Input, Setup};
 use std::marker::Model;
 
-/// A client whose operation under way has a number of 16 bits, so that its requests fit into messages. Contracts see the
-/// client.
+/// A client whose operation under way has a number of 16 bits, so that its requests fit into
+/// messages. Contracts see the client.
 #[derive(Clone, Copy, Debug, PartialEq, Eq)]
 pub struct CountedClient {
     inner: Client,
@@ -58,7 +58,8 @@ impl CountedClient {
         requires sender { IsFrom setup.now.hosts input.now }
         requires empty { effects.old ≡ asked_for setup.now [] }
         ensures state { self.new ≡ (react_client setup.now me self.old input.now).0 }
-        ensures effects { effects.new ≡ asked_for setup.now (react_client setup.now me self.old input.now).1 }
+        ensures effects { effects.new ≡ asked_for setup.now
+            (react_client setup.now me self.old input.now).1 }
     {
         self.inner.react(setup, me, input, effects);
     }

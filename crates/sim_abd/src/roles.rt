@@ -11,8 +11,8 @@ pub struct Tagged {
     pub val: u64,
 }
 
-/// A message. A request of a client has an even number where it asks, an odd one where it stores. It stands first, beside
-/// the tag, to save bytes.
+/// A message. A request of a client has an even number where it asks, an odd one where it stores.
+/// It stands first, beside the tag, to save bytes.
 #[derive(Clone, Copy, Debug, PartialEq, Eq)]
 pub enum AbdMsg {
     /// A client asks what a server keeps.

@@ -2,7 +2,8 @@
 ghost use Rattle.std.specs.Prelude.{◌≡◌, ◌<◌, []};
 ghost use Rattle.sim_node.specs.Node.{IsFrom};
 ghost use Rattle.sim_hosts.specs.Reactions.{asked_for};
-ghost use Rattle.sim_abd.specs.Abd.{server_at_boot, tagged_bytes, takes, stored, server_synced, react_server};
+ghost use Rattle.sim_abd.specs.Abd.{server_at_boot, tagged_bytes, takes, stored, server_synced};
+ghost use Rattle.sim_abd.specs.Abd.{react_server};
 ghost use Rattle.sim_abd.specs.AbdRecords.{IsPlacedServer};
 
 use crate::{AbdMsg, Owed, Server, Tagged};
@@ -42,7 +43,8 @@ impl Server {
         requires empty { effects.old ≡ asked_for setup.now [] }
         ensures state { self.new ≡ (takes owed.host owed.request new.now self.old).0 }
         ensures placed { IsPlacedServer setup.now.hosts self.new }
-        ensures effects { effects.new ≡ asked_for setup.now (takes owed.host owed.request new.now self.old).1 }
+        ensures effects { effects.new ≡ asked_for setup.now
+            (takes owed.host owed.request new.now self.old).1 }
     {
         *self = Server {
             kept: *new,

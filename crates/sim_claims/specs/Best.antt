@@ -1,5 +1,6 @@
 -- The least piece with a finding.
-use Rattle.std.specs.Prelude.{ℕ, zero, suc, ◌≡◌, ◌<◌, leb, cond, List, [], Option, Some, None, Result, Ok, Err, MatchOption, IfOk}
+use Rattle.std.specs.Prelude.{ℕ, zero, suc, ◌≡◌, ◌<◌, leb, cond, List, [], Option, Some, None}
+use Rattle.std.specs.Prelude.{Result, Ok, Err, MatchOption, IfOk}
 use Rattle.atomic_table.specs.Seated.{TableId}
 use Rattle.atomic_table.specs.declared.shared.Seat.{Seat}
 use Rattle.sim_claims.specs.declared.hand.Hand.{Hand}
@@ -12,7 +13,8 @@ nearer_of (Some x) None = Some x
 nearer_of (Some x) (Some y) = cond (leb x.0 y.0) (Some x) (Some y)
 
 -- that of two workers' findings, where both were done
-abbrev pub both_of : {F : Type 0} → Result (Option (ℕ × ℕ)) F → Result (Option (ℕ × ℕ)) F → Result (Option (ℕ × ℕ)) F
+abbrev pub both_of : {F : Type 0} → Result (Option (ℕ × ℕ)) F → Result (Option (ℕ × ℕ)) F
+    → Result (Option (ℕ × ℕ)) F
 both_of (Ok x) (Ok y) = Ok (nearer_of x y)
 both_of (Ok x) (Err e) = Err e
 both_of (Err e) b = Err e
@@ -36,9 +38,10 @@ IsFirst f n r =
     ((x : ℕ) → x < n → f x ≡ None)
     (λ p. (p.0 < n) × (f p.0 ≡ Some p.1) × ((x : ℕ) → x < p.0 → f x ≡ None))
 
--- A worker of so many parts is done: of the pieces that it drew, it has the least one with a finding, and it drew a number that is
--- no piece
-abbrev pub IsDone : {F : Type 0} → TableId → (ℕ → Option ℕ) → ℕ → ℕ → Seat (Unit {0}) Hand → Result (Option (ℕ × ℕ)) F → Type 0
+-- A worker of so many parts is done: of the pieces that it drew, it has the least one with a
+-- finding, and it drew a number that is no piece
+abbrev pub IsDone : {F : Type 0} → TableId → (ℕ → Option ℕ) → ℕ → ℕ → Seat (Unit {0}) Hand
+    → Result (Option (ℕ × ℕ)) F → Type 0
 IsDone t f n parts worker r =
     (worker.table_id ≡ t) × (worker.me.1 ≡ []) × (worker.me.0.parts ≡ parts)
     × IfOk r (λ b. IsBest f n worker.me.0.drawn b × (0 < past n worker.me.0.drawn))

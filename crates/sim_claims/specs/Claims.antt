@@ -1,5 +1,6 @@
 -- Numbers that workers draw from one word.
-use Rattle.std.specs.Prelude.{ℕ, ◌≡◌, ◌<◌, ◌≤◌, ◌+◌, ◌^◌, ◌==◌, ltb, leb, cond, List, [], ◌∷◌, ◌++◌, length, slice_index}
+use Rattle.std.specs.Prelude.{ℕ, ◌≡◌, ◌<◌, ◌≤◌, ◌+◌, ◌^◌, ◌==◌, ltb, leb, cond, List, [], ◌∷◌, ◌++◌}
+use Rattle.std.specs.Prelude.{length, slice_index}
 use mathlib.Core.Option.{some}
 use lib.ListN.{get_elem?}
 use Rattle.atomic_table.specs.Table.{State, Me, Step}
@@ -26,12 +27,14 @@ past pieces xs = total (λ y. cond (leb pieces y) 1 0) xs
 abbrev pub once_below : ℕ → ℕ → ℕ
 once_below x n = cond (ltb x n) 1 0
 
--- The numbers drawn are those below the word, each once. Each part draws at most one number that is no piece
+-- The numbers drawn are those below the word, each once. Each part draws at most one number that is
+-- no piece
 pub record Given (pieces workers : ℕ) (s : State (Unit {0}) Hand) : Type 0 where
   pub room : pieces + workers < 2 ^ 64
   pub word : length s.words ≡ 1
   pub parts : total (λ v. v.parts) s.views ≡ workers
-  pub numbers : (x : ℕ) → total (λ v. times x v.drawn) s.views ≡ once_below x (slice_index s.words 0)
+  pub numbers : (x : ℕ) → total (λ v. times x v.drawn) s.views
+      ≡ once_below x (slice_index s.words 0)
   pub count : total (λ v. length v.drawn) s.views ≡ slice_index s.words 0
   pub small : slice_index s.words 0 ≤ pieces + total (λ v. past pieces v.drawn) s.views
   pub few : (id : ℕ) (v : Hand) → get_elem? s.views id ≡ some v → past pieces v.drawn ≤ v.parts

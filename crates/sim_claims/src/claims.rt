@@ -26,8 +26,10 @@ impl Claims {
         workers: u64,
     ) -> Result<(Claims, Worker), AllocError>
         requires { (pieces + workers < 2 ^ 64) × (0 < workers) }
-        ensures limits { IfOk result (λ r. (r.0.table.shared.key.pieces ≡ pieces) × (r.0.table.shared.key.workers ≡ workers)) }
-        ensures worker { IfOk result (λ r. (r.1.table_id ≡ r.0.table.shared.table_id) × (r.1.me ≡ (hand workers [], []))) }
+        ensures limits { IfOk result (λ r. (r.0.table.shared.key.pieces ≡ pieces)
+            × (r.0.table.shared.key.workers ≡ workers)) }
+        ensures worker { IfOk result (λ r. (r.1.table_id ≡ r.0.table.shared.table_id)
+            × (r.1.me ≡ (hand workers [], []))) }
     {
         let limits = Limits { pieces, workers };
         let (table, worker) = Table::of_words(alloc, &[0], &limits)?;
@@ -44,9 +46,14 @@ impl Claims {
     /// The next number, which no other claim gives.
     pub(crate) fn claim(&self, worker: &mut Worker) -> u64
         requires of { worker.old.table_id ≡ self.now.table.shared.table_id }
-        requires turn { past self.now.table.shared.key.pieces worker.old.me.0.drawn < worker.old.me.0.parts }
+        requires turn { past self.now.table.shared.key.pieces worker.old.me.0.drawn
+            < worker.old.me.0.parts }
         ensures of { worker.new.table_id ≡ self.now.table.shared.table_id }
-        ensures drawn { worker.new.me ≡ (hand worker.old.me.0.parts (worker.old.me.0.drawn ++ result ∷ []), worker.old.me.1) }
+        ensures drawn { worker.new.me ≡ (
+          hand worker.old.me.0.parts
+              (worker.old.me.0.drawn ++ result ∷ []),
+          worker.old.me.1,
+        ) }
         ensures later { length worker.old.me.0.drawn ≤ result }
     {
         self.table.shared.fetch_add::<Claim>(worker, 0, 1)
@@ -56,9 +63,14 @@ impl Claims {
     pub(crate) fn apart(&self, worker: &mut Worker) -> Worker
         requires of { worker.old.table_id ≡ self.now.table.shared.table_id }
         requires parts { 1 < worker.old.me.0.parts }
-        requires few { past self.now.table.shared.key.pieces worker.old.me.0.drawn ≤ worker.old.me.0.parts - 1 }
-        ensures of { (worker.new.table_id ≡ self.now.table.shared.table_id) × (result.table_id ≡ self.now.table.shared.table_id) }
-        ensures rest { worker.new.me ≡ (hand (worker.old.me.0.parts - 1) worker.old.me.0.drawn, worker.old.me.1) }
+        requires few { past self.now.table.shared.key.pieces worker.old.me.0.drawn
+            ≤ worker.old.me.0.parts - 1 }
+        ensures of { (worker.new.table_id ≡ self.now.table.shared.table_id)
+            × (result.table_id ≡ self.now.table.shared.table_id) }
+        ensures rest { worker.new.me ≡ (
+          hand (worker.old.me.0.parts - 1) worker.old.me.0.drawn,
+          worker.old.me.1,
+        ) }
         ensures one { result.me ≡ (hand 1 [], []) }
     {
         self.table.shared.split_seat::<Apart>(worker)
@@ -66,10 +78,15 @@ impl Claims {
 
     /// What two workers drew.
     pub(crate) fn together(&self, worker: &mut Worker, other: Worker)
-        requires of { (worker.old.table_id ≡ self.now.table.shared.table_id) × (other.table_id ≡ self.now.table.shared.table_id) }
+        requires of { (worker.old.table_id ≡ self.now.table.shared.table_id)
+            × (other.table_id ≡ self.now.table.shared.table_id) }
         requires bare { other.me.1 ≡ [] }
         ensures of { worker.new.table_id ≡ self.now.table.shared.table_id }
-        ensures both { worker.new.me ≡ (hand (worker.old.me.0.parts + other.me.0.parts) (worker.old.me.0.drawn ++ other.me.0.drawn), worker.old.me.1) }
+        ensures both { worker.new.me ≡ (
+          hand (worker.old.me.0.parts + other.me.0.parts)
+              (worker.old.me.0.drawn ++ other.me.0.drawn),
+          worker.old.me.1,
+        ) }
     {
         self.table.shared.join_seat::<Together>(worker, other);
     }

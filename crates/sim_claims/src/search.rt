@@ -2,7 +2,8 @@
 ghost use Rattle.std.specs.Prelude.{◌≡◌, ℕ, ◌+◌, ◌^◌, ◌<◌, ◌≤◌, Option, [], IfOk, vec_len};
 ghost use denote.Param.Send.{IsSync, IsSend};
 ghost use Rattle.sim_claims.specs.Claims.{hand, past};
-ghost use Rattle.sim_claims.specs.Best.{both_of, nearer_of, at_piece, IsBest, IsDone, IsFirst, first_from};
+ghost use Rattle.sim_claims.specs.Best.{both_of, nearer_of, at_piece, IsBest, IsDone, IsFirst};
+ghost use Rattle.sim_claims.specs.Best.{first_from};
 
 use crate::NoMemory;
 use crate::claims::{Claims, Worker};
@@ -118,7 +119,8 @@ fn work<M, S: Pieces<M>, G: Gate, R: Wait>(
     requires of { worker.old.table_id ≡ claims.now.table.shared.table_id }
     requires fresh { worker.old.me ≡ (hand 1 [], []) }
     requires count { claims.now.table.shared.key.pieces ≡ S.count pieces.now }
-    ensures { IsDone claims.now.table.shared.table_id (S.finding pieces.now) (S.count pieces.now) 1 worker.new result }
+    ensures { IsDone claims.now.table.shared.table_id (S.finding pieces.now)
+        (S.count pieces.now) 1 worker.new result }
 {
     let count = claims.count();
     let mut best = None;
@@ -155,13 +157,15 @@ fn alone<M: Drop, S: Pieces<M>, G: Gate, R: Wait>(
     requires of { worker.table_id ≡ claims.now.table.shared.table_id }
     requires fresh { worker.me ≡ (hand 1 [], []) }
     requires count { claims.now.table.shared.key.pieces ≡ S.count pieces.now }
-    ensures { IsDone claims.now.table.shared.table_id (S.finding pieces.now) (S.count pieces.now) 1 result.0 result.1 }
+    ensures { IsDone claims.now.table.shared.table_id (S.finding pieces.now)
+        (S.count pieces.now) 1 result.0 result.1 }
 {
     let best = work(rt, claims, pieces, gate, &mut meter, &mut worker);
     (worker, best)
 }
 
-// A worker for each meter, each in a thread of its own where one can be made, and the last one here.
+// A worker for each meter, each in a thread of its own where one can be made, and the last one
+// here.
 fn share<M: Drop + Send, S: Pieces<M> + Sync, G: Gate + Sync, R: Threads + Wait + Sync>(
     rt: &R,
     claims: &Claims,
@@ -174,7 +178,8 @@ fn share<M: Drop + Send, S: Pieces<M> + Sync, G: Gate + Sync, R: Threads + Wait 
     requires of { worker.table_id ≡ claims.now.table.shared.table_id }
     requires fresh { worker.me ≡ (hand (vec_len meters) [], []) }
     requires count { claims.now.table.shared.key.pieces ≡ S.count pieces.now }
-    ensures { IsDone claims.now.table.shared.table_id (S.finding pieces.now) (S.count pieces.now) (vec_len meters) result.0 result.1 }
+    ensures { IsDone claims.now.table.shared.table_id (S.finding pieces.now) (S.count pieces.now)
+        (vec_len meters) result.0 result.1 }
 {
     let Some(meter) = meters.pop() else {
         unreachable!()
@@ -186,15 +191,20 @@ fn share<M: Drop + Send, S: Pieces<M> + Sync, G: Gate + Sync, R: Threads + Wait 
     let ((mine, a), (mut worker, b)) = join(
         rt,
         move || -> (Worker, Result<Found, NoMemory>)
-            requires { (mine.table_id ≡ claims.now.table.shared.table_id) × (mine.me ≡ (hand 1 [], []))
+            requires { (mine.table_id ≡ claims.now.table.shared.table_id)
+                × (mine.me ≡ (hand 1 [], []))
                 × (claims.now.table.shared.key.pieces ≡ S.count pieces.now) }
-            ensures { IsDone claims.entry.now.table.shared.table_id (S.finding pieces.entry.now) (S.count pieces.entry.now) 1 result.0 result.1 }
+            ensures { IsDone claims.entry.now.table.shared.table_id (S.finding pieces.entry.now)
+                (S.count pieces.entry.now) 1 result.0 result.1 }
         { alone(rt, claims, pieces, gate, meter, mine) },
         move || -> (Worker, Result<Found, NoMemory>)
-            requires { IsSync R.row × IsSync S.row × IsSync G.row × IsSend M.row × (0 < vec_len meters)
-                × (worker.table_id ≡ claims.now.table.shared.table_id) × (worker.me ≡ (hand (vec_len meters) [], []))
+            requires { IsSync R.row × IsSync S.row × IsSync G.row × IsSend M.row
+                × (0 < vec_len meters)
+                × (worker.table_id ≡ claims.now.table.shared.table_id)
+                × (worker.me ≡ (hand (vec_len meters) [], []))
                 × (claims.now.table.shared.key.pieces ≡ S.count pieces.now) }
-            ensures { IsDone claims.entry.now.table.shared.table_id (S.finding pieces.entry.now) (S.count pieces.entry.now) (vec_len meters) result.0 result.1 }
+            ensures { IsDone claims.entry.now.table.shared.table_id (S.finding pieces.entry.now)
+                (S.count pieces.entry.now) (vec_len meters) result.0 result.1 }
         { share(rt, claims, pieces, gate, meters, worker) },
     );
     claims.together(&mut worker, mine);
@@ -203,8 +213,9 @@ fn share<M: Drop + Send, S: Pieces<M> + Sync, G: Gate + Sync, R: Threads + Wait 
 
 /// The least piece with a finding, and that finding, by as many workers as there are meters.
 ///
-/// Each piece is one worker's, and the gate is told of each. The answer is the same for every number of workers, and however the
-/// threads run. Where any scan that was made wanted memory, so does the search.
+/// Each piece is one worker's, and the gate is told of each. The answer is the same for every
+/// number of workers, and however the threads run. Where any scan that was made wanted memory, so
+/// does the search.
 pub fn least<M: Drop + Send, S: Pieces<M> + Sync, G: Gate + Sync, R: Threads + Wait + Sync>(
     rt: &R,
     alloc: Global,
@@ -215,7 +226,8 @@ pub fn least<M: Drop + Send, S: Pieces<M> + Sync, G: Gate + Sync, R: Threads + W
     requires some { 0 < vec_len meters }
     requires room { S.count pieces.now + vec_len meters < 2 ^ 64 }
     ensures least { IfOk result (λ r. IsFirst (S.finding pieces.now) (S.count pieces.now) r) }
-    ensures plain { IfOk result (λ r. r ≡ first_from (S.finding pieces.now) 0 (S.count pieces.now)) }
+    ensures plain { IfOk result (λ r. r ≡ first_from (S.finding pieces.now) 0
+        (S.count pieces.now)) }
 {
     let (claims, worker) = Claims::new(alloc, pieces.count(), meters.len() as u64)?;
     let (worker, best) = share(rt, &claims, pieces, gate, meters, worker);

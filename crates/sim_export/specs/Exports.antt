@@ -1,5 +1,6 @@
 -- What is written of a run: an input for a play.
-use Rattle.std.specs.Prelude.{◌≡◌, ◌⊎◌, List, [], ◌++◌, codes, map, Option, Some, Result, Ok, MatchResult, string_bytes}
+use Rattle.std.specs.Prelude.{◌≡◌, ◌⊎◌, List, [], ◌++◌, codes, map, Option, Some, Result, Ok}
+use Rattle.std.specs.Prelude.{MatchResult, string_bytes}
 use Rattle.std.specs.Str.Lines.{lines}
 use Rattle.std.specs.Io.KnownBytes.{Appends, prepend_known}
 use Rattle.sim_lines.specs.Cut.{head_of}
@@ -12,17 +13,21 @@ use Rattle.sim_script.specs.declared.script.ScriptLine.TheVariants.{Asked}
 use Rattle.sim_reseed.specs.Input.{with_line_end}
 use Rattle.sim_input.specs.Events.{AreRead, command_of}
 use Rattle.sim_cli.specs.declared.status.Status.{Status}
-use Rattle.sim_cli.specs.declared.status.Status.TheVariants.{Well, BadScenario, BadRequest, ReaderFailed, WriterFailed, MemoryWanted}
+use Rattle.sim_cli.specs.declared.status.Status.TheVariants.{Well, BadScenario, BadRequest}
+use Rattle.sim_cli.specs.declared.status.Status.TheVariants.{ReaderFailed, WriterFailed}
+use Rattle.sim_cli.specs.declared.status.Status.TheVariants.{MemoryWanted}
 use Rattle.sim_cli.specs.Lines.{fault_line}
 use Rattle.sim_cli.specs.Play.{Ended, Nodes, names_of, read_scenario}
 use Rattle.sim_cli.specs.Subjects.{Ports}
 use Rattle.sim_export.specs.declared.export.Export.{Export}
-use Rattle.sim_export.specs.declared.export.Export.TheVariants.{Input, Shown, Nowhere, BadRange, BadCondition, BadScript, NoInput}
+use Rattle.sim_export.specs.declared.export.Export.TheVariants.{Input, Shown, Nowhere, BadRange}
+use Rattle.sim_export.specs.declared.export.Export.TheVariants.{BadCondition, BadScript, NoInput}
 
 -- Cut as a play cuts it, the input is this text of a scenario, with an end for its last line, and a
--- script. Where each name is read as its host, the lines of the script are read as the commands that
--- make just these events.
-pub record Makes (scenario : Text) (names : Names) (events : List Event) (input : Text) : Type 0 where
+-- script. Where each name is read as its host, the lines of the script are read as the commands
+-- that make just these events.
+pub record Makes (scenario : Text) (names : Names) (events : List Event)
+    (input : Text) : Type 0 where
   pub script : Text
   pub cut : head_of input ≡ (with_line_end scenario, script)
   pub asks : AreRead names

@@ -1,5 +1,6 @@
 -- The run of a seed as an input for a play.
-use Rattle.std.specs.Prelude.{◌≡◌, ℕ, ◌≤◌, ◌^◌, Bool, false, List, [], Option, None, Some, Ok, string_bytes}
+use Rattle.std.specs.Prelude.{◌≡◌, ℕ, ◌≤◌, ◌^◌, Bool, false, List, [], Option, None, Some, Ok}
+use Rattle.std.specs.Prelude.{string_bytes}
 use Rattle.sim_world.specs.declared.Event.{Event}
 use Rattle.sim_world.specs.Events.{Rules}
 use Rattle.sim_world.specs.Seeds.{numbered}
@@ -11,7 +12,8 @@ use Rattle.sim_reseed.specs.Numbered.{numbered as numbered_scenario}
 use Rattle.sim_cli.specs.Play.{read_scenario}
 use Rattle.sim_export.specs.declared.planned.SeedRun.{SeedRun}
 use Rattle.sim_export.specs.declared.export.Export.{Export}
-use Rattle.sim_export.specs.declared.export.Export.TheVariants.{Input, Shown, Nowhere, BadRange, BadCondition, BadScript, NoInput}
+use Rattle.sim_export.specs.declared.export.Export.TheVariants.{Input, Shown, Nowhere, BadRange}
+use Rattle.sim_export.specs.declared.export.Export.TheVariants.{BadCondition, BadScript, NoInput}
 use Rattle.sim_export.specs.Exports.{IsInput, Right}
 
 -- how a run with these numbers is planned

@@ -1,5 +1,6 @@
 -- The smallest failing run of a script as an input for a play.
-use Rattle.std.specs.Prelude.{◌≡◌, Bool, true, false, List, length, Option, None, Some, Ok, string_bytes}
+use Rattle.std.specs.Prelude.{◌≡◌, Bool, true, false, List, length, Option, None, Some, Ok}
+use Rattle.std.specs.Prelude.{string_bytes}
 use Rattle.sim_world.specs.declared.Event.{Event}
 use Rattle.sim_world.specs.Events.{Rules}
 use Rattle.sim_watch.specs.Condition.{Cond}
@@ -14,15 +15,18 @@ use Rattle.sim_cli.specs.Play.{read_scenario}
 use Rattle.sim_cli.specs.Strict.{are_well}
 use Rattle.sim_replay.specs.Played.{first_events}
 use Rattle.sim_export.specs.declared.export.Export.{Export}
-use Rattle.sim_export.specs.declared.export.Export.TheVariants.{Input, Shown, Nowhere, BadRange, BadCondition, BadScript, NoInput}
+use Rattle.sim_export.specs.declared.export.Export.TheVariants.{Input, Shown, Nowhere, BadRange}
+use Rattle.sim_export.specs.declared.export.Export.TheVariants.{BadCondition, BadScript, NoInput}
 use Rattle.sim_export.specs.Exports.{IsInput, Right}
 
-module _ {State Msg : Type 0} (r : Rules State Msg) (names : Names) (scenario : Text) (events : List Event) where
-  -- The export is right for a condition: an input that makes the run without the faults that it does
-  -- not need, in the same scenario.
+module _ {State Msg : Type 0} (r : Rules State Msg) (names : Names) (scenario : Text)
+    (events : List Event) where
+  -- The export is right for a condition: an input that makes the run without the faults that it
+  -- does not need, in the same scenario.
   abbrev pub IsShrinkOf : Cond → Export → Type 0
   IsShrinkOf c (Input input) = (run : List Event) × IsShrunk r c events run
-      × ((protocols : List Protocol) (said : ScenarioText) → read_scenario protocols scenario ≡ Ok said
+      × ((protocols : List Protocol) (said : ScenarioText) → read_scenario protocols scenario
+      ≡ Ok said
       → IsInput protocols said names run (string_bytes input))
   IsShrinkOf c (Shown text) = ⊥
   IsShrinkOf c Nowhere = failing r c events ≡ None

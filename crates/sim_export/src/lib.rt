@@ -6,9 +6,10 @@
 //! - [`write_shrunk`] plays a script and writes its run as an input, up to the first place at which
 //!   a condition fails, without the faults that it does not need to fail.
 //!
-//! The contract (`Written` in `specs/Exports.antt`) is a round trip: cut and read as a play does it,
-//! the input says the scenario, and the lines of its script are read as the commands that make just
-//! the events of the run. Which events these are, `specs/SeedRuns.antt` and `specs/Shrinks.antt` say.
+//! The contract (`Written` in `specs/Exports.antt`) is a round trip: cut and read as a play does
+//! it, the input says the scenario, and the lines of its script are read as the commands that make
+//! just the events of the run. Which events these are, `specs/SeedRuns.antt` and
+//! `specs/Shrinks.antt` say.
 //!
 //! Why it is built this way: writing a run needs no threads, so it is a task over the nodes of the
 //! protocol that the scenario names (`sim_cli::Task`), for every list of protocols.

@@ -1,5 +1,6 @@
 //! The run of a seed as an input for a play.
-ghost use Rattle.std.specs.Prelude.{◌≡◌, ◌≤◌, ℕ, List, [], Some, Ok, IfOk, IfSome, IfNone, length, string_bytes};
+ghost use Rattle.std.specs.Prelude.{◌≡◌, ◌≤◌, ℕ, List, [], Some, Ok, IfOk, IfSome, IfNone, length};
+ghost use Rattle.std.specs.Prelude.{string_bytes};
 ghost use Rattle.sim_world.specs.Events.{rules};
 ghost use Rattle.sim_world.specs.Seeds.{numbered};
 ghost use Rattle.sim_plan.specs.Happening.{IsPlan, planned_run};
@@ -157,12 +158,13 @@ impl<'a> Task for RunWriting<'a> {
     }
 }
 
-/// Reads a scenario and writes the run of one of its seeds as an input for a play: the scenario with
-/// that seed, a line `---`, and a line of script for each event. The reader's script is not read.
+/// Reads a scenario and writes the run of one of its seeds as an input for a play: the scenario
+/// with that seed, a line `---`, and a line of script for each event. The reader's script is not
+/// read.
 ///
-/// It writes `bad range` with status 2 if the spacing of faults is not 2 to 65,536 or there are more
-/// than 65,534 events with the quiet end, and `no input` with status 2 if the run has none. There
-/// are at most 255 subjects.
+/// It writes `bad range` with status 2 if the spacing of faults is not 2 to 65,536 or there are
+/// more than 65,534 events with the quiet end, and `no input` with status 2 if the run has none.
+/// There are at most 255 subjects.
 pub fn write_run<L: Subjects, R: Read, W: Write>(
     alloc: Global,
     run: SeedRun,

@@ -159,8 +159,8 @@ impl<'a, H: Eprint> Task for Shrinking<'a, H> {
 }
 
 /// Plays a script without writing its answers, and writes the kept events of its first branch as an
-/// input for a play, up to the first place at which a condition fails and without the faults that it
-/// does not need to fail.
+/// input for a play, up to the first place at which a condition fails and without the faults that
+/// it does not need to fail.
 ///
 /// It writes `none` if the condition fails nowhere, `bad condition` with status 2 if the words are
 /// none or the scenario has no such host or probe, and `no input` with status 2 if no line of a

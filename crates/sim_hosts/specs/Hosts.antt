@@ -1,5 +1,6 @@
 -- The servers, sets of hosts, and messages to many.
-use Rattle.std.specs.Prelude.{ℕ, ◌-◌, ◌^◌, ◌==◌, nat_lt, nat_le, bit_or, count_ones, Bool, not, ◌&&◌, List, filter, map}
+use Rattle.std.specs.Prelude.{ℕ, ◌-◌, ◌^◌, ◌==◌, nat_lt, nat_le, bit_or, count_ones, Bool, not}
+use Rattle.std.specs.Prelude.{◌&&◌, List, filter, map}
 use Rattle.std.specs.Int.{bit_at}
 use Rattle.std.specs.List.{list_all}
 use Rattle.sim_node.specs.declared.Setup.{Setup}

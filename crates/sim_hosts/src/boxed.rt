@@ -7,8 +7,8 @@ use std::alloc::Global;
 use std::fmt;
 use std::marker::Model;
 
-/// The state of a role in memory of its own, so that hosts in other roles do not carry it. Contracts
-/// see the state.
+/// The state of a role in memory of its own, so that hosts in other roles do not carry it.
+/// Contracts see the state.
 #[derive(Drop)]
 pub struct Boxed<T> {
     inner: Box<T>,
@@ -51,7 +51,8 @@ impl<T: Copy> Boxed<T> {
     #[inline]
     pub fn get_mut(&mut self) -> &mut T
         ensures value { result.now ≡ self.old }
-        ensures* writes_back { sem 𝓛 (Lends (boxed.the_row T.row) T.row self.entry result (λ now. now)) }
+        ensures* writes_back { sem 𝓛 (Lends (boxed.the_row T.row) T.row self.entry result
+            (λ now. now)) }
     {
         &mut self.inner
     }

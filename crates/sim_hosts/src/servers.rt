@@ -16,7 +16,10 @@ pub fn send_to_all<M: Copy + Drop>(first: u16, setup: &Setup, msg: M, effects: &
     requires room { length effects.old.list + setup.now.servers ≤ 40 }
     requires hosts { setup.now.servers ≤ effects.old.hosts }
     ensures room { length effects.new.list ≤ length effects.old.list + setup.now.servers }
-    ensures sent { effects.new ≡ record effects.old { list = effects.old.list ++ to_all (servers_from first setup.now) msg } }
+    ensures sent { effects.new ≡ record effects.old {
+      list = effects.old.list
+          ++ to_all (servers_from first setup.now) msg;
+    } }
 {
     for host in first..setup.servers {
         effects.send(host, msg);
@@ -35,7 +38,10 @@ pub fn send_to_missing<M: Copy + Drop>(
     requires few { setup.now.servers ≤ 32 }
     requires hosts { setup.now.servers ≤ effects.old.hosts }
     ensures room { length effects.new.list ≤ length effects.old.list + setup.now.servers }
-    ensures sent { effects.new ≡ record effects.old { list = effects.old.list ++ to_all (not_in (servers_from first setup.now) set) msg } }
+    ensures sent { effects.new ≡ record effects.old {
+      list = effects.old.list
+          ++ to_all (not_in (servers_from first setup.now) set) msg;
+    } }
 {
     for host in first..setup.servers {
         if !set.contains(host) {

@@ -1,11 +1,13 @@
 -- The text of a condition: its words, with one space between each two.
-use Rattle.std.specs.Prelude.{◌≡◌, ◌<◌, ◌^◌, ℕ, nat_lt, Bool, true, false, codes, List, [], ◌∷◌, ◌++◌, length, Option, Some, None, if◌then◌else◌}
+use Rattle.std.specs.Prelude.{◌≡◌, ◌<◌, ◌^◌, ℕ, nat_lt, Bool, true, false, codes, List, [], ◌∷◌}
+use Rattle.std.specs.Prelude.{◌++◌, length, Option, Some, None, if◌then◌else◌}
 use Rattle.std.specs.Fmt.{decimal}
 use Rattle.sim_watch.specs.declared.Value.{Value}
 use Rattle.sim_watch.specs.declared.Value.TheVariants.{Number, Shown}
 use Rattle.sim_watch.specs.declared.Comparison.{Comparison}
 use Rattle.sim_watch.specs.declared.Term.{Term}
-use Rattle.sim_watch.specs.declared.Term.TheVariants.{Cmp, Count, Any, All, Agree, AgreeBy, Differ, Up, NotUp, Done, NotDone}
+use Rattle.sim_watch.specs.declared.Term.TheVariants.{Cmp, Count, Any, All, Agree, AgreeBy, Differ}
+use Rattle.sim_watch.specs.declared.Term.TheVariants.{Up, NotUp, Done, NotDone}
 use Rattle.sim_watch.specs.Condition.{Cond}
 use Rattle.sim_script.specs.Words.{Text, Names, is_word, probe, host_name, probe_name}
 use Rattle.sim_script.specs.Conditions.{op_word}
@@ -35,7 +37,8 @@ after word text = spaced (Some word) text
 abbrev pub between_each : {A : Type 0} → Text → (A → Option Text) → List A → Option Text
 between_each mid text_of [] = None
 between_each mid text_of (x ∷ []) = text_of x
-between_each mid text_of (x ∷ y ∷ more) = between mid (text_of x) (between_each mid text_of (y ∷ more))
+between_each mid text_of (x ∷ y ∷ more) =
+    between mid (text_of x) (between_each mid text_of (y ∷ more))
 
 -- what stands before a term that begins an alternative, or goes on with one
 abbrev pub joint_text : Bool → Text

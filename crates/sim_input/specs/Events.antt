@@ -1,5 +1,6 @@
 -- The line of a script for each event of a run, and what that line asks.
-use Rattle.std.specs.Prelude.{◌≡◌, ◌<◌, ℕ, codes, List, [], ◌∷◌, ◌++◌, length, Option, Some, None, if◌then◌else◌, ◌&&◌}
+use Rattle.std.specs.Prelude.{◌≡◌, ◌<◌, ℕ, codes, List, [], ◌∷◌, ◌++◌, length, Option, Some, None}
+use Rattle.std.specs.Prelude.{if◌then◌else◌, ◌&&◌}
 use Rattle.sim_world.specs.declared.Event.{Event}
 use Rattle.sim_world.specs.declared.Event.TheVariants as event
 use Rattle.sim_world.specs.declared.Fault.{Fault}
@@ -16,7 +17,8 @@ AreRead names = (h : ℕ) → h < length names.hosts → host names (host_name n
 module _ (names : Names) where
   -- a word and the name of a host, or of two, where they have names
   abbrev pub on_host : Text → ℕ → Option Text
-  on_host word h = if is_word (host_name names h) then Some (word ++ (codes " " ++ host_name names h)) else None
+  on_host word h =
+      if is_word (host_name names h) then Some (word ++ (codes " " ++ host_name names h)) else None
 
   abbrev pub on_hosts : Text → ℕ → ℕ → Option Text
   on_hosts word a b =

@@ -1,5 +1,6 @@
 //! The words of a condition.
-ghost use Rattle.std.specs.Prelude.{◌≡◌, None, Some, IfErr, OnOk, string_bytes, codes, if◌then◌else◌};
+ghost use Rattle.std.specs.Prelude.{◌≡◌, None, Some, IfErr, OnOk, string_bytes, codes};
+ghost use Rattle.std.specs.Prelude.{if◌then◌else◌};
 ghost use Rattle.sim_watch.specs.Condition.{alternatives};
 ghost use Rattle.sim_script.specs.Words.{Text, words};
 ghost use Rattle.sim_script.specs.Conditions.{condition, op_word};

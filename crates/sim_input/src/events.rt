@@ -1,11 +1,13 @@
 //! The lines of a script for the events of a run.
-ghost use Rattle.std.specs.Prelude.{◌≡◌, ◌++◌, List, codes, map, IfOk, IfErr, OnOk, None, Some, string_bytes};
+ghost use Rattle.std.specs.Prelude.{◌≡◌, ◌++◌, List, codes, map, IfOk, IfErr, OnOk, None, Some};
+ghost use Rattle.std.specs.Prelude.{string_bytes};
 ghost use Rattle.std.specs.Str.Lines.{lines};
 ghost use Rattle.sim_script.specs.Script.{script_line};
 ghost use Rattle.sim_script.specs.Words.{Text};
 ghost use Rattle.sim_script.specs.declared.script.ScriptLine.TheVariants.{Asked};
 ghost use Rattle.sim_input.specs.Events.{event_lines, text_of};
-ghost use Rattle.sim_input.specs.Events.{AreRead, event_line, fault_line, on_host, on_hosts, command_of};
+ghost use Rattle.sim_input.specs.Events.{AreRead, event_line, fault_line, on_host, on_hosts};
+ghost use Rattle.sim_input.specs.Events.{command_of};
 
 use sim_script::Names;
 use sim_world::{Event, Fault};

@@ -1,5 +1,6 @@
 -- The input: a scenario's text up to a marker line, and the lines of a script.
-use Rattle.std.specs.Prelude.{◌≡◌, ℕ, ◌<◌, List, [], ◌∷◌, ◌++◌, length, Bool, false, ◌==◌, if◌then◌else◌, codes, All, slice_get, ◌⊎◌}
+use Rattle.std.specs.Prelude.{◌≡◌, ℕ, ◌<◌, List, [], ◌∷◌, ◌++◌, length, Bool, false, ◌==◌}
+use Rattle.std.specs.Prelude.{if◌then◌else◌, codes, All, slice_get, ◌⊎◌}
 use Rattle.std.specs.List.{slice_split, join_with_byte}
 use Rattle.std.specs.Str.{bytes_eq}
 use Rattle.std.specs.Str.Lines.{strip_carriage_return}
@@ -16,7 +17,8 @@ parts bytes = slice_split (λ b. b == 10) bytes
 abbrev pub whole_lines_of_parts : List (List ℕ) → List (List ℕ)
 whole_lines_of_parts [] = []
 whole_lines_of_parts (part ∷ []) = []
-whole_lines_of_parts (part ∷ next ∷ more) = strip_carriage_return part ∷ whole_lines_of_parts (next ∷ more)
+whole_lines_of_parts (part ∷ next ∷ more) =
+    strip_carriage_return part ∷ whole_lines_of_parts (next ∷ more)
 
 -- the lines that a line end follows
 abbrev pub whole_lines : List ℕ → List (List ℕ)
@@ -43,4 +45,6 @@ longest_line = 256
 
 -- what was kept of a line: all of it, or of one that is too long a front that is too long as well
 abbrev pub Shows : List ℕ → List ℕ → Type 0
-Shows kept line = (kept ≡ line) ⊎ ((256 < length kept) × (256 < length line) × (slice_get kept 0 ≡ slice_get line 0))
+Shows kept line =
+    (kept ≡ line) ⊎ ((256 < length kept) × (256 < length line)
+    × (slice_get kept 0 ≡ slice_get line 0))

@@ -10,9 +10,11 @@ Gives old new (Byte b) = Consumes old new (b ∷ [])
 Gives old new End = Consumes old new [] × IsAtEnd new
 Gives old new Failed = Consumes old new []
 
--- A byte that waits is taken without a read. Where none waits one read is made, of at most 4,096 bytes, and its first byte is taken.
+-- A byte that waits is taken without a read. Where none waits one read is made, of at most 4,096
+-- bytes, and its first byte is taken.
 abbrev pub Spends : Waiting → Waiting → Next → Type 0
 Spends old new (Byte b) =
-    ((old.bytes ≡ b ∷ new.bytes) × (old.reads ≡ new.reads)) ⊎ ((old.bytes ≡ []) × (old.reads ≡ new.reads + 1) × (length new.bytes < 4096))
+    ((old.bytes ≡ b ∷ new.bytes) × (old.reads ≡ new.reads))
+    ⊎ ((old.bytes ≡ []) × (old.reads ≡ new.reads + 1) × (length new.bytes < 4096))
 Spends old new End = (old.bytes ≡ []) × (old.reads ≡ new.reads + 1) × (new.bytes ≡ [])
 Spends old new Failed = (old.bytes ≡ []) × IsUsedUp old new

@@ -1,5 +1,6 @@
 -- What reading a line takes.
-use Rattle.std.specs.Prelude.{◌≡◌, ℕ, List, [], ◌∷◌, ◌++◌, ◌<◌, ◌≤◌, length, Option, ◌⊎◌, Result, Ok, Err, Vec}
+use Rattle.std.specs.Prelude.{◌≡◌, ℕ, List, [], ◌∷◌, ◌++◌, ◌<◌, ◌≤◌, length, Option, ◌⊎◌, Result}
+use Rattle.std.specs.Prelude.{Ok, Err, Vec}
 use Rattle.std.specs.Io.KnownBytes.{Consumes, IsAtEnd}
 use Rattle.std.specs.Str.Lines.{lines}
 use Rattle.sim_lines.specs.Cut.{whole_lines, head_of, Shows}
@@ -49,7 +50,8 @@ TakesNext old new kept End = Consumes old new [] × IsAtEnd new
 TakesNext old new kept Failed = TakesPart old new
 TakesNext old new kept NoMemory = Unit {0}
 
--- what a line's taking does to what waits: fewer bytes can still come, and where the reader failed none waits
+-- what a line's taking does to what waits: fewer bytes can still come, and where the reader failed
+-- none waits
 abbrev pub SpendsLine : Waiting → Waiting → NextLine → Type 0
 SpendsLine old new Failed = IsUsedUp old new
 SpendsLine old new _ = budget new < budget old
@@ -73,7 +75,8 @@ pub record HasHead (old new : Option (List ℕ)) (text : List ℕ) : Type 0 wher
   pub taken : List ℕ
   pub most : length taken ≤ 65600
   pub consumed : Consumes old new taken
-  pub ends : IsWholeHead taken text ⊎ ((IsAtEnd new × IsLastHead taken text) ⊎ IsLongHead taken text)
+  pub ends : IsWholeHead taken text ⊎ ((IsAtEnd new × IsLastHead taken text)
+      ⊎ IsLongHead taken text)
 
 -- what was taken has no marker line
 pub record HasNoMarker (old new : Option (List ℕ)) : Type 0 where
@@ -82,7 +85,8 @@ pub record HasNoMarker (old new : Option (List ℕ)) : Type 0 where
   pub consumed : Consumes old new taken
   pub none : (head_of taken).1 ≡ []
 
-abbrev pub TakesHead : {A : Type 0} → Option (List ℕ) → Option (List ℕ) → Result (Vec ℕ A) HeadError → Type 0
+abbrev pub TakesHead : {A : Type 0} → Option (List ℕ) → Option (List ℕ) → Result (Vec ℕ A) HeadError
+    → Type 0
 TakesHead old new (Ok text) = HasHead old new text.items
 TakesHead old new (Err faults.Failed) = HasNoMarker old new
 TakesHead old new (Err faults.NoMemory) = Unit {0}

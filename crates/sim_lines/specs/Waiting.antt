@@ -2,8 +2,8 @@
 use Rattle.std.specs.Prelude.{◌≡◌, ℕ, ◌+◌, ◌*◌, ◌^◌, ◌<◌, ◌≤◌, List, [], length, Option, ◌⊎◌}
 use Rattle.std.specs.Io.KnownBytes.{Consumes}
 
---     bytes     what waits, in order
---     reads     how many reads may still be made
+-- bytes     what waits, in order
+-- reads     how many reads may still be made
 pub record Waiting : Type 0 where
   pub bytes : List ℕ
   pub reads : ℕ

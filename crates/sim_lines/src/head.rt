@@ -1,5 +1,6 @@
 //! The scenario's text, up to the marker line.
-ghost use Rattle.std.specs.Prelude.{◌≡◌, ◌≢◌, ℕ, List, [], ◌∷◌, ◌++◌, ◌≤◌, ◌==◌, length, take, drop, vec_len, OnOk, if◌then◌else◌};
+ghost use Rattle.std.specs.Prelude.{◌≡◌, ◌≢◌, ℕ, List, [], ◌∷◌, ◌++◌, ◌≤◌, ◌==◌, length, take};
+ghost use Rattle.std.specs.Prelude.{drop, vec_len, OnOk, if◌then◌else◌};
 ghost use Rattle.std.specs.Io.KnownBytes.{prepend_known};
 ghost use Rattle.std.specs.Str.Lines.{strip_carriage_return};
 ghost use Rattle.sim_lines.specs.Cut.{is_marker};
@@ -106,8 +107,8 @@ fn is_marker_line(line: &[u8]) -> bool
     line == b"---".as_slice()
 }
 
-/// Reads the scenario's text and the marker line after it, or 65,600 bytes without one. What was read beyond that waits: at most
-/// 4,096 bytes.
+/// Reads the scenario's text and the marker line after it, or 65,600 bytes without one. What was
+/// read beyond that waits: at most 4,096 bytes.
 pub fn read_head<R: Read>(
     alloc: Global,
     reader: &mut R,
@@ -116,7 +117,8 @@ pub fn read_head<R: Read>(
     ensures takes { TakesHead (prepend_known ahead.old.bytes (R.remaining reader.old))
         (prepend_known ahead.new.bytes (R.remaining reader.new)) result }
     ensures spends { SpendsHead ahead.old ahead.new result }
-    ensures counts { CountsReads ahead.old ahead.new (R.remaining reader.old) (R.remaining reader.new) }
+    ensures counts { CountsReads ahead.old ahead.new (R.remaining reader.old)
+        (R.remaining reader.new) }
     ensures few { length ahead.new.bytes ≤ 4096 }
 {
     let mut lines = Lines::new(alloc);

@@ -40,7 +40,8 @@ pub fn next_line<R: Read>(reader: &mut R, ahead: &mut Ahead, line: &mut Vec<u8>)
     ensures takes { TakesNext (prepend_known ahead.old.bytes (R.remaining reader.old))
         (prepend_known ahead.new.bytes (R.remaining reader.new)) line.new.items result }
     ensures spends { SpendsLine ahead.old ahead.new result }
-    ensures counts { CountsReads ahead.old ahead.new (R.remaining reader.old) (R.remaining reader.new) }
+    ensures counts { CountsReads ahead.old ahead.new (R.remaining reader.old)
+        (R.remaining reader.new) }
 {
     line.clear();
     loop {

@@ -1,5 +1,6 @@
 //! A buffer between a reader and what takes its bytes one by one.
-ghost use Rattle.std.specs.Prelude.{◌≡◌, ℕ, ◌+◌, List, [], ◌∷◌, ◌≤◌, ◌<◌, ◌^◌, ◌==◌, length, slice_range, IfNone, OnOk, OnErr, option_to_list, ◌++◌};
+ghost use Rattle.std.specs.Prelude.{◌≡◌, ℕ, ◌+◌, List, [], ◌∷◌, ◌≤◌, ◌<◌, ◌^◌, ◌==◌, length};
+ghost use Rattle.std.specs.Prelude.{slice_range, IfNone, OnOk, OnErr, option_to_list, ◌++◌};
 ghost use Rattle.sim_lines.specs.Gives.{Gives, Spends};
 ghost use Rattle.sim_lines.specs.Waiting.{unread, CountsReads, IsUsedUp};
 ghost use Rattle.std.specs.Io.KnownBytes.{prepend_known, Consumes, Keeps, IsAtEnd};
@@ -59,7 +60,8 @@ impl Ahead {
     /// One read, where one is left, while no byte is waiting.
     fn fill<R: Read>(&mut self, reader: &mut R) -> Result<(), ReaderError>
         requires { self.old.bytes ≡ [] }
-        ensures ok { OnOk result (Consumes (R.remaining reader.old) (R.remaining reader.new) self.new.bytes) }
+        ensures ok { OnOk result (Consumes (R.remaining reader.old)
+            (R.remaining reader.new) self.new.bytes) }
         ensures end { OnOk result (self.new.bytes ≡ [] → IsAtEnd (R.remaining reader.new)) }
         ensures counted { OnOk result (self.old.reads ≡ self.new.reads + 1) }
         ensures err { OnErr result (Keeps (R.remaining reader.old) (R.remaining reader.new)) }
@@ -110,7 +112,8 @@ pub fn next_byte<R: Read>(reader: &mut R, ahead: &mut Ahead) -> Next
     ensures gives { Gives (prepend_known ahead.old.bytes (R.remaining reader.old))
         (prepend_known ahead.new.bytes (R.remaining reader.new)) result }
     ensures spends { Spends ahead.old ahead.new result }
-    ensures counts { CountsReads ahead.old ahead.new (R.remaining reader.old) (R.remaining reader.new) }
+    ensures counts { CountsReads ahead.old ahead.new (R.remaining reader.old)
+        (R.remaining reader.new) }
     ensures few { length ahead.new.bytes ≤ 4096 }
 {
     if let Some(byte) = ahead.take_first() {

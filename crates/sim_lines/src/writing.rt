@@ -1,5 +1,6 @@
 //! Whole texts to a writer, at once or gathered.
-ghost use Rattle.std.specs.Prelude.{◌≡◌, ◌≤◌, ◌++◌, ℕ, List, [], length, OnOk, OnErr, if◌then◌else◌};
+ghost use Rattle.std.specs.Prelude.{◌≡◌, ◌≤◌, ◌++◌, ℕ, List, [], length, OnOk, OnErr};
+ghost use Rattle.std.specs.Prelude.{if◌then◌else◌};
 ghost use Rattle.std.specs.Io.KnownBytes.{Appends};
 ghost use Rattle.sim_lines.specs.Left.{AppendsPart, HandsOver, WritesAll};
 
@@ -17,7 +18,8 @@ pub struct WriterError;
 /// Writes all of the text, or where the writer fails a part from its front.
 pub fn put<W: Write>(writer: &mut W, text: &[u8]) -> Result<(), WriterError>
     ensures ok { OnOk result (Appends (W.contents writer.old) (W.contents writer.new) text.now) }
-    ensures err { OnErr result (AppendsPart (W.contents writer.old) (W.contents writer.new) text.now) }
+    ensures err { OnErr result (AppendsPart (W.contents writer.old)
+        (W.contents writer.new) text.now) }
 {
     let mut rest = text;
     while !rest.is_empty() {
@@ -54,12 +56,15 @@ impl Outlet {
         }
     }
 
-    /// Writes all that waits, and flushes the writer. Where the writer fails a part was written, and the rest is not kept for it.
+    /// Writes all that waits, and flushes the writer. Where the writer fails a part was written,
+    /// and the rest is not kept for it.
     ///
-    /// Of a flush the clause says that the writer holds what it held, which is all that std's contract tells: that one is made
-    /// where all was written, and that its failure is answered, shows in no clause.
+    /// Of a flush the clause says that the writer holds what it held, which is all that std's
+    /// contract tells: that one is made where all was written, and that its failure is answered,
+    /// shows in no clause.
     pub fn flush<W: Write>(&mut self, writer: &mut W) -> Result<(), WriterError>
-        ensures { WritesAll (W.contents writer.old) (W.contents writer.new) self.old self.new result }
+        ensures { WritesAll (W.contents writer.old) (W.contents writer.new) self.old self.new
+            result }
     {
         match put(writer, self.waiting.as_slice()) {
             Ok(()) => {}
@@ -79,10 +84,12 @@ impl Outlet {
         text.len() <= ROOM - self.waiting.len() && self.waiting.extend_from_slice(text).is_ok()
     }
 
-    /// Hands a text over: it waits, or what waits is written and then the text. Where there is no memory for it to wait it is written.
-    /// Where the writer fails a part was written, and the rest is not kept for it.
+    /// Hands a text over: it waits, or what waits is written and then the text. Where there is no
+    /// memory for it to wait it is written. Where the writer fails a part was written, and the rest
+    /// is not kept for it.
     pub fn hand_over<W: Write>(&mut self, writer: &mut W, text: &[u8]) -> Result<(), WriterError>
-        ensures { HandsOver (W.contents writer.old) (W.contents writer.new) self.old text.now self.new result }
+        ensures { HandsOver (W.contents writer.old) (W.contents writer.new) self.old text.now
+            self.new result }
     {
         if self.keep(text) {
             return Ok(());

@@ -19,4 +19,5 @@ module _ {E : Type 0} (session_of : E → ℕ) where
 
   -- the receipt is the entry of its number among those of its session
   abbrev pub HasEntry : (E → ℕ) → List E → E → Type 0
-  HasEntry number_of log receipt = slice_get (of_session (session_of receipt) log) (number_of receipt - 1) ≡ Some receipt
+  HasEntry number_of log receipt =
+      slice_get (of_session (session_of receipt) log) (number_of receipt - 1) ≡ Some receipt

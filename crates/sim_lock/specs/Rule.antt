@@ -1,5 +1,6 @@
 -- What the sessions know of the book's history, and what the table's steps tell them.
-use Rattle.std.specs.Prelude.{ℕ, zero, suc, ◌≡◌, ◌≢◌, ◌<◌, ◌≤◌, ◌+◌, ◌==◌, Bool, true, false, cond, List, [], ◌∷◌, length, slice_index, Option, Some}
+use Rattle.std.specs.Prelude.{ℕ, zero, suc, ◌≡◌, ◌≢◌, ◌<◌, ◌≤◌, ◌+◌, ◌==◌, Bool, true, false, cond}
+use Rattle.std.specs.Prelude.{List, [], ◌∷◌, length, slice_index, Option, Some}
 use mathlib.Core.Option.{some}
 use lib.ListN.{get_elem?}
 use Rattle.atomic_table.specs.Table.{State, Me, Step}
@@ -16,7 +17,8 @@ Each P [] = Unit {0}
 Each P (x ∷ xs) = P x × Each P xs
 
 module _ {C E : Type 0} where
-  -- the part of a session: its number, the scenario, its own entries, what it has seen, and whether it has the book
+  -- the part of a session: its number, the scenario, its own entries, what it has seen, and whether
+  -- it has the book
   abbrev pub part : ℕ → C → List E → List E → Bool → Part C E
   part s c m n h = record { session = s; scenario = c; mine = m; seen = n; holds = h }
 
@@ -70,8 +72,9 @@ module _ {C E : Type 0} where
   rest_of (p ∷ ps) = ps
 
 module _ {C E : Type 0} (session_of : E → ℕ) where
-  -- What the rule says of one part: its entries are all that the history has of its session, and the history begins with what it has
-  -- seen. Where it has the book the word says so, and it has seen the whole
+  -- What the rule says of one part: its entries are all that the history has of its session, and
+  -- the history begins with what it has seen. Where it has the book the word says so, and it has
+  -- seen the whole
   abbrev pub Fits : C → List E → ℕ → Part C E → Type 0
   Fits c log word p =
       (p.scenario ≡ c) × (of_session session_of p.session log ≡ p.mine) × Begins p.seen log
@@ -83,28 +86,35 @@ module _ {C E : Type 0} (session_of : E → ℕ) where
   gave (p ∷ ps) log = part p.session p.scenario (of_session session_of p.session log) log false ∷ ps
 
   module _ {B : Type 0} (scenario : B → C) (entries : B → List E) where
-    -- The history fits each part, each session has one part, and no other session has an entry. The book is at home with that history
-    -- where the word is 0, and else it is with the part that has it
+    -- The history fits each part, each session has one part, and no other session has an entry. The
+    -- book is at home with that history where the word is 0, and else it is with the part that has
+    -- it
     pub record Keeps (c : C) (sessions : ℕ) (s : State (Option B) (List (Part C E))) : Type 0 where
       pub log : List E
       pub word : length s.words ≡ 1
-      pub home : slice_index s.words 0 ≡ 0 → (b : B) × (get_elem? s.homes 0 ≡ some (some (Some b))) × (scenario b ≡ c) × (entries b ≡ log)
+      pub home : slice_index s.words 0 ≡ 0 → (b : B) × (get_elem? s.homes 0 ≡ some (some (Some b)))
+          × (scenario b ≡ c) × (entries b ≡ log)
       pub out : slice_index s.words 0 ≢ 0 → 0 < total (total has) s.views
-      pub fits : (id : ℕ) (v : List (Part C E)) → get_elem? s.views id ≡ some v → Each (Fits c log (slice_index s.words 0)) v
+      pub fits : (id : ℕ) (v : List (Part C E)) → get_elem? s.views id ≡ some v
+          → Each (Fits c log (slice_index s.words 0)) v
       pub one : (k : ℕ) → k < sessions → total (total (sits k)) s.views ≡ 1
-      pub others : (k : ℕ) → sessions ≤ k → (total (total (sits k)) s.views ≡ 0) × (of_session session_of k log ≡ [])
+      pub others : (k : ℕ) → sessions ≤ k → (total (total (sits k)) s.views ≡ 0)
+          × (of_session session_of k log ≡ [])
       pub all : total length s.views ≡ sessions
 
     -- the book was found: the seat has it, and has seen its history
     abbrev pub Found : Me (Option B) (List (Part C E)) → Me (Option B) (List (Part C E)) → Type 0
     Found m n =
         (b : B) × (n ≡ (took m.0 (entries b), (0, Some b) ∷ m.1))
-        × ScenarioIs (scenario b) m.0 × (of_session session_of (session_in m.0) (entries b) ≡ mine_in m.0) × Begins (seen_in m.0) (entries b)
+        × ScenarioIs (scenario b) m.0 × (of_session session_of (session_in m.0) (entries b)
+        ≡ mine_in m.0) × Begins (seen_in m.0) (entries b)
 
     -- a take answers the word that it found: the book was there at 0, and else nothing changed
-    abbrev pub Takes : Step (Option B) → Me (Option B) (List (Part C E)) → ℕ → Me (Option B) (List (Part C E)) → Type 0
+    abbrev pub Takes : Step (Option B) → Me (Option B) (List (Part C E)) → ℕ
+        → Me (Option B) (List (Part C E)) → Type 0
     Takes st m r n = (r ≡ 0 → Found m n) × (r ≢ 0 → n ≡ m)
 
     -- a give leaves the book at home
-    abbrev pub Gives : Step (Option B) → Me (Option B) (List (Part C E)) → ℕ → Me (Option B) (List (Part C E)) → Type 0
+    abbrev pub Gives : Step (Option B) → Me (Option B) (List (Part C E)) → ℕ
+        → Me (Option B) (List (Part C E)) → Type 0
     Gives st m r n = (b : B) → m.1 ≡ (0, Some b) ∷ [] → n ≡ (gave m.0 (entries b), [])

@@ -1,5 +1,6 @@
 -- What a seat knows, and whose it is.
-use Rattle.std.specs.Prelude.{ℕ, ◌≡◌, ◌<◌, ◌-◌, List, [], ◌∷◌, ◌++◌, Some, length, slice_get, slice_index_or}
+use Rattle.std.specs.Prelude.{ℕ, ◌≡◌, ◌<◌, ◌-◌, List, [], ◌∷◌, ◌++◌, Some, length, slice_get}
+use Rattle.std.specs.Prelude.{slice_index_or}
 use Rattle.sim_lock.specs.declared.kept.Kept.{Ghosts}
 use Rattle.sim_lock.specs.declared.seat.Seat.{Seat}
 use Rattle.sim_lock.specs.declared.seat.Lock.{Lock}
@@ -36,15 +37,18 @@ module _ {B C D E F : Type 0} {K : Ghosts B C D E F} where
 
   -- the seat's session got this entry: it is the one of its number
   abbrev pub IsReceipt : Seat B C D E F K → E → Type 0
-  IsReceipt seat r = (K.session_of r ≡ session seat) × (slice_get (mine seat) (K.number_of r - 1) ≡ Some r)
+  IsReceipt seat r =
+      (K.session_of r ≡ session seat) × (slice_get (mine seat) (K.number_of r - 1) ≡ Some r)
 
   -- a seat of this session that has seen nothing
   abbrev pub IsNew : Lock B C D E F → C → ℕ → Seat B C D E F K → Type 0
-  IsNew lock c k seat = IsOf seat lock × HasScenario seat c × (session seat ≡ k) × (mine seat ≡ []) × (seen seat ≡ [])
+  IsNew lock c k seat =
+      IsOf seat lock × HasScenario seat c × (session seat ≡ k) × (mine seat ≡ []) × (seen seat ≡ [])
 
   -- the seats of the sessions from 0 on
   abbrev pub AreNew : Lock B C D E F → C → List (Seat B C D E F K) → Type 0
-  AreNew lock c seats = (k : ℕ) (d : Seat B C D E F K) → k < length seats → IsNew lock c k (slice_index_or seats k d)
+  AreNew lock c seats =
+      (k : ℕ) (d : Seat B C D E F K) → k < length seats → IsNew lock c k (slice_index_or seats k d)
 
   -- what all these seats know, from the last to the first
   abbrev pub gathered : List (Seat B C D E F K) → List (Part C E)

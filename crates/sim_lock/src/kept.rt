@@ -2,13 +2,15 @@
 ghost use Rattle.std.specs.Prelude.{◌≡◌, ℕ, ◌+◌, List, [], ◌∷◌, ◌++◌, Option, length, IfOk, IfErr};
 ghost use Rattle.sim_lock.specs.Entries.{of_session};
 
-/// A value with a scenario, which never changes, and a history, to which each turn adds one entry at the end.
+/// A value with a scenario, which never changes, and a history, to which each turn adds one entry
+/// at the end.
 pub trait Kept {
     /// What never changes.
     type Scenario;
     /// What a session asks.
     type Command;
-    /// What the history keeps of a command: whose it is, its number among the session's, the command, and what it was answered.
+    /// What the history keeps of a command: whose it is, its number among the session's, the
+    /// command, and what it was answered.
     type Entry: Drop;
     /// Why a command is not taken.
     type NotTaken;
@@ -39,9 +41,11 @@ pub trait Kept {
     fn turn(&mut self, session: u8, command: Self::Command) -> Result<Self::Entry, Self::NotTaken>
         ensures scenario { scenario self.new ≡ scenario self.old }
         ensures asked { IfOk result (λ e. (session_of e ≡ session) × (command_of e ≡ command)) }
-        ensures number { IfOk result (λ e. number_of e ≡ length (of_session session_of session (entries self.old)) + 1) }
+        ensures number { IfOk result (λ e. number_of e ≡ length
+            (of_session session_of session (entries self.old)) + 1) }
         ensures kept { IfOk result (λ e. entries self.new ≡ entries self.old ++ e ∷ []) }
-        ensures not_taken { IfErr result (λ why. (entries self.new ≡ entries self.old) × tells why (entries self.old)) };
+        ensures not_taken { IfErr result (λ why. (entries self.new ≡ entries self.old)
+            × tells why (entries self.old)) };
 }
 
 /// A kept value that can also give a frozen copy of one of its branches.
@@ -55,16 +59,21 @@ pub trait Freezes: Kept {
     // what is given beside an entry, by the scenario
     ghost gives: { Self.Scenario → Self.Entry → Option Self.Frozen → Type 0 };
 
-    /// Carries out a session's command to freeze a branch, and gives the frozen copy beside the entry.
+    /// Carries out a session's command to freeze a branch, and gives the frozen copy beside the
+    /// entry.
     fn freeze(
         &mut self,
         session: u8,
         branch: u32,
     ) -> Result<(Self::Entry, Option<Self::Frozen>), Self::NotTaken>
         ensures scenario { Self.scenario self.new ≡ Self.scenario self.old }
-        ensures asked { IfOk result (λ r. (Self.session_of r.0 ≡ session) × (Self.command_of r.0 ≡ freezing branch)) }
-        ensures number { IfOk result (λ r. Self.number_of r.0 ≡ length (of_session Self.session_of session (Self.entries self.old)) + 1) }
-        ensures kept { IfOk result (λ r. Self.entries self.new ≡ Self.entries self.old ++ r.0 ∷ []) }
+        ensures asked { IfOk result (λ r. (Self.session_of r.0 ≡ session)
+            × (Self.command_of r.0 ≡ freezing branch)) }
+        ensures number { IfOk result (λ r. Self.number_of r.0 ≡ length
+            (of_session Self.session_of session (Self.entries self.old)) + 1) }
+        ensures kept { IfOk result (λ r. Self.entries self.new ≡ Self.entries self.old ++ r.0
+            ∷ []) }
         ensures given { IfOk result (λ r. gives (Self.scenario self.old) r.0 r.1) }
-        ensures not_taken { IfErr result (λ why. (Self.entries self.new ≡ Self.entries self.old) × Self.tells why (Self.entries self.old)) };
+        ensures not_taken { IfErr result (λ why. (Self.entries self.new ≡ Self.entries self.old)
+            × Self.tells why (Self.entries self.old)) };
 }

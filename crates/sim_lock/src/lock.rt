@@ -1,7 +1,8 @@
 //! Taking the book out, and giving it back.
 ghost use Rattle.std.specs.Prelude.{◌≡◌, ◌+◌, ℕ, true, false, None, [], ◌∷◌, length};
 ghost use Rattle.sim_lock.specs.Entries.{of_session, Begins, Grows};
-ghost use Rattle.sim_lock.specs.Rule.{session_in, mine_in, seen_in, holds_in, ScenarioIs, took, gave};
+ghost use Rattle.sim_lock.specs.Rule.{session_in, mine_in, seen_in, holds_in, ScenarioIs, took};
+ghost use Rattle.sim_lock.specs.Rule.{gave};
 
 use crate::kept::{Freezes, Kept};
 use crate::rule::{About, Cut, Fold, Give, RawSeat, Take};
@@ -20,12 +21,14 @@ impl<B: Kept> Lock<B> {
     // Waits until the book is at home, and takes it out.
     fn take<R: Wait>(&self, rt: &R, raw: &mut RawSeat<B>, session: u8) -> B
         requires table { raw.old.table_id ≡ self.now.table.shared.table_id }
-        requires idle { (length raw.old.me.0 ≡ 1) × (holds_in raw.old.me.0 ≡ false) × (raw.old.me.1 ≡ []) }
+        requires idle { (length raw.old.me.0 ≡ 1) × (holds_in raw.old.me.0 ≡ false)
+            × (raw.old.me.1 ≡ []) }
         requires session { session ≡ session_in raw.old.me.0 }
         ensures table { raw.new.table_id ≡ raw.old.table_id }
         ensures seat { raw.new.me ≡ (took raw.old.me.0 (B.entries result), (0, None) ∷ []) }
         ensures scenario { ScenarioIs (B.scenario result) raw.old.me.0 }
-        ensures mine { of_session B.session_of (session_in raw.old.me.0) (B.entries result) ≡ mine_in raw.old.me.0 }
+        ensures mine { of_session B.session_of (session_in raw.old.me.0) (B.entries result)
+            ≡ mine_in raw.old.me.0 }
         ensures seen { Begins (seen_in raw.old.me.0) (B.entries result) }
     {
         for _ in rt.forever() {
@@ -47,9 +50,11 @@ impl<B: Kept> Lock<B> {
     // Puts the book back, with the same history or a longer one.
     fn give(&self, raw: &mut RawSeat<B>, book: B)
         requires table { raw.old.table_id ≡ self.now.table.shared.table_id }
-        requires out { (length raw.old.me.0 ≡ 1) × (holds_in raw.old.me.0 ≡ true) × (raw.old.me.1 ≡ (0, None) ∷ []) }
+        requires out { (length raw.old.me.0 ≡ 1) × (holds_in raw.old.me.0 ≡ true)
+            × (raw.old.me.1 ≡ (0, None) ∷ []) }
         requires scenario { ScenarioIs (B.scenario book) raw.old.me.0 }
-        requires grows { Grows B.session_of (session_in raw.old.me.0) (seen_in raw.old.me.0) (B.entries book) }
+        requires grows { Grows B.session_of (session_in raw.old.me.0) (seen_in raw.old.me.0)
+            (B.entries book) }
         ensures table { raw.new.table_id ≡ raw.old.table_id }
         ensures seat { raw.new.me ≡ (gave B.session_of raw.old.me.0 (B.entries book), []) }
     {
@@ -68,7 +73,8 @@ impl<B: Kept> Lock<B> {
         requires { IsOf seat.old self.now }
         ensures seat { IsOf seat.new self.now × (session seat.new ≡ session seat.old) }
         ensures scenario { (c : B.Scenario) → HasScenario seat.old c → HasScenario seat.new c }
-        ensures asked { IfOk result (λ e. (B.session_of e ≡ session seat.old) × (B.command_of e ≡ command)) }
+        ensures asked { IfOk result (λ e. (B.session_of e ≡ session seat.old)
+            × (B.command_of e ≡ command)) }
         ensures number { IfOk result (λ e. B.number_of e ≡ length (mine seat.new)) }
         ensures mine { IfOk result (λ e. mine seat.new ≡ mine seat.old ++ e ∷ []) }
         ensures last { IfOk result (λ e. EndsWith (seen seat.new) e) }
@@ -100,11 +106,13 @@ impl<B: Freezes> Lock<B> {
         requires { IsOf seat.old self.now }
         ensures seat { IsOf seat.new self.now × (session seat.new ≡ session seat.old) }
         ensures scenario { (c : B.Scenario) → HasScenario seat.old c → HasScenario seat.new c }
-        ensures asked { IfOk result (λ r. (B.session_of r.0 ≡ session seat.old) × (B.command_of r.0 ≡ B.freezing branch)) }
+        ensures asked { IfOk result (λ r. (B.session_of r.0 ≡ session seat.old)
+            × (B.command_of r.0 ≡ B.freezing branch)) }
         ensures number { IfOk result (λ r. B.number_of r.0 ≡ length (mine seat.new)) }
         ensures mine { IfOk result (λ r. mine seat.new ≡ mine seat.old ++ r.0 ∷ []) }
         ensures last { IfOk result (λ r. EndsWith (seen seat.new) r.0) }
-        ensures given { IfOk result (λ r. (c : B.Scenario) → HasScenario seat.old c → B.gives c r.0 r.1) }
+        ensures given { IfOk result (λ r. (c : B.Scenario) → HasScenario seat.old c
+            → B.gives c r.0 r.1) }
         ensures not_taken { OnErr result (mine seat.new ≡ mine seat.old) }
         ensures tells { IfErr result (λ why. B.tells why (seen seat.new)) }
         ensures seen { Begins (seen seat.old) (seen seat.new) }
@@ -126,9 +134,18 @@ impl<B: Kept> Lock<B> {
     // The seat of the next session.
     fn cut(&self, rest: &mut RawSeat<B>, session: u8) -> Seat<B>
         requires table { rest.old.table_id ≡ self.now.table.shared.table_id }
-        requires next { (session < sessions_of self.now) × (rest.old.me ≡ (fresh (told B.scenario self.now) session (sessions_of self.now - session), [])) }
+        requires next { (session < sessions_of self.now)
+            × (rest.old.me ≡ (
+              fresh (told B.scenario self.now) session
+                  (sessions_of self.now - session),
+              [],
+            )) }
         ensures table { rest.new.table_id ≡ self.now.table.shared.table_id }
-        ensures next { rest.new.me ≡ (fresh (told B.scenario self.now) (session + 1) (sessions_of self.now - (session + 1)), []) }
+        ensures next { rest.new.me ≡ (
+          fresh (told B.scenario self.now) (session + 1)
+              (sessions_of self.now - (session + 1)),
+          [],
+        ) }
         ensures seat { IsNew self.now (told B.scenario self.now) session result }
     {
         let raw = self.table.shared.split_seat::<Cut>(rest);
@@ -145,8 +162,10 @@ impl<B: Kept + Drop> Lock<B> {
     fn open(alloc: Global, book: B, sessions: u8) -> Result<(Lock<B>, RawSeat<B>), AllocError>
         requires empty { B.entries book ≡ [] }
         requires some { 0 < sessions }
-        ensures lock { IfOk result (λ r. (sessions_of r.0 ≡ sessions) × (told B.scenario r.0 ≡ B.scenario book)) }
-        ensures rest { IfOk result (λ r. (r.1.table_id ≡ r.0.table.shared.table_id) × (r.1.me ≡ (fresh (B.scenario book) 0 sessions, []))) }
+        ensures lock { IfOk result (λ r. (sessions_of r.0 ≡ sessions)
+            × (told B.scenario r.0 ≡ B.scenario book)) }
+        ensures rest { IfOk result (λ r. (r.1.table_id ≡ r.0.table.shared.table_id)
+            × (r.1.me ≡ (fresh (B.scenario book) 0 sessions, []))) }
     {
         let about = About {
             book: Snapshot::of(&book),
@@ -164,7 +183,8 @@ impl<B: Kept + Drop> Lock<B> {
     pub fn new(alloc: Global, book: B, sessions: u8) -> Result<(Lock<B>, Vec<Seat<B>>), AllocError>
         requires empty { B.entries book ≡ [] }
         requires some { 0 < sessions }
-        ensures lock { IfOk result (λ r. (sessions_of r.0 ≡ sessions) × (told B.scenario r.0 ≡ B.scenario book)) }
+        ensures lock { IfOk result (λ r. (sessions_of r.0 ≡ sessions)
+            × (told B.scenario r.0 ≡ B.scenario book)) }
         ensures count { IfOk result (λ r. vec_len r.1 ≡ sessions) }
         ensures seats { IfOk result (λ r. AreNew r.0 (B.scenario book) r.1.items) }
     {
@@ -181,7 +201,8 @@ impl<B: Kept + Drop> Lock<B> {
 impl<B: Kept> Lock<B> {
     ghost use Rattle.std.specs.Prelude.{◌≢◌, ◌<◌, All, vec_len};
     ghost use Rattle.sim_lock.specs.Entries.{HasEntry};
-    ghost use Rattle.sim_lock.specs.Seats.{IsOf, IsReceipt, session, mine, seen, sessions_of, told, gathered};
+    ghost use Rattle.sim_lock.specs.Seats.{IsOf, IsReceipt, session, mine, seen, sessions_of, told};
+    ghost use Rattle.sim_lock.specs.Seats.{gathered};
 
     // One seat that knows what these know.
     fn fold(&self, mut seats: Vec<Seat<B>>) -> RawSeat<B>
@@ -213,10 +234,13 @@ impl<B: Kept> Lock<B> {
         requires all { vec_len seats ≡ sessions_of self }
         requires own { All (λ s. IsOf s self) seats.items }
         ensures scenario { B.scenario result ≡ told B.scenario self }
-        ensures mine { All (λ s. of_session B.session_of (session s) (B.entries result) ≡ mine s) seats.items }
+        ensures mine { All (λ s. of_session B.session_of (session s) (B.entries result) ≡ mine s)
+            seats.items }
         ensures seen { All (λ s. Begins (seen s) (B.entries result)) seats.items }
-        ensures others { (k : ℕ) → All (λ s. session s ≢ k) seats.items → of_session B.session_of k (B.entries result) ≡ [] }
-        ensures receipts { All (λ s. (r : B.Entry) → IsReceipt s r → HasEntry B.session_of B.number_of (B.entries result) r) seats.items }
+        ensures others { (k : ℕ) → All (λ s. session s ≢ k) seats.items
+            → of_session B.session_of k (B.entries result) ≡ [] }
+        ensures receipts { All (λ s. (r : B.Entry) → IsReceipt s r
+            → HasEntry B.session_of B.number_of (B.entries result) r) seats.items }
     {
         let raw = self.fold(seats);
         let Lock { table, sessions: _ } = self;

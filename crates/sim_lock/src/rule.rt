@@ -5,8 +5,8 @@ use std::collections::LinkedList;
 use std::marker::PhantomData;
 use std::snapshot::Snapshot;
 
-/// What one session knows: its number, the scenario, its own entries, what it has seen of the history, and whether it
-/// has the book. No value of it is made.
+/// What one session knows: its number, the scenario, its own entries, what it has seen of the
+/// history, and whether it has the book. No value of it is made.
 pub(crate) struct Part<C, E> {
     pub(crate) session: u8,
     pub(crate) scenario: C,
@@ -33,7 +33,8 @@ pub(crate) struct Law<B> {
 impl<B: Kept> TableRule<Option<B>, LinkedList<Part<B::Scenario, B::Entry>>, About<B>> for Law<B> {
     ghost use Rattle.sim_lock.specs.Rule.{Keeps, fresh};
 
-    ghost holds = { λ about s. Keeps B.session_of B.scenario B.entries (B.scenario about.book.value) about.sessions s };
+    ghost holds = { λ about s. Keeps B.session_of B.scenario B.entries
+        (B.scenario about.book.value) about.sessions s };
 
     ghost first = { λ about. fresh (B.scenario about.book.value) 0 about.sessions };
 }

@@ -7,8 +7,8 @@ use sim_world::Event;
 use std::alloc::Global;
 use std::collections::HashMap;
 
-/// For each occurrence of a run, the event that queued it and the step at which it happened. An event is
-/// named by the place after it, from 1 on.
+/// For each occurrence of a run, the event that queued it and the step at which it happened. An
+/// event is named by the place after it, from 1 on.
 #[derive(Drop)]
 pub struct Places {
     // The next serial at each place but the last.

@@ -182,8 +182,8 @@ impl Rows {
         self.push(row)
     }
 
-    // The messages of a direction that are let go: they take the serials from this one on. Returns the
-    // serial after theirs.
+    // The messages of a direction that are let go: they take the serials from this one on. Returns
+    // the serial after theirs.
     fn freed(&mut self, serial: u64, count: usize, clock: u64) -> Result<u64, NoMemory> {
         let mut serial = serial;
         for _ in 0..count {
@@ -214,8 +214,8 @@ fn state_word(state: LinkState) -> &'static str {
     }
 }
 
-/// The rows of an event: the event itself, and then what it brings about, in order, but for those that
-/// [`rows_after`] adds. The only error is want of memory.
+/// The rows of an event: the event itself, and then what it brings about, in order, but for those
+/// that [`rows_after`] adds. The only error is want of memory.
 pub fn rows_of<N: Node + fmt::Debug>(
     alloc: Global,
     told: &Told<'_, N>,
@@ -238,8 +238,8 @@ where
     Ok(rows.into_vec())
 }
 
-/// The rows that the world after an event adds: those of a bounce are the node that booted, and its start.
-/// The only error is want of memory.
+/// The rows that the world after an event adds: those of a bounce are the node that booted, and its
+/// start. The only error is want of memory.
 pub fn rows_after<N: Node + fmt::Debug>(
     alloc: Global,
     event: Event,

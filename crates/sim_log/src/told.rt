@@ -18,16 +18,18 @@ pub struct Told<'a, N: Node> {
     pub event: Event,
     /// Of a step whose host runs, the reaction.
     pub reaction: Option<Reaction<N>>,
-    /// Of the crash of a running host, how many bytes are kept of each of its writes that are not stable.
+    /// Of the crash of a running host, how many bytes are kept of each of its writes that are not
+    /// stable.
     pub tears: Vec<u32>,
-    /// Of the crash of a running host, the serials of what it takes out: the timer, the start, the syncs.
+    /// Of the crash of a running host, the serials of what it takes out: the timer, the start, the
+    /// syncs.
     pub lost: Vec<u64>,
 }
 
 impl<'a, N: Node> Told<'a, N> {
-    /// Gathers what the event will do. Of a step in a world of age 65,536, to which no event can be added,
-    /// it gathers nothing. One copy of a node and one turn are counted where a node reacts. The only error
-    /// is want of memory.
+    /// Gathers what the event will do. Of a step in a world of age 65,536, to which no event can be
+    /// added, it gathers nothing. One copy of a node and one turn are counted where a node reacts.
+    /// The only error is want of memory.
     pub fn new(
         alloc: Global,
         world: &'a World<N>,
@@ -92,8 +94,8 @@ fn lost_by<N: Node>(alloc: Global, world: &World<N>, host: u16) -> Result<Vec<u6
     Ok(lost)
 }
 
-/// How a fault changes the links: a change of the direction from the first host to the second and, if it
-/// goes both ways, then of the other one.
+/// How a fault changes the links: a change of the direction from the first host to the second and,
+/// if it goes both ways, then of the other one.
 #[derive(Clone, Copy, Debug, PartialEq, Eq)]
 pub struct LinkFault {
     pub word: &'static str,

@@ -8,7 +8,8 @@ use Rattle.sim_cli.specs.Turns.{beginning}
 use Rattle.sim_cli.specs.Strict.{are_well}
 use Rattle.sim_replay.specs.Played.{first_events}
 use Rattle.sim_export.specs.declared.export.Export.{Export}
-use Rattle.sim_export.specs.declared.export.Export.TheVariants.{Input, Shown, Nowhere, BadRange, BadCondition, BadScript, NoInput}
+use Rattle.sim_export.specs.declared.export.Export.TheVariants.{Input, Shown, Nowhere, BadRange}
+use Rattle.sim_export.specs.declared.export.Export.TheVariants.{BadCondition, BadScript, NoInput}
 use Rattle.sim_export.specs.Exports.{Right}
 use Rattle.sim_page.specs.declared.log.LogRange.{LogRange}
 use Rattle.sim_page.specs.Lines.{AreLines}

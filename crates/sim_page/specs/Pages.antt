@@ -5,12 +5,13 @@ use Rattle.std.specs.Borrow.{Bor}
 use Rattle.sim_cli.specs.Turns.{beginning}
 use Rattle.sim_cli.specs.Strict.{are_well}
 use Rattle.sim_export.specs.declared.export.Export.{Export}
-use Rattle.sim_export.specs.declared.export.Export.TheVariants.{Input, Shown, Nowhere, BadRange, BadCondition, BadScript, NoInput}
+use Rattle.sim_export.specs.declared.export.Export.TheVariants.{Input, Shown, Nowhere, BadRange}
+use Rattle.sim_export.specs.declared.export.Export.TheVariants.{BadCondition, BadScript, NoInput}
 use Rattle.sim_export.specs.Exports.{Right}
 use Rattle.sim_page.specs.declared.paging.PageRequest.{PageRequest}
 
--- Whether a page is written: where no line of the script is at fault, and no condition that is asked
--- for is refused.
+-- Whether a page is written: where no line of the script is at fault, and no condition that is
+-- asked for is refused.
 abbrev pub IsPageIf : Bool → Option (Bor (List ℕ)) → Export → Type 0
 IsPageIf well watch (Shown page) = well ≡ true
 IsPageIf well watch BadCondition = IsSome watch

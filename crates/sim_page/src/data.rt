@@ -7,8 +7,8 @@ use serde_json::{Number, Value};
 use sim_node::NoMemory;
 use std::alloc::Global;
 
-/// A text as JSON has it, in which no `<` is left: each is written `\\u003c`, which says the same within
-/// a string, and a `<` stands nowhere else in JSON. The only error is want of memory.
+/// A text as JSON has it, in which no `<` is left: each is written `\\u003c`, which says the same
+/// within a string, and a `<` stands nowhere else in JSON. The only error is want of memory.
 fn escaped(alloc: Global, json: &[u8]) -> Result<Vec<u8>, NoMemory>
     ensures { IfOk result (λ text. All (λ b. b ≢ 60) text.items) }
 {

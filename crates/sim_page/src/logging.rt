@@ -57,13 +57,14 @@ impl<'a, H: Eprint> Task for Logging<'a, H> {
     }
 }
 
-/// Plays a script without writing its answers, and writes a line for each kept event of its first branch
-/// in a range: in words, or as a JSON object with its place, the clock after it, and its rows.
+/// Plays a script without writing its answers, and writes a line for each kept event of its first
+/// branch in a range: in words, or as a JSON object with its place, the clock after it, and its
+/// rows.
 ///
 /// It writes `bad range` with status 2 if the run has no such event. If a line of the script is no
-/// command, or its command is refused or not taken, it tells that on standard error and writes nothing,
-/// with status 2. If the reader fails or memory is wanted, it writes nothing either.
-/// There are at most 255 subjects.
+/// command, or its command is refused or not taken, it tells that on standard error and writes
+/// nothing, with status 2. If the reader fails or memory is wanted, it writes nothing either. There
+/// are at most 255 subjects.
 pub fn write_log<L: Subjects, H: Eprint, R: Read, W: Write>(
     host: &H,
     alloc: Global,

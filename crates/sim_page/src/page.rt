@@ -164,7 +164,8 @@ where
     }
 }
 
-// Whether a condition holds of a world. One that names a host or a probe that is not there does not.
+// Whether a condition holds of a world. One that names a host or a probe that is not there does
+// not.
 fn is_held<N: Node>(cond: &Cond, world: &World<N>) -> bool {
     match cond.check(world.hosts(), N::PROBES) {
         Ok(()) => holds(cond, world),

@@ -130,13 +130,13 @@ fn usable(opened: &Opened, words: &str, probes: u8) -> Option<Cond> {
     }
 }
 
-/// Plays a script without writing its answers, and writes the run of its first branch as a page: one
-/// HTML file that loads nothing. docs/PAGE.md says what it shows, and what its data is.
+/// Plays a script without writing its answers, and writes the run of its first branch as a page:
+/// one HTML file that loads nothing. docs/PAGE.md says what it shows, and what its data is.
 ///
 /// It writes `bad condition` with status 2 if the words of a condition are none, or if the scenario
-/// has no such host or probe. If a line of the script is no command, or its command is refused or not
-/// taken, it tells that on standard error and writes nothing, with status 2. If the reader fails or
-/// memory is wanted, it writes nothing either. There are at most 255 subjects.
+/// has no such host or probe. If a line of the script is no command, or its command is refused or
+/// not taken, it tells that on standard error and writes nothing, with status 2. If the reader
+/// fails or memory is wanted, it writes nothing either. There are at most 255 subjects.
 pub fn write_page<L: Subjects, H: Eprint, R: Read, W: Write>(
     host: &H,
     alloc: Global,

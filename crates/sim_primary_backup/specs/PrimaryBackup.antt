@@ -1,6 +1,9 @@
--- Primary-backup: clients put values into cells at the primary, which is server 0, and it answers when all backups have them.
--- A server speaks of what it has applied only when its disk has told that it is stable.
-use Rattle.std.specs.Prelude.{ℕ, ◌+◌, ◌*◌, ◌%◌, ◌==◌, nat_lt, nat_le, Bool, true, not, ◌&&◌, List, [], ◌∷◌, ◌++◌, map, replicate, slice_index, slice_set, Option, None, Some, if◌then◌else◌}
+-- Primary-backup: clients put values into cells at the primary, which is server 0, and it answers
+-- when all backups have them. A server speaks of what it has applied only when its disk has told
+-- that it is stable.
+use Rattle.std.specs.Prelude.{ℕ, ◌+◌, ◌*◌, ◌%◌, ◌==◌, nat_lt, nat_le, Bool, true, not, ◌&&◌, List}
+use Rattle.std.specs.Prelude.{[], ◌∷◌, ◌++◌, map, replicate, slice_index, slice_set, Option, None}
+use Rattle.std.specs.Prelude.{Some, if◌then◌else◌}
 use Rattle.sim_node.specs.declared.Setup.{Setup}
 use Rattle.sim_node.specs.declared.Input.{Input}
 use Rattle.sim_node.specs.declared.Input.TheVariants as input
@@ -21,7 +24,8 @@ use Rattle.sim_hosts.specs.Bytes.{bytes_of, number_at}
 use Rattle.sim_hosts.specs.Hosts.{nobody, others, is_other, joined, all_in, not_in, to_all}
 use Rattle.sim_hosts.specs.Waiting.{lowest_waiting}
 
--- What a server keeps. Cell c stands at 8 c, how many puts it has applied at 128, the cell of the last in one byte at 136.
+-- What a server keeps. Cell c stands at 8 c, how many puts it has applied at 128, the cell of the
+-- last in one byte at 136.
 
 abbrev pub cells_on : List ℕ → List ℕ
 cells_on bytes = map (λ c. number_at bytes (8 * c)) (numbers_from 0 16)
@@ -29,7 +33,8 @@ cells_on bytes = map (λ c. number_at bytes (8 * c)) (numbers_from 0 16)
 abbrev pub store_on : List ℕ → Store
 store_on bytes = record {
   cells = cells_on bytes;
-  progress = record { applied = number_at bytes 128; last = slice_index bytes 136 % 16; unsure = 0 };
+  progress =
+      record { applied = number_at bytes 128; last = slice_index bytes 136 % 16; unsure = 0 };
 }
 
 -- with a value in a cell, as put number n
@@ -48,16 +53,19 @@ saved store =
 
 -- the last put, for the backups
 abbrev pub apply_of : Store → BackupMsg
-apply_of store = Apply store.progress.last store.progress.applied (slice_index store.cells store.progress.last)
+apply_of store =
+    Apply store.progress.last store.progress.applied (slice_index store.cells store.progress.last)
 
 -- a sync has come
 abbrev pub after_sync : Store → Store
-after_sync store = record store { progress = record store.progress { unsure = lowered store.progress.unsure } }
+after_sync store =
+    record store { progress = record store.progress { unsure = lowered store.progress.unsure } }
 
 -- The primary: a row for each definition.
 
 abbrev pub primary_at_boot : List ℕ → Primary
-primary_at_boot bytes = record { store = store_on bytes; current = None; waiting = replicate 32 None }
+primary_at_boot bytes =
+    record { store = store_on bytes; current = None; waiting = replicate 32 None }
 
 -- it starts with what it had applied: that may have got lost on the way
 abbrev pub started : Setup → Primary → Reaction Primary BackupMsg
@@ -72,7 +80,14 @@ started setup p =
 abbrev pub begun : ℕ → ℕ → ℕ → Primary → Reaction Primary BackupMsg
 begun client number val p =
     let new = with_put (raised p.store.progress.applied) (number % 16) val p.store in (
-      record p { store = new; current = Some (record { client = Some client; number = number; answers = nobody }) },
+      record p {
+        store = new;
+        current = Some (record {
+          client = Some client;
+          number = number;
+          answers = nobody;
+        });
+      },
       saved new ++ Effect.Timer 100 ∷ [],
     )
 
@@ -90,7 +105,15 @@ is_of_another host r = elim r.client [ None ↦ true | Some client ↦ not (clie
 abbrev pub put_by : ℕ → ℕ → ℕ → Option Request → Primary → Reaction Primary BackupMsg
 put_by from i val None p = begun from i val p
 put_by from i val (Some r) p =
-    if is_of_another from r then (record p { waiting = slice_set p.waiting from (Some (record { number = i; val = val })) }, []) else (p, [])
+    if is_of_another from r
+    then (
+      record p {
+        waiting = slice_set p.waiting from
+            (Some (record { number = i; val = val }));
+      },
+      [],
+    )
+    else (p, [])
 
 -- the put ends: its client is told
 abbrev pub fin_of : Request → List (Effect BackupMsg)
@@ -107,7 +130,9 @@ acknowledged from r setup p =
 
 abbrev pub acked : ℕ → ℕ → Option Request → Setup → Primary → Reaction Primary BackupMsg
 acked from m None setup p = (p, [])
-acked from m (Some r) setup p = if is_other setup from && (m == p.store.progress.applied) then acknowledged from r setup p else (p, [])
+acked from m (Some r) setup p =
+    if is_other setup from && (m == p.store.progress.applied) then acknowledged from r setup p
+    else (p, [])
 
 -- the put goes to the backups that have not answered
 abbrev pub spread : Request → Setup → Primary → List (Effect BackupMsg)
@@ -115,7 +140,11 @@ spread r setup p = to_all (not_in (others setup) r.answers) (apply_of p.store)
 
 abbrev pub primary_timer : Option Request → Setup → Primary → Reaction Primary BackupMsg
 primary_timer None setup p = (p, [])
-primary_timer (Some r) setup p = (p, (if is_settled p.store.progress.unsure then spread r setup p else []) ++ Effect.Timer 100 ∷ [])
+primary_timer (Some r) setup p = (
+  p,
+  (if is_settled p.store.progress.unsure then spread r setup p else []) ++ Effect.Timer 100
+      ∷ [],
+)
 
 abbrev pub settled : Option Request → Setup → Primary → Reaction Primary BackupMsg
 settled None setup p = (p, [])
@@ -123,7 +152,8 @@ settled (Some r) setup p = (p, spread r setup p ++ Effect.Timer 100 ∷ [])
 
 abbrev pub primary_synced : Setup → Primary → Reaction Primary BackupMsg
 primary_synced setup p =
-    let new = record p { store = after_sync p.store } in if is_settled new.store.progress.unsure then settled new.current setup new else (new, [])
+    let new = record p { store = after_sync p.store } in
+    if is_settled new.store.progress.unsure then settled new.current setup new else (new, [])
 
 abbrev pub react_primary : Setup → Primary → Input BackupMsg → Reaction Primary BackupMsg
 react_primary setup p input.Start = started setup p
@@ -142,12 +172,19 @@ applied_by m cell val store = let new = with_put m (cell % 16) val store in (new
 abbrev pub told : ℕ → ℕ → ℕ → ℕ → Store → Reaction Store BackupMsg
 told from m cell val store =
     if m == store.progress.applied + 1 then applied_by m cell val store
-    else if nat_le m store.progress.applied && is_settled store.progress.unsure then (store, Effect.Send from (Ack m) ∷ [])
+    else if nat_le m store.progress.applied && is_settled store.progress.unsure then (
+      store,
+      Effect.Send from (Ack m) ∷ [],
+    )
     else (store, [])
 
 abbrev pub backup_synced : Store → Reaction Store BackupMsg
 backup_synced store =
-    let new = after_sync store in (new, if is_settled new.progress.unsure then Effect.Send 0 (Ack new.progress.applied) ∷ [] else [])
+    let new = after_sync store in (
+      new,
+      if is_settled new.progress.unsure then Effect.Send 0 (Ack new.progress.applied)
+          ∷ [] else [],
+    )
 
 abbrev pub react_backup : Store → Input BackupMsg → Reaction Store BackupMsg
 react_backup store input.Synced = backup_synced store
@@ -157,16 +194,20 @@ react_backup store _ = (store, [])
 -- A client: what it counts from 1 is the put that it waits for.
 
 abbrev pub client_puts : ℕ → ℕ → Reaction ℕ BackupMsg
-client_puts me next = (next, Effect.Send 0 (Put next (plus (times 1000 me) next)) ∷ Effect.Timer 200 ∷ [])
+client_puts me next =
+    (next, Effect.Send 0 (Put next (plus (times 1000 me) next)) ∷ Effect.Timer 200 ∷ [])
 
 -- its put has ended; after the last it is done
 abbrev pub client_answered : ℕ → ℕ → ℕ → Reaction ℕ BackupMsg
-client_answered me ops next = if next == ops then (raised next, Effect.Done ∷ []) else client_puts me (raised next)
+client_answered me ops next =
+    if next == ops then (raised next, Effect.Done ∷ []) else client_puts me (raised next)
 
 abbrev pub react_client : ℕ → ℕ → ℕ → Input BackupMsg → Reaction ℕ BackupMsg
 react_client me ops next input.Start = client_puts me 1
-react_client me ops next input.Timer = if nat_le 1 next && nat_le next ops then client_puts me next else (next, [])
-react_client me ops next (input.Message from (Fin i)) = if i == next then client_answered me ops next else (next, [])
+react_client me ops next input.Timer =
+    if nat_le 1 next && nat_le next ops then client_puts me next else (next, [])
+react_client me ops next (input.Message from (Fin i)) =
+    if i == next then client_answered me ops next else (next, [])
 react_client me ops next _ = (next, [])
 
 -- A host.
@@ -180,11 +221,13 @@ role_at_boot setup me bytes =
 abbrev pub boot : Setup → ℕ → List ℕ → State
 boot setup me bytes = record { setup = setup; me = me; role = role_at_boot setup me bytes }
 
-abbrev pub in_role : {Part : Type 0} → (Part → Role) → Reaction Part BackupMsg → State → Reaction State BackupMsg
+abbrev pub in_role : {Part : Type 0} → (Part → Role) → Reaction Part BackupMsg → State
+    → Reaction State BackupMsg
 in_role as_role reaction state = (record state { role = as_role reaction.0 }, reaction.1)
 
 abbrev pub react_as : Role → Input BackupMsg → State → Reaction State BackupMsg
-react_as (role.Client next) i state = in_role role.Client (react_client state.me (ops_of state.setup state.me) next i) state
+react_as (role.Client next) i state =
+    in_role role.Client (react_client state.me (ops_of state.setup state.me) next i) state
 react_as (role.Primary p) i state = in_role role.Primary (react_primary state.setup p i) state
 react_as (role.Backup store) i state = in_role role.Backup (react_backup store i) state
 

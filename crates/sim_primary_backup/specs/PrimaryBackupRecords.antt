@@ -22,9 +22,10 @@ IsPlacedStore progress = progress.last < 16
 abbrev pub IsPlacedCurrent : ℕ → Option Request → Type 0
 IsPlacedCurrent hosts current = IfSome current (λ r. IfSome r.client (λ client. client < hosts))
 
-pub record IsPlacedPrimary (hosts : ℕ) (progress : Progress) (current : Option Request) : Type 0 where
-  pub last : IsPlacedStore progress
-  pub client : IsPlacedCurrent hosts current
+pub record IsPlacedPrimary (hosts : ℕ) (progress : Progress) (current : Option Request) : Type 0
+  where
+    pub last : IsPlacedStore progress
+    pub client : IsPlacedCurrent hosts current
 
 abbrev pub IsPlaced : ℕ → Role → Type 0
 IsPlaced hosts (role.Client next) = Unit {0}
@@ -37,7 +38,8 @@ restored_cell cell.Same cells = cells
 restored_cell (cell.Held place val) cells = slice_set cells place val
 
 abbrev pub store_before : Progress → CellBefore → Store → Store
-store_before progress before store = record { cells = restored_cell before store.cells; progress = progress }
+store_before progress before store =
+    record { cells = restored_cell before store.cells; progress = progress }
 
 abbrev pub primary_before : Progress → Option Request → Changes → Primary → Primary
 primary_before progress current changes p = record {
@@ -57,14 +59,18 @@ IsPlacedChanges changes = IsPlacedCell changes.cell × IsPlacedSlot changes.slot
 -- a record fits a host of its kind
 abbrev pub fits_role : ℕ → BackupUndo → Role → Type 0
 fits_role hosts (undo.Client next) (role.Client now) = Unit {0}
-fits_role hosts (undo.Primary progress current changes) (role.Primary p) = IsPlacedPrimary hosts progress current × IsPlacedChanges changes
-fits_role hosts (undo.Backup progress before) (role.Backup store) = IsPlacedStore progress × IsPlacedCell before
+fits_role hosts (undo.Primary progress current changes) (role.Primary p) =
+    IsPlacedPrimary hosts progress current × IsPlacedChanges changes
+fits_role hosts (undo.Backup progress before) (role.Backup store) =
+    IsPlacedStore progress × IsPlacedCell before
 fits_role hosts _ r = ⊥
 
 abbrev pub role_before : BackupUndo → Role → Role
 role_before (undo.Client next) r = role.Client next
-role_before (undo.Primary progress current changes) (role.Primary p) = role.Primary (primary_before progress current changes p)
-role_before (undo.Backup progress before) (role.Backup store) = role.Backup (store_before progress before store)
+role_before (undo.Primary progress current changes) (role.Primary p) =
+    role.Primary (primary_before progress current changes p)
+role_before (undo.Backup progress before) (role.Backup store) =
+    role.Backup (store_before progress before store)
 role_before _ r = r
 
 abbrev pub backup_records : NodeRecords State BackupUndo

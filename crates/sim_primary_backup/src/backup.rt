@@ -3,7 +3,8 @@ ghost use Rattle.std.specs.Prelude.{◌≡◌, ◌+◌, ◌<◌, []};
 ghost use Rattle.sim_node.specs.Node.{IsFrom};
 ghost use Rattle.sim_hosts.specs.Reactions.{asked_for};
 ghost use Rattle.sim_primary_backup.specs.PrimaryBackup.{told, backup_synced, react_backup};
-ghost use Rattle.sim_primary_backup.specs.PrimaryBackupRecords.{IsPlacedStore, IsPlacedCell, restored_cell};
+ghost use Rattle.sim_primary_backup.specs.PrimaryBackupRecords.{IsPlacedStore, IsPlacedCell};
+ghost use Rattle.sim_primary_backup.specs.PrimaryBackupRecords.{restored_cell};
 
 use crate::{BackupMsg, CellBefore, Store};
 use sim_node::{Effects, Input, Setup};

@@ -1,7 +1,8 @@
 //! The rows of a client of primary-backup, which puts its values one by one.
 ghost use Rattle.std.specs.Prelude.{◌≡◌, ◌<◌, []};
 ghost use Rattle.sim_hosts.specs.Reactions.{asked_for};
-ghost use Rattle.sim_primary_backup.specs.PrimaryBackup.{client_puts, client_answered, react_client};
+ghost use Rattle.sim_primary_backup.specs.PrimaryBackup.{client_puts, client_answered};
+ghost use Rattle.sim_primary_backup.specs.PrimaryBackup.{react_client};
 
 use crate::BackupMsg;
 use sim_node::{Effects, Input, Setup};
@@ -38,7 +39,8 @@ fn answered(setup: &Setup, me: u16, ops: u64, next: u64, effects: &mut Effects<B
     }
 }
 
-/// A client with this many operations, which waits for its put number `next`, reacts: the put that it waits for then.
+/// A client with this many operations, which waits for its put number `next`, reacts: the put that
+/// it waits for then.
 pub fn react(
     setup: &Setup,
     me: u16,

@@ -23,7 +23,8 @@ impl<T> Model for PrimaryBackup<T> {
 
     ghost view = { λ node. node.state };
 
-    ghost invariant = { λ node. IsSetup node.state.setup × (node.state.me < node.state.setup.hosts) × IsPlaced node.state.setup.hosts node.state.role };
+    ghost invariant = { λ node. IsSetup node.state.setup × (node.state.me < node.state.setup.hosts)
+        × IsPlaced node.state.setup.hosts node.state.role };
 }
 
 /// Shows what the host is. Its setup and its number never change, and are left out.

@@ -1,10 +1,17 @@
 //! The rows of the primary, which begins puts, spreads them and tells their clients.
-ghost use Rattle.std.specs.Prelude.{ℕ, List, Option, ◌≡◌, ◌+◌, ◌<◌, ◌≤◌, ◌++◌, [], length, Some, IfSome, slice_set};
+ghost use Rattle.std.specs.Prelude.{ℕ, List, Option, ◌≡◌, ◌+◌, ◌<◌, ◌≤◌, ◌++◌, [], length, Some};
+ghost use Rattle.std.specs.Prelude.{IfSome, slice_set};
 ghost use Rattle.sim_node.specs.Node.{IsSetup, IsFrom};
 ghost use Rattle.sim_hosts.specs.Reactions.{asked_for};
 ghost use Rattle.sim_hosts.specs.Waiting.{restored, IsPlacedSlot};
-ghost use Rattle.sim_primary_backup.specs.PrimaryBackup.{primary_at_boot, started, begun, begun_lowest, is_of_another, put_by, fin_of, acknowledged, acked, spread, primary_timer, settled, primary_synced, react_primary};
-ghost use Rattle.sim_primary_backup.specs.PrimaryBackupRecords.{IsPlacedPrimary, IsPlacedCell, IsPlacedChanges, restored_cell, primary_before};
+ghost use Rattle.sim_primary_backup.specs.PrimaryBackup.{primary_at_boot, started, begun};
+ghost use Rattle.sim_primary_backup.specs.PrimaryBackup.{begun_lowest, is_of_another, put_by};
+ghost use Rattle.sim_primary_backup.specs.PrimaryBackup.{fin_of, acknowledged, acked, spread};
+ghost use Rattle.sim_primary_backup.specs.PrimaryBackup.{primary_timer, settled, primary_synced};
+ghost use Rattle.sim_primary_backup.specs.PrimaryBackup.{react_primary};
+ghost use Rattle.sim_primary_backup.specs.PrimaryBackupRecords.{IsPlacedPrimary, IsPlacedCell};
+ghost use Rattle.sim_primary_backup.specs.PrimaryBackupRecords.{IsPlacedChanges, restored_cell};
+ghost use Rattle.sim_primary_backup.specs.PrimaryBackupRecords.{primary_before};
 
 use crate::{BackupMsg, CellBefore, Changes, Primary, Progress, Request, Store, Waiter};
 use sim_hosts::{
@@ -90,7 +97,10 @@ impl Primary {
         requires room { length effects.old.list < 8 }
         ensures state { self.new ≡ (begun client put.number put.val self.old).0 }
         ensures placed { IsPlacedPrimary setup.now.hosts self.new.store.progress self.new.current }
-        ensures effects { effects.new ≡ record effects.old { list = effects.old.list ++ (begun client put.number put.val self.old).1 } }
+        ensures effects { effects.new ≡ record effects.old {
+          list = effects.old.list
+              ++ (begun client put.number put.val self.old).1;
+        } }
         ensures cell { IsPlacedCell result }
         ensures back { restored_cell result self.new.store.cells ≡ self.old.store.cells }
     {
@@ -110,7 +120,10 @@ impl Primary {
     /// A host waits with this from now on; the answer is what it waited with.
     fn put_waiter(&mut self, host: u16, waiter: Option<Waiter>) -> SlotBefore<Waiter>
         requires { host < 32 }
-        ensures state { self.new ≡ record self.old { waiting = slice_set self.old.waiting host waiter } }
+        ensures state { self.new ≡ record self.old {
+          waiting = slice_set self.old.waiting host
+              waiter;
+        } }
         ensures back { restored result self.new.waiting ≡ self.old.waiting }
         ensures slot { IsPlacedSlot result }
     {
@@ -124,9 +137,13 @@ impl Primary {
         requires room { length effects.old.list < 8 }
         ensures state { self.new ≡ (begun_lowest setup.now self.old).0 }
         ensures placed { IsPlacedPrimary setup.now.hosts self.new.store.progress self.new.current }
-        ensures effects { effects.new ≡ record effects.old { list = effects.old.list ++ (begun_lowest setup.now self.old).1 } }
+        ensures effects { effects.new ≡ record effects.old {
+          list = effects.old.list
+              ++ (begun_lowest setup.now self.old).1;
+        } }
         ensures changes { IsPlacedChanges result }
-        ensures back { primary_before self.old.store.progress self.old.current result self.new ≡ self.old }
+        ensures back { primary_before self.old.store.progress self.old.current result self.new
+            ≡ self.old }
     {
         match lowest_waiting(setup, &self.waiting) {
             None => {
@@ -155,9 +172,11 @@ impl Primary {
         requires empty { effects.old ≡ asked_for setup.now [] }
         ensures state { self.new ≡ (put_by from put.number put.val self.old.current self.old).0 }
         ensures placed { IsPlacedPrimary setup.now.hosts self.new.store.progress self.new.current }
-        ensures effects { effects.new ≡ asked_for setup.now (put_by from put.number put.val self.old.current self.old).1 }
+        ensures effects { effects.new ≡ asked_for setup.now
+            (put_by from put.number put.val self.old.current self.old).1 }
         ensures changes { IsPlacedChanges result }
-        ensures back { primary_before self.old.store.progress self.old.current result self.new ≡ self.old }
+        ensures back { primary_before self.old.store.progress self.old.current result self.new
+            ≡ self.old }
     {
         let Some(current) = self.current else {
             return Changes {
@@ -191,9 +210,11 @@ impl Primary {
         requires empty { effects.old ≡ asked_for setup.now [] }
         ensures state { self.new ≡ (acknowledged from current setup.now self.old).0 }
         ensures placed { IsPlacedPrimary setup.now.hosts self.new.store.progress self.new.current }
-        ensures effects { effects.new ≡ asked_for setup.now (acknowledged from current setup.now self.old).1 }
+        ensures effects { effects.new ≡ asked_for setup.now
+            (acknowledged from current setup.now self.old).1 }
         ensures changes { IsPlacedChanges result }
-        ensures back { primary_before self.old.store.progress self.old.current result self.new ≡ self.old }
+        ensures back { primary_before self.old.store.progress self.old.current result self.new
+            ≡ self.old }
     {
         let answers = current.answers.joined(from);
         if answers.has_servers_from(1, setup) {
@@ -218,9 +239,11 @@ impl Primary {
         requires empty { effects.old ≡ asked_for setup.now [] }
         ensures state { self.new ≡ (acked from m self.old.current setup.now self.old).0 }
         ensures placed { IsPlacedPrimary setup.now.hosts self.new.store.progress self.new.current }
-        ensures effects { effects.new ≡ asked_for setup.now (acked from m self.old.current setup.now self.old).1 }
+        ensures effects { effects.new ≡ asked_for setup.now
+            (acked from m self.old.current setup.now self.old).1 }
         ensures changes { IsPlacedChanges result }
-        ensures back { primary_before self.old.store.progress self.old.current result self.new ≡ self.old }
+        ensures back { primary_before self.old.store.progress self.old.current result self.new
+            ≡ self.old }
     {
         if let Some(current) = self.current
             && is_other(setup, from)
@@ -248,7 +271,8 @@ impl Primary {
         requires setup { IsSetup setup.now }
         requires placed { IsPlacedPrimary setup.now.hosts self.now.store.progress self.now.current }
         requires empty { effects.old ≡ asked_for setup.now [] }
-        ensures { effects.new ≡ asked_for setup.now (primary_timer self.now.current setup.now self.now).1 }
+        ensures { effects.new ≡ asked_for setup.now (primary_timer self.now.current setup.now
+            self.now).1 }
     {
         if let Some(current) = self.current {
             if self.store.progress.unsure == 0 {
@@ -276,7 +300,8 @@ impl Primary {
         }
     }
 
-    /// It reacts to an input: the answer is what a cell held and what a host waited with, where that has changed.
+    /// It reacts to an input: the answer is what a cell held and what a host waited with, where
+    /// that has changed.
     pub fn react(
         &mut self,
         setup: &Setup,
@@ -289,9 +314,11 @@ impl Primary {
         requires empty { effects.old ≡ asked_for setup.now [] }
         ensures state { self.new ≡ (react_primary setup.now self.old input.now).0 }
         ensures placed { IsPlacedPrimary setup.now.hosts self.new.store.progress self.new.current }
-        ensures effects { effects.new ≡ asked_for setup.now (react_primary setup.now self.old input.now).1 }
+        ensures effects { effects.new ≡ asked_for setup.now
+            (react_primary setup.now self.old input.now).1 }
         ensures changes { IsPlacedChanges result }
-        ensures back { primary_before self.old.store.progress self.old.current result self.new ≡ self.old }
+        ensures back { primary_before self.old.store.progress self.old.current result self.new
+            ≡ self.old }
     {
         let mut changes = UNCHANGED;
         match input {

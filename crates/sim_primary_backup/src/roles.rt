@@ -2,12 +2,14 @@
 use sim_hosts::{Boxed, HostSet, SlotBefore};
 use sim_node::Setup;
 
-/// A message. A put of a client is counted from 1 by the client, and by the primary when it applies it.
+/// A message. A put of a client is counted from 1 by the client, and by the primary when it applies
+/// it.
 #[derive(Clone, Copy, Debug, PartialEq, Eq)]
 pub enum BackupMsg {
     /// A client asks to put this value into a cell, as its put of this number.
     Put(u64, u64),
-    /// The primary asks to apply to this cell put number n: the value. The cell stands first, beside the tag, to save bytes.
+    /// The primary asks to apply to this cell put number n: the value. The cell stands first,
+    /// beside the tag, to save bytes.
     Apply(u8, u64, u64),
     /// A backup has applied all puts up to this one, and they are stable.
     Ack(u64),

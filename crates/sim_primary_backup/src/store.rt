@@ -3,8 +3,10 @@ ghost use Rattle.std.specs.Prelude.{◌≡◌, ◌+◌, ◌<◌, ◌++◌, [], �
 ghost use Rattle.sim_hosts.specs.Bytes.{bytes_of};
 ghost use Rattle.sim_hosts.specs.Numbers.{is_settled};
 ghost use Rattle.sim_primary_backup.specs.declared.roles.CellBefore.TheVariants as before;
-ghost use Rattle.sim_primary_backup.specs.PrimaryBackup.{cells_on, store_on, with_put, saved, apply_of, after_sync};
-ghost use Rattle.sim_primary_backup.specs.PrimaryBackupRecords.{IsPlacedStore, IsPlacedCell, restored_cell, store_before};
+ghost use Rattle.sim_primary_backup.specs.PrimaryBackup.{cells_on, store_on, with_put, saved};
+ghost use Rattle.sim_primary_backup.specs.PrimaryBackup.{apply_of, after_sync};
+ghost use Rattle.sim_primary_backup.specs.PrimaryBackupRecords.{IsPlacedStore, IsPlacedCell};
+ghost use Rattle.sim_primary_backup.specs.PrimaryBackupRecords.{restored_cell, store_before};
 
 use crate::{BackupMsg, CellBefore, Progress, Store};
 use sim_hosts::{byte_at, number_at, put_number};
@@ -105,7 +107,10 @@ impl Store {
         requires room { length effects.old.list < 36 }
         ensures state { self.new ≡ with_put n place val self.old }
         ensures placed { IsPlacedStore self.new.progress }
-        ensures effects { effects.new ≡ record effects.old { list = effects.old.list ++ saved self.new } }
+        ensures effects { effects.new ≡ record effects.old {
+          list = effects.old.list
+              ++ saved self.new;
+        } }
         ensures held { result ≡ before.Held place (slice_index self.old.cells place) }
         ensures cell { IsPlacedCell result }
         ensures back { restored_cell result self.new.cells ≡ self.old.cells }

@@ -1,5 +1,6 @@
 -- What a script leaves of which the answers are not told.
-use Rattle.std.specs.Prelude.{◌≡◌, ◌++◌, ◌-◌, ◌^◌, ℕ, Bool, true, List, Option, Some, Result, Ok, Err, ⊤, length, min}
+use Rattle.std.specs.Prelude.{◌≡◌, ◌++◌, ◌-◌, ◌^◌, ℕ, Bool, true, List, Option, Some, Result, Ok}
+use Rattle.std.specs.Prelude.{Err, ⊤, length, min}
 use Rattle.std.specs.Str.Lines.{lines}
 use Rattle.sim_world.specs.Events.{Rules}
 use Rattle.sim_script.specs.declared.script.ScriptLine.{ScriptLine}
@@ -53,9 +54,10 @@ module _ {State Msg : Type 0} (r : Rules State Msg) (names : Names) (strict : Bo
   Follows old new ls (Err (whole.Fault f)) = (strict ≡ true) × IsFirstFault r names old ls f
   Follows old new ls (Err (whole.Ended ended)) = ⊤
 
--- The lines of a script up to here were followed from one course to another, and so many were counted.
--- None is at fault where that is asked, and the rest of the script is left to be read.
-pub record Followed {State Msg : Type 0} (r : Rules State Msg) (names : Names) (strict : Bool) (start : Course) (script : Text)
+-- The lines of a script up to here were followed from one course to another, and so many were
+-- counted. None is at fault where that is asked, and the rest of the script is left to be read.
+pub record Followed {State Msg : Type 0} (r : Rules State Msg) (names : Names) (strict : Bool)
+    (start : Course) (script : Text)
     (here : Course) (left : Option Text) (number : ℕ) : Type 0 where
   pub done : List Text
   pub rest : Text

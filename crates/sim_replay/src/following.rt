@@ -78,8 +78,8 @@ fn follow_line<N: Node>(
 }
 
 /// Carries out the commands of a script on a book. Refused commands and lines that are no command
-/// are skipped, or strictly, the first of them ends the script with an error. So does a command that
-/// wants memory, since the run would not be the one that the script describes. A book that has
+/// are skipped, or strictly, the first of them ends the script with an error. So does a command
+/// that wants memory, since the run would not be the one that the script describes. A book that has
 /// branches keeps at least one.
 pub fn follow<N: Node, R: Read>(
     alloc: Global,

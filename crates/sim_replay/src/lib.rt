@@ -9,9 +9,9 @@
 //! as a play skips them. Strictly, the first of them ends the script with an error, a
 //! [`ScriptStop`] that has the line, its number and why it is at fault.
 //!
-//! Why it is built this way: if a command wants memory, the script ends with an error. With the loop
-//! of a play and a writer that drops its text, a search would go on over a run that the script does
-//! not describe.
+//! Why it is built this way: if a command wants memory, the script ends with an error. With the
+//! loop of a play and a writer that drops its text, a search would go on over a run that the script
+//! does not describe.
 #![tactic(auto)]
 
 mod following;

@@ -1,5 +1,6 @@
 //! The run that a script leaves on the first branch.
-ghost use Rattle.std.specs.Prelude.{◌≡◌, ◌<◌, ◌&&◌, ℕ, List, IfOk, IfErr, MatchResult, Some, length, slice_index_or};
+ghost use Rattle.std.specs.Prelude.{◌≡◌, ◌<◌, ◌&&◌, ℕ, List, IfOk, IfErr, MatchResult, Some};
+ghost use Rattle.std.specs.Prelude.{length, slice_index_or};
 ghost use Rattle.std.specs.Io.KnownBytes.{prepend_known};
 ghost use Rattle.sim_world.specs.Events.{rules};
 ghost use Rattle.sim_replay.specs.Following.{Stops, StopsScript};
@@ -20,8 +21,8 @@ use sim_world::{Event, Scenario};
 use std::alloc::Global;
 use std::io::Read;
 
-/// All kept events of the first branch, once a script was carried out. Strictly, no line of the script
-/// may be at fault.
+/// All kept events of the first branch, once a script was carried out. Strictly, no line of the
+/// script may be at fault.
 pub fn played<N: Node<Meter = Tally>, R: Read>(
     alloc: Global,
     scenario: &Scenario,

@@ -1,5 +1,6 @@
 -- The lines that tell replies. Places, clocks (ms) and numbers are written in decimal digits.
-use Rattle.std.specs.Prelude.{ℕ, Bool, true, false, codes, List, [], ◌∷◌, Option, Some, None, Result, Ok, Err}
+use Rattle.std.specs.Prelude.{ℕ, Bool, true, false, codes, List, [], ◌∷◌, Option, Some, None}
+use Rattle.std.specs.Prelude.{Result, Ok, Err}
 use Rattle.std.specs.Fmt.{decimal}
 use Rattle.sim_links.specs.declared.LinkState.{LinkState}
 use Rattle.sim_links.specs.declared.LinkState.TheVariants as state
@@ -47,7 +48,8 @@ stop_words stop.Full = codes "full" ∷ []
 stop_words stop.Long = codes "long" ∷ []
 
 abbrev pub move_words : ℕ → ℕ → Stop → Text
-move_words place clock why = spaced (field (codes "place") place ∷ field (codes "clock") clock ∷ stop_words why)
+move_words place clock why =
+    spaced (field (codes "place") place ∷ field (codes "clock") clock ∷ stop_words why)
 
 abbrev pub kind_word : Kind → Text
 kind_word kind.Start = codes "start"
@@ -80,20 +82,26 @@ module _ (names : Names) where
   abbrev pub next_words : Option Coming → Text
   next_words None = codes "none"
   next_words (Some x) = spaced
-      (field (codes "due") x.due ∷ field (codes "serial") x.serial ∷ codes "host" ∷ host_name names x.host ∷ kind_word x.kind ∷ [])
+      (field (codes "due") x.due ∷ field (codes "serial") x.serial ∷ codes "host"
+      ∷ host_name names x.host ∷ kind_word x.kind ∷ [])
 
   -- what is seen at a place
   abbrev pub view_words : ℕ → View → Text
   view_words place (view.Summary clock serial net torn pending held) = spaced
-      (field (codes "place") place ∷ field (codes "clock") clock ∷ field (codes "serial") serial ∷ field (codes "net") net
-      ∷ field (codes "torn") torn ∷ field (codes "pending") pending ∷ field (codes "held") held ∷ [])
+      (field (codes "place") place ∷ field (codes "clock") clock ∷ field (codes "serial") serial
+      ∷ field (codes "net") net
+      ∷ field (codes "torn") torn ∷ field (codes "pending") pending ∷ field (codes "held") held
+      ∷ [])
   view_words place (view.Next x) = next_words x
   view_words place (view.HostView h up done draws stable unsynced) = spaced
-      (host_name names h ∷ up_word up ∷ codes "done" ∷ yes_word done ∷ field (codes "draws") draws ∷ field (codes "stable") stable
+      (host_name names h ∷ up_word up ∷ codes "done" ∷ yes_word done ∷ field (codes "draws") draws
+      ∷ field (codes "stable") stable
       ∷ field (codes "unsynced") unsynced ∷ [])
   view_words place (view.Link a b state messages) = spaced
-      (host_name names a ∷ host_name names b ∷ state_word state ∷ field (codes "messages") messages ∷ [])
-  view_words place (view.Probe h k value) = spaced (host_name names h ∷ probe_name names k ∷ value_word value ∷ [])
+      (host_name names a ∷ host_name names b ∷ state_word state ∷ field (codes "messages") messages
+      ∷ [])
+  view_words place (view.Probe h k value) =
+      spaced (host_name names h ∷ probe_name names k ∷ value_word value ∷ [])
 
   -- a reply to a command on a branch
   abbrev pub reply_words : ℕ → Reply → Text

@@ -1,6 +1,7 @@
 //! The lines that tell replies.
 ghost use Rattle.std.specs.Prelude.{◌≡◌, ℕ, ◌+◌, ◌≤◌, List, ◌∷◌, ◌++◌, OnOk, string_bytes};
-ghost use Rattle.sim_replies.specs.Lines.{line, move_words, reply_words, spaced, stop_words, turn_line};
+ghost use Rattle.sim_replies.specs.Lines.{line, move_words, reply_words, spaced, stop_words};
+ghost use Rattle.sim_replies.specs.Lines.{turn_line};
 
 use crate::ending::Ending;
 use crate::named::{branch_of, not_taken_name, refusal_name};
@@ -13,7 +14,8 @@ use std::alloc::{AllocError, Global};
 /// Puts, before the end of a line, why a branch stopped.
 fn put_stop(end: &mut Ending, stop: Stop)
     requires { 40 ≤ end.old.room }
-    ensures text { (word : List ℕ) → word ++ end.new.text ≡ spaced (word ∷ stop_words stop) ++ end.old.text }
+    ensures text { (word : List ℕ) → word ++ end.new.text ≡ spaced (word ∷ stop_words stop)
+        ++ end.old.text }
     ensures room { end.old.room ≤ end.new.room + 40 }
 {
     match stop {
@@ -26,7 +28,8 @@ fn put_stop(end: &mut Ending, stop: Stop)
     }
 }
 
-/// Puts, before the end of a line, the place and the clock after a command, and why it stopped there.
+/// Puts, before the end of a line, the place and the clock after a command, and why it stopped
+/// there.
 fn put_move(end: &mut Ending, place: u32, clock: u64, stop: Stop)
     requires { 100 ≤ end.old.room }
     ensures { end.new.text ≡ move_words place clock stop ++ end.old.text }
@@ -44,7 +47,8 @@ fn tell_reply(
     branch: u32,
     reply: &Reply,
 ) -> Result<(), AllocError>
-    ensures { OnOk result (string_bytes text.new ≡ string_bytes text.old ++ line (reply_words names.now branch reply.now)) }
+    ensures { OnOk result (string_bytes text.new ≡ string_bytes text.old
+        ++ line (reply_words names.now branch reply.now)) }
 {
     let mut end = Ending::of("\n");
     match reply {
@@ -61,8 +65,9 @@ fn tell_reply(
     text.push_str(end.as_str())
 }
 
-/// Writes the line that tells a turn in place of the text. Memory is taken where the text has no room for the line, and for the
-/// line of a branch's kept events; where it is refused, nothing is said of the text.
+/// Writes the line that tells a turn in place of the text. Memory is taken where the text has no
+/// room for the line, and for the line of a branch's kept events; where it is refused, nothing is
+/// said of the text.
 pub fn tell_turn(
     alloc: Global,
     text: &mut String,

@@ -1,7 +1,8 @@
 //! The kept events of a branch as JSON.
 ghost use Rattle.std.specs.Prelude.{◌≡◌, ◌++◌, IfOk, OnOk, map, string_bytes};
 ghost use Rattle.serde_json.specs.View.{view};
-ghost use Rattle.sim_replies.specs.Trace.{event_value as value_of, trace_value as branch_value, trace_words};
+ghost use Rattle.sim_replies.specs.Trace.{event_value as value_of, trace_value as branch_value};
+ghost use Rattle.sim_replies.specs.Trace.{trace_words};
 
 use crate::event::event_value;
 use serde_json::{Value, json};
@@ -44,7 +45,8 @@ pub fn tell_trace(
     branch: u32,
     events: &EventList,
 ) -> Result<(), AllocError>
-    ensures { OnOk result (string_bytes text.new ≡ string_bytes text.old ++ trace_words names.now branch events.now) }
+    ensures { OnOk result (string_bytes text.new ≡ string_bytes text.old
+        ++ trace_words names.now branch events.now) }
 {
     let trace = trace_value(alloc, names, branch, events)?.to_string(alloc)?;
     text.push_str(trace.as_str())

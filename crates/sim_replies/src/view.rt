@@ -1,6 +1,8 @@
 //! What is seen at a place, in words.
-ghost use Rattle.std.specs.Prelude.{◌≡◌, ℕ, ◌+◌, ◌≤◌, List, [], ◌∷◌, ◌++◌, codes, OnOk, string_bytes};
-ghost use Rattle.sim_replies.specs.Lines.{field, next_words, spaced, up_word, value_word, view_words, yes_word};
+ghost use Rattle.std.specs.Prelude.{◌≡◌, ℕ, ◌+◌, ◌≤◌, List, [], ◌∷◌, ◌++◌, codes, OnOk};
+ghost use Rattle.std.specs.Prelude.{string_bytes};
+ghost use Rattle.sim_replies.specs.Lines.{field, next_words, spaced, up_word, value_word};
+ghost use Rattle.sim_replies.specs.Lines.{view_words, yes_word};
 
 use crate::ending::Ending;
 use crate::named::{kind_name, state_name, up_name, yes_name};
@@ -8,7 +10,8 @@ use sim_script::Names;
 use sim_world::{Coming, View};
 use std::alloc::AllocError;
 
-/// Tells the first pending occurrence, or none: names are added to the text, and what follows them is put before the end.
+/// Tells the first pending occurrence, or none: names are added to the text, and what follows them
+/// is put before the end.
 fn tell_next(
     text: &mut String,
     end: &mut Ending,
@@ -16,7 +19,8 @@ fn tell_next(
     next: Option<Coming>,
 ) -> Result<(), AllocError>
     requires { 191 ≤ end.old.room }
-    ensures { OnOk result (string_bytes text.new ++ end.new.text ≡ string_bytes text.old ++ (next_words names.now next ++ end.old.text)) }
+    ensures { OnOk result (string_bytes text.new ++ end.new.text ≡ string_bytes text.old
+        ++ (next_words names.now next ++ end.old.text)) }
 {
     match next {
         None => {
@@ -59,8 +63,10 @@ fn put_summary(
     held: u32,
 )
     requires { 191 ≤ end.old.room }
-    ensures { end.new.text ≡ spaced (field (codes "place") place ∷ field (codes "clock") clock ∷ field (codes "serial") serial ∷ field (codes "net") net
-        ∷ field (codes "torn") torn ∷ field (codes "pending") pending ∷ field (codes "held") held ∷ []) ++ end.old.text }
+    ensures { end.new.text ≡ spaced (field (codes "place") place ∷ field (codes "clock") clock
+        ∷ field (codes "serial") serial ∷ field (codes "net") net
+        ∷ field (codes "torn") torn ∷ field (codes "pending") pending ∷ field (codes "held") held
+        ∷ []) ++ end.old.text }
 {
     end.put_field(" held ", u64::from(held));
     end.put_field(" pending ", u64::from(pending));
@@ -74,7 +80,8 @@ fn put_summary(
 /// Puts, before the end, what is seen of a host: all that follows its name.
 fn put_host(end: &mut Ending, up: bool, done: bool, draws: u64, stable: u32, unsynced: u32)
     requires { 191 ≤ end.old.room }
-    ensures { (name : List ℕ) → name ++ end.new.text ≡ spaced (name ∷ up_word up ∷ codes "done" ∷ yes_word done ∷ field (codes "draws") draws
+    ensures { (name : List ℕ) → name ++ end.new.text ≡ spaced
+        (name ∷ up_word up ∷ codes "done" ∷ yes_word done ∷ field (codes "draws") draws
         ∷ field (codes "stable") stable ∷ field (codes "unsynced") unsynced ∷ []) ++ end.old.text }
 {
     end.put_field(" unsynced ", u64::from(unsynced));
@@ -88,14 +95,16 @@ fn put_host(end: &mut Ending, up: bool, done: bool, draws: u64, stable: u32, uns
 
 /// Adds two names to a text, with a space after the first.
 fn add_names(text: &mut String, first: &str, second: &str) -> Result<(), AllocError>
-    ensures { OnOk result (string_bytes text.new ≡ string_bytes text.old ++ spaced (first.now ∷ second.now ∷ [])) }
+    ensures { OnOk result (string_bytes text.new ≡ string_bytes text.old
+        ++ spaced (first.now ∷ second.now ∷ [])) }
 {
     text.push_str(first)?;
     text.push(' ')?;
     text.push_str(second)
 }
 
-/// Tells what is seen at a place: names are added to the text, and what follows them is put before the end.
+/// Tells what is seen at a place: names are added to the text, and what follows them is put before
+/// the end.
 pub fn tell_view(
     text: &mut String,
     end: &mut Ending,
@@ -104,7 +113,8 @@ pub fn tell_view(
     view: View,
 ) -> Result<(), AllocError>
     requires { 191 ≤ end.old.room }
-    ensures { OnOk result (string_bytes text.new ++ end.new.text ≡ string_bytes text.old ++ (view_words names.now place view ++ end.old.text)) }
+    ensures { OnOk result (string_bytes text.new ++ end.new.text ≡ string_bytes text.old
+        ++ (view_words names.now place view ++ end.old.text)) }
 {
     match view {
         View::Summary {

@@ -1,5 +1,6 @@
 -- The scenario of a numbered run.
-use Rattle.std.specs.Prelude.{◌≡◌, ℕ, List, ◌++◌, take, codes, true, Some, Result, Ok, Err, if◌then◌else◌}
+use Rattle.std.specs.Prelude.{◌≡◌, ℕ, List, ◌++◌, take, codes, true, Some, Result, Ok, Err}
+use Rattle.std.specs.Prelude.{if◌then◌else◌}
 use Rattle.std.specs.Int.{w64, to_le_bytes}
 use Rattle.hex.specs.Hex.{decode_of, encode_lower}
 use Rattle.toml.specs.Data.{Data, Members, no_members, member, same_key, get_member, string}
@@ -21,7 +22,8 @@ numbered_reading i (Err fault) = Err fault
 -- the members with another value at a key
 abbrev pub with_value : List ℕ → Data → Members → Members
 with_value key d no_members = no_members
-with_value key d (member k e rest) = if same_key key k then member k d rest else member k e (with_value key d rest)
+with_value key d (member k e rest) =
+    if same_key key k then member k d rest else member k e (with_value key d rest)
 
 -- the members with another seed
 abbrev pub with_seed : List ℕ → Members → Members

@@ -7,7 +7,8 @@ use Rattle.sim_scenario.specs.Scenario.{Protocol, read}
 use Rattle.sim_reseed.specs.Input.{has_marker}
 use Rattle.sim_reseed.specs.Numbered.{numbered_seed, with_seed, HasSeed}
 use Rattle.sim_reseed.specs.declared.error.ReseedError.{ReseedError}
-use Rattle.sim_reseed.specs.declared.error.ReseedError.TheVariants.{NoScenario, TooLong, HasMarker, NoMemory}
+use Rattle.sim_reseed.specs.declared.error.ReseedError.TheVariants.{NoScenario, TooLong, HasMarker}
+use Rattle.sim_reseed.specs.declared.error.ReseedError.TheVariants.{NoMemory}
 
 -- for no list of protocols the text is a scenario
 abbrev pub IsNoScenario : List ℕ → Type 0
@@ -40,5 +41,6 @@ Refuses i text NoMemory = Unit {0}
 
 -- nor an input that begins with it
 abbrev pub RefusesInput : ℕ → List ℕ → ReseedError → Type 0
-RefusesInput i text HasMarker = (printed : List ℕ) × IsWritten i text printed × (has_marker printed ≡ true)
+RefusesInput i text HasMarker =
+    (printed : List ℕ) × IsWritten i text printed × (has_marker printed ≡ true)
 RefusesInput i text e = Refuses i text e

@@ -3,7 +3,8 @@
 use Rattle.std.specs.Prelude.{◌≡◌, ℕ, List, [], ◌∷◌, Bool, true, false, ◌&&◌, ◌||◌, ◌⊎◌, Some, None}
 use Rattle.std.specs.Option.{is_some}
 use Rattle.std.specs.List.{list_all}
-use Rattle.toml.specs.Data.{Data, Items, Members, no_members, member, as_str, as_integer, as_array, as_table, get_member}
+use Rattle.toml.specs.Data.{Data, Items, Members, no_members, member, as_str, as_integer, as_array}
+use Rattle.toml.specs.Data.{as_table, get_member}
 use Rattle.sim_scenario.specs.Scenario.{data_of}
 
 -- a string or a whole number
@@ -20,7 +21,8 @@ is_element d = elim (as_table d) [ None ↦ is_plain d | Some members ↦ are_pl
 
 -- the value of a key
 abbrev pub is_value : Data → Bool
-is_value d = elim (as_array d) [ None ↦ is_plain d | Some items ↦ list_all is_element (data_of items) ]
+is_value d =
+    elim (as_array d) [ None ↦ is_plain d | Some items ↦ list_all is_element (data_of items) ]
 
 abbrev pub is_shallow : Members → Bool
 is_shallow no_members = true

@@ -1,5 +1,6 @@
 -- What a line of a script asks.
-use Rattle.std.specs.Prelude.{ℕ, List, [], ◌∷◌, length, Bool, ◌==◌, if◌then◌else◌, codes, drop, Option, None, Some, option_and_then, nat_lt, slice_index}
+use Rattle.std.specs.Prelude.{ℕ, List, [], ◌∷◌, length, Bool, ◌==◌, if◌then◌else◌, codes, drop}
+use Rattle.std.specs.Prelude.{Option, None, Some, option_and_then, nat_lt, slice_index}
 use Rattle.std.specs.Option.{option_map, option_or}
 use Rattle.std.specs.Str.{bytes_eq}
 use Rattle.sim_world.specs.declared.Fault.{Fault}
@@ -13,7 +14,8 @@ use Rattle.sim_script.specs.declared.script.ScriptLine.TheVariants.{Nothing, Bad
 pub use Rattle.sim_script.specs.Words.{Text, words, number, Names, host, probe}
 use Rattle.sim_script.specs.Conditions.{condition}
 
--- the words that follow the first of a line: nothing, a number, a host, two hosts, a host and a probe
+-- the words that follow the first of a line: nothing, a number, a host, two hosts, a host and a
+-- probe
 abbrev pub nothing : {A : Type 0} → A → List Text → Option A
 nothing a [] = Some a
 nothing a (_ ∷ _) = None
@@ -49,11 +51,13 @@ module _ (names : Names) where
   a_host _ = None
 
   abbrev pub two_hosts : List Text → Option (ℕ × ℕ)
-  two_hosts (a ∷ b ∷ []) = option_and_then (λ x. option_map (λ y. (x, y)) (host names b)) (host names a)
+  two_hosts (a ∷ b ∷ []) =
+      option_and_then (λ x. option_map (λ y. (x, y)) (host names b)) (host names a)
   two_hosts _ = None
 
   abbrev pub a_host_and_probe : List Text → Option (ℕ × ℕ)
-  a_host_and_probe (h ∷ k ∷ []) = option_and_then (λ x. option_map (λ y. (x, y)) (probe names k)) (host names h)
+  a_host_and_probe (h ∷ k ∷ []) =
+      option_and_then (λ x. option_map (λ y. (x, y)) (probe names k)) (host names h)
   a_host_and_probe _ = None
 
   -- a fault, by its first word and the words that follow
@@ -61,12 +65,18 @@ module _ (names : Names) where
   fault_of word given =
       if bytes_eq word (codes "crash") then option_map fault.Crash (a_host given)
       else (if bytes_eq word (codes "bounce") then option_map fault.Bounce (a_host given)
-      else (if bytes_eq word (codes "hold") then option_map (λ p. fault.Hold p.0 p.1) (two_hosts given)
-      else (if bytes_eq word (codes "release") then option_map (λ p. fault.Release p.0 p.1) (two_hosts given)
-      else (if bytes_eq word (codes "partition") then option_map (λ p. fault.Cut p.0 p.1) (two_hosts given)
-      else (if bytes_eq word (codes "repair") then option_map (λ p. fault.Repair p.0 p.1) (two_hosts given)
-      else (if bytes_eq word (codes "cutoneway") then option_map (λ p. fault.CutOneway p.0 p.1) (two_hosts given)
-      else (if bytes_eq word (codes "repaironeway") then option_map (λ p. fault.RepairOneway p.0 p.1) (two_hosts given)
+      else (if bytes_eq word (codes "hold") then option_map (λ p. fault.Hold p.0 p.1)
+      (two_hosts given)
+      else (if bytes_eq word (codes "release") then option_map (λ p. fault.Release p.0 p.1)
+      (two_hosts given)
+      else (if bytes_eq word (codes "partition") then option_map (λ p. fault.Cut p.0 p.1)
+      (two_hosts given)
+      else (if bytes_eq word (codes "repair") then option_map (λ p. fault.Repair p.0 p.1)
+      (two_hosts given)
+      else (if bytes_eq word (codes "cutoneway") then option_map (λ p. fault.CutOneway p.0 p.1)
+      (two_hosts given)
+      else (if bytes_eq word (codes "repaironeway") then option_map
+      (λ p. fault.RepairOneway p.0 p.1) (two_hosts given)
       else None)))))))
 
   -- what is looked at, by the words after `look`
@@ -75,8 +85,10 @@ module _ (names : Names) where
   query_of (word ∷ given) =
       if bytes_eq word (codes "next") then nothing query.Next given
       else (if bytes_eq word (codes "host") then option_map query.HostView (a_host given)
-      else (if bytes_eq word (codes "link") then option_map (λ p. query.Link p.0 p.1) (two_hosts given)
-      else (if bytes_eq word (codes "probe") then option_map (λ p. query.Probe p.0 p.1) (a_host_and_probe given)
+      else (if bytes_eq word (codes "link") then option_map (λ p. query.Link p.0 p.1)
+      (two_hosts given)
+      else (if bytes_eq word (codes "probe") then option_map (λ p. query.Probe p.0 p.1)
+      (a_host_and_probe given)
       else None)))
 
   -- a command on a branch, by its first word and the words that follow
@@ -87,8 +99,10 @@ module _ (names : Names) where
       else (if bytes_eq word (codes "cut") then nothing (command.Cut b) given
       else (if bytes_eq word (codes "trace") then nothing (command.Freeze b) given
       else (if bytes_eq word (codes "look") then option_map (command.Look b) (query_of given)
-      else (if bytes_eq word (codes "watch") then option_map (command.Watch b) (condition names given)
-      else option_or (numbered_of b word given) (option_map (command.Fault b) (fault_of word given)))))))
+      else (if bytes_eq word (codes "watch") then option_map (command.Watch b)
+      (condition names given)
+      else option_or (numbered_of b word given) (option_map (command.Fault b)
+      (fault_of word given)))))))
 
   abbrev pub command_on : ℕ → List Text → Option Command
   command_on b [] = None
@@ -98,7 +112,8 @@ module _ (names : Names) where
   unfoldable pub command_of : List Text → Option Command
   command_of [] = None
   command_of (word ∷ given) =
-      if slice_index word 0 == 64 then option_and_then (λ b. command_on b given) (number 9 (drop 1 word))
+      if slice_index word 0 == 64 then option_and_then (λ b. command_on b given)
+      (number 9 (drop 1 word))
       else command_on 0 (word ∷ given)
 
   -- A comment and an empty line ask nothing. A line of more than 256 bytes is bad.

@@ -1,5 +1,7 @@
 -- The words of a line, the numbers and the names that they write.
-use Rattle.std.specs.Prelude.{◌≡◌, ℕ, ◌+◌, ◌-◌, ◌*◌, List, [], ◌∷◌, length, Bool, true, false, ◌&&◌, ◌==◌, if◌then◌else◌, All, filter, Option, None, Some, nat_le, slice_index_or}
+use Rattle.std.specs.Prelude.{◌≡◌, ℕ, ◌+◌, ◌-◌, ◌*◌, List, [], ◌∷◌, length, Bool, true, false, ◌&&◌}
+use Rattle.std.specs.Prelude.{◌==◌, if◌then◌else◌, All, filter, Option, None, Some, nat_le}
+use Rattle.std.specs.Prelude.{slice_index_or}
 use Rattle.std.specs.List.{slice_split, list_all, fold, position}
 use Rattle.std.specs.Option.{unwrap_or}
 use Rattle.std.specs.Str.{bytes_eq}
@@ -27,7 +29,10 @@ number_from digits = fold (λ value digit. value * 10 + (digit - 48)) 0 digits
 
 -- a number of 1 to so many decimal digits
 unfoldable pub number : ℕ → Text → Option ℕ
-number most word = if is_word word && (nat_le (length word) most && list_all is_ascii_digit word) then Some (number_from word) else None
+number most word =
+    if is_word word && (nat_le (length word) most && list_all is_ascii_digit word)
+    then Some (number_from word)
+    else None
 
 -- what names there are: of the hosts and of the probes, in the order of their numbers
 pub record Names : Type 0 where
@@ -36,7 +41,8 @@ pub record Names : Type 0 where
 
 -- a name's number, or a number that nothing has
 unfoldable pub named : List Text → ℕ → Text → Option ℕ
-named names absent word = if is_name word then Some (unwrap_or (position (bytes_eq word) names) absent) else None
+named names absent word =
+    if is_name word then Some (unwrap_or (position (bytes_eq word) names) absent) else None
 
 abbrev pub name_at : List Text → ℕ → Text
 name_at names n = slice_index_or names n []

@@ -7,7 +7,8 @@ use sim_watch::{Cond, SharedCond};
 use std::alloc::Global;
 use std::marker::Model;
 
-/// What a line that is a command asks. The condition of a watch stands in it, since a line is read without memory.
+/// What a line that is a command asks. The condition of a watch stands in it, since a line is read
+/// without memory.
 #[derive(Drop)]
 pub(crate) enum Form {
     /// Any command but a watch.
@@ -16,7 +17,8 @@ pub(crate) enum Form {
     Watch(u32, Cond),
 }
 
-/// A command as a line gives it, whose condition is not in memory of its own yet. Contracts see the command.
+/// A command as a line gives it, whose condition is not in memory of its own yet. Contracts see the
+/// command.
 #[derive(Drop)]
 pub struct Ask {
     pub(crate) form: Form,

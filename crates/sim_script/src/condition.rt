@@ -3,8 +3,10 @@ ghost use Rattle.std.specs.Prelude.{◌≡◌, ◌<◌, ◌↔◌, length, None,
 ghost use Rattle.std.specs.List.{position};
 ghost use Rattle.sim_watch.specs.Condition.{Cond as Terms, terms as all_terms, join_term};
 ghost use Rattle.sim_script.specs.Words.{words, host};
-ghost use Rattle.sim_script.specs.Conditions.{op_of, bound, is_dot, host_and_probe, value, on_host, negation, comparison, with_comparison};
-ghost use Rattle.sim_script.specs.Conditions.{on_values, counted, counting, unless_number, on_probe_unless, agreement, compared};
+ghost use Rattle.sim_script.specs.Conditions.{op_of, bound, is_dot, host_and_probe, value, on_host};
+ghost use Rattle.sim_script.specs.Conditions.{negation, comparison, with_comparison};
+ghost use Rattle.sim_script.specs.Conditions.{on_values, counted, counting, unless_number};
+ghost use Rattle.sim_script.specs.Conditions.{on_probe_unless, agreement, compared};
 ghost use Rattle.sim_script.specs.Conditions.{term, begins_after, condition, IsWritten};
 
 use crate::names::Names;
@@ -78,7 +80,8 @@ pub(crate) fn parse_value(names: &Names, word: &[u8]) -> Option<Value>
 /// A host, and what follows it.
 fn next_host<'a>(names: &Names, text: &'a [u8]) -> Option<(u16, &'a [u8])>
     ensures { MatchOption result ((make : _) → on_host names.now make (words text.now) ≡ None)
-        (λ r. (make : _) → on_host names.now make (words text.now) ≡ Some (make r.0, words r.1.now)) }
+        (λ r. (make : _) → on_host names.now make (words text.now)
+        ≡ Some (make r.0, words r.1.now)) }
 {
     let (word, rest) = next_word(text)?;
     let host = names.host(word)?;
@@ -118,8 +121,10 @@ fn next_unless(text: &[u8]) -> Option<(u64, &[u8])>
 
 /// A probe, `unless` and a number, and what follows them.
 fn next_probe_unless<'a>(names: &Names, text: &'a [u8]) -> Option<(u8, u64, &'a [u8])>
-    ensures { MatchOption result ((make : _) → on_probe_unless names.now make (words text.now) ≡ None)
-        (λ r. (make : _) → on_probe_unless names.now make (words text.now) ≡ Some (make r.0 r.1, words r.2.now)) }
+    ensures { MatchOption result ((make : _) → on_probe_unless names.now make (words text.now)
+        ≡ None)
+        (λ r. (make : _) → on_probe_unless names.now make (words text.now)
+        ≡ Some (make r.0 r.1, words r.2.now)) }
 {
     let (probe, rest) = next_word(text)?;
     let probe = names.probe(probe)?;
@@ -159,7 +164,8 @@ fn next_comparison<'a>(names: &Names, text: &'a [u8]) -> Option<(Comparison, &'a
 /// A probe, an operator and a value, and what follows them.
 fn next_values<'a>(names: &Names, text: &'a [u8]) -> Option<(u8, Comparison, &'a [u8])>
     ensures { MatchOption result ((make : _) → on_values names.now make (words text.now) ≡ None)
-        (λ r. (make : _) → on_values names.now make (words text.now) ≡ Some (make r.0 r.1, words r.2.now)) }
+        (λ r. (make : _) → on_values names.now make (words text.now)
+        ≡ Some (make r.0 r.1, words r.2.now)) }
 {
     let (probe, rest) = next_word(text)?;
     let probe = names.probe(probe)?;
@@ -247,9 +253,11 @@ fn begins_after(word: &[u8]) -> Option<bool>
     }
 }
 
-/// The condition with a term more, which begins an alternative or is joined to the last one; none where it has 8 terms.
+/// The condition with a term more, which begins an alternative or is joined to the last one; none
+/// where it has 8 terms.
 fn with_term(cond: Cond, begins: bool, term: Term) -> Option<Cond>
-    ensures { MatchOption result (length (all_terms cond) ≡ 8) (λ c. c ≡ join_term cond (record { begins = begins; term = term })) }
+    ensures { MatchOption result (length (all_terms cond) ≡ 8)
+        (λ c. c ≡ join_term cond (record { begins = begins; term = term })) }
 {
     if begins {
         cond.or(term).ok()
@@ -258,7 +266,8 @@ fn with_term(cond: Cond, begins: bool, term: Term) -> Option<Cond>
     }
 }
 
-/// The condition that a text writes: 1 to 8 terms, joined by `and` and `or`; none where it writes none. It takes no memory.
+/// The condition that a text writes: 1 to 8 terms, joined by `and` and `or`; none where it writes
+/// none. It takes no memory.
 pub fn condition_of(names: &Names, text: &[u8]) -> Option<Cond>
     ensures is { result ≡ condition names.now (words text.now) }
     ensures written { IsWritten names.now (words text.now) result }

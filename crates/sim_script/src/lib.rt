@@ -3,8 +3,8 @@
 //! [`line_of`] reads one line. It returns a [`ScriptLine`]: nothing (an empty line or a comment), a
 //! bad line, or an [`Ask`]. `Ask::into_command` turns that into a command of a book.
 //! [`condition_of`] reads the words of a condition, also those of a command line. [`Names`] has the
-//! names of hosts and probes with their numbers. [`mistake_of`] says which word makes a line bad, and
-//! what should stand there.
+//! names of hosts and probes with their numbers. [`mistake_of`] says which word makes a line bad,
+//! and what should stand there.
 //!
 //! ```text
 //! match line_of(&names, b"@1 crash a") {

@@ -408,8 +408,8 @@ fn first_mistake(names: &Names, line: &[u8]) -> LineMistake
     }
 }
 
-/// Why a line of a script is bad: which word should be another, or is missing, and what should stand
-/// there. None where the line is no bad line. It takes no memory.
+/// Why a line of a script is bad: which word should be another, or is missing, and what should
+/// stand there. None where the line is no bad line. It takes no memory.
 pub fn mistake_of(names: &Names, line: &[u8]) -> Option<LineMistake>
     ensures bad { IsSome result ↔ (script_line names.now line.now ≡ ScriptLine.Bad) }
     ensures place { IfSome result (λ m. IsBetween 0 m.word (length (words line.now))) }

@@ -1,5 +1,6 @@
 //! The names of hosts and probes, by their numbers.
-ghost use Rattle.std.specs.Prelude.{◌≡◌, ◌≤◌, ◌<◌, false, length, map, string_bytes, IfSome, IfNone, IsTrue};
+ghost use Rattle.std.specs.Prelude.{◌≡◌, ◌≤◌, ◌<◌, false, length, map, string_bytes, IfSome};
+ghost use Rattle.std.specs.Prelude.{IfNone, IsTrue};
 ghost use Rattle.std.specs.List.{position};
 ghost use Rattle.std.specs.Str.{bytes_eq};
 ghost use Rattle.sim_scenario.specs.Hosts.{IsNumbered, names_in};
@@ -17,7 +18,8 @@ const NO_HOST: u16 = 65_535;
 /// The number that stands for a probe that is not there.
 const NO_PROBE: u8 = 255;
 
-/// The names of the hosts, with their numbers, and of the probes, in the order of their numbers: at most 255.
+/// The names of the hosts, with their numbers, and of the probes, in the order of their numbers: at
+/// most 255.
 #[derive(Drop)]
 pub struct Names {
     hosts: IndexMap<String, u16>,
@@ -31,7 +33,10 @@ impl Model for Names {
 
     ghost Value = { NamesValue };
 
-    ghost view = { λ n. record { hosts = names_in n.hosts; probes = map string_bytes n.probes.items } };
+    ghost view = { λ n. record {
+      hosts = names_in n.hosts;
+      probes = map string_bytes n.probes.items;
+    } };
 
     ghost invariant = { λ n. IsNumbered n.hosts × (length n.probes.items ≤ 255) };
 }
@@ -76,12 +81,16 @@ impl Names {
     pub fn new(hosts: IndexMap<String, u16>, probes: Vec<String>) -> Names
         requires hosts { IsNumbered hosts }
         requires probes { length probes.items ≤ 255 }
-        ensures { result ≡ record { hosts = names_in hosts; probes = map string_bytes probes.items } }
+        ensures { result ≡ record {
+          hosts = names_in hosts;
+          probes = map string_bytes probes.items;
+        } }
     {
         Names { hosts, probes }
     }
 
-    /// The number of the host that the word names, or 65,535 where none has this name; none where the word is no name.
+    /// The number of the host that the word names, or 65,535 where none has this name; none where
+    /// the word is no name.
     #[tactic(auto, unfolding(crate::specs::Words::named), using(crate::proofs::Naming::position_same))]
     pub fn host(&self, word: &[u8]) -> Option<u16>
         ensures { result ≡ host self.now word.now }
@@ -93,7 +102,8 @@ impl Names {
         }
     }
 
-    /// The number of the probe that the word names, or 255 where none has this name; none where the word is no name.
+    /// The number of the probe that the word names, or 255 where none has this name; none where the
+    /// word is no name.
     #[tactic(auto, unfolding(crate::specs::Words::named))]
     pub fn probe(&self, word: &[u8]) -> Option<u8>
         ensures { result ≡ probe self.now word.now }

@@ -2,7 +2,9 @@
 ghost use Rattle.std.specs.Prelude.{◌≡◌, Some, None};
 ghost use Rattle.std.specs.Option.{option_map, option_or};
 ghost use Rattle.sim_script.specs.Conditions.{condition};
-ghost use Rattle.sim_script.specs.Script.{script_line, asked, command_of, command_by, numbered_of, fault_of, query_of, a_host, a_number, two_hosts, a_host_and_probe, nothing, words, number};
+ghost use Rattle.sim_script.specs.Script.{script_line, asked, command_of, command_by, numbered_of};
+ghost use Rattle.sim_script.specs.Script.{fault_of, query_of, a_host, a_number, two_hosts};
+ghost use Rattle.sim_script.specs.Script.{a_host_and_probe, nothing, words, number};
 
 use crate::ask::{Ask, Form};
 use crate::condition::condition_of;
@@ -197,7 +199,8 @@ fn line_by(command: Option<Command>) -> ScriptLine
 
 /// A line that sets a watch, by what follows `watch`.
 fn parse_watch(names: &Names, branch: u32, rest: &[u8]) -> ScriptLine
-    ensures { result ≡ asked (option_map (Command.Watch branch) (condition names.now (words rest.now))) }
+    ensures { result ≡ asked (option_map (Command.Watch branch)
+        (condition names.now (words rest.now))) }
 {
     match condition_of(names, rest) {
         Some(cond) => ScriptLine::Asked(Ask {

@@ -1,11 +1,13 @@
 //! The words of a line, from its front, and the numbers that they write.
-ghost use Rattle.std.specs.Prelude.{◌≡◌, ℕ, List, ◌==◌, false, length, MatchOption, IfSome, ◌^◌, ◌<◌, ◌≤◌, ◌∷◌, [], take, drop, ◌⊎◌};
+ghost use Rattle.std.specs.Prelude.{◌≡◌, ℕ, List, ◌==◌, false, length, MatchOption, IfSome, ◌^◌};
+ghost use Rattle.std.specs.Prelude.{◌<◌, ◌≤◌, ◌∷◌, [], take, drop, ◌⊎◌};
 ghost use Rattle.sim_script.specs.Words.{words, HasNoSpace, number};
 
 /// The rest without the spaces at its front.
 fn skip_spaces(text: &[u8]) -> &[u8]
     ensures same { words result.now ≡ words text.now }
-    ensures front { (result.now ≡ []) ⊎ ((b : ℕ) × (more : List ℕ) × (result.now ≡ b ∷ more) × ((b == 32) ≡ false)) }
+    ensures front { (result.now ≡ []) ⊎ ((b : ℕ) × (more : List ℕ) × (result.now ≡ b ∷ more)
+        × ((b == 32) ≡ false)) }
 {
     let mut rest = text;
     while let [b' ', after @ ..] = rest {
@@ -18,7 +20,8 @@ fn skip_spaces(text: &[u8]) -> &[u8]
 fn word_len(text: &[u8]) -> usize
     ensures within { result ≤ length text.now }
     ensures plain { HasNoSpace (take result text.now) }
-    ensures ends { (drop result text.now ≡ []) ⊎ ((more : List ℕ) × (drop result text.now ≡ 32 ∷ more)) }
+    ensures ends { (drop result text.now ≡ []) ⊎ ((more : List ℕ)
+        × (drop result text.now ≡ 32 ∷ more)) }
 {
     for (i, b) in text.iter().enumerate() {
         if *b == b' ' {
@@ -30,7 +33,8 @@ fn word_len(text: &[u8]) -> usize
 
 /// The first word, and what follows it.
 pub fn next_word(text: &[u8]) -> Option<(&[u8], &[u8])>
-    ensures { MatchOption result (words text.now ≡ []) (λ r. words text.now ≡ r.0.now ∷ words r.1.now) }
+    ensures { MatchOption result (words text.now ≡ []) (λ r. words text.now ≡ r.0.now
+        ∷ words r.1.now) }
 {
     let text = skip_spaces(text);
     if text.is_empty() {

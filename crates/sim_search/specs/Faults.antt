@@ -1,5 +1,6 @@
 -- When a search or a sweep is refused.
-use Rattle.std.specs.Prelude.{ℕ, ◌+◌, ◌^◌, ◌==◌, ◌||◌, nat_lt, Bool, Option, None, Some, if◌then◌else◌}
+use Rattle.std.specs.Prelude.{ℕ, ◌+◌, ◌^◌, ◌==◌, ◌||◌, nat_lt, Bool, Option, None, Some}
+use Rattle.std.specs.Prelude.{if◌then◌else◌}
 use Rattle.std.specs.Option.{is_some, unwrap_or}
 use Rattle.sim_watch.specs.Condition.{Cond, fault_of}
 use Rattle.sim_search.specs.declared.SearchFault.{SearchFault}
@@ -21,10 +22,13 @@ search_fault lo hi end hosts probes c = fault_after (is_bad_search lo hi end) ho
 
 -- There are 1 to 2 ^ 32 seeds, at most 65,536 events, and each seed number is below 2 ^ 64
 abbrev pub is_bad_sweep : ℕ → ℕ → ℕ → Bool
-is_bad_sweep first count events = (count == 0) || (nat_lt (2 ^ 32) count || (nat_lt 65536 events || nat_lt (2 ^ 64) (first + count)))
+is_bad_sweep first count events =
+    (count == 0) || (nat_lt (2 ^ 32) count || (nat_lt 65536 events
+    || nat_lt (2 ^ 64) (first + count)))
 
 abbrev pub sweep_fault : ℕ → ℕ → ℕ → ℕ → ℕ → Cond → Option SearchFault
-sweep_fault first count events hosts probes c = fault_after (is_bad_sweep first count events) hosts probes c
+sweep_fault first count events hosts probes c =
+    fault_after (is_bad_sweep first count events) hosts probes c
 
 -- what is refused is refused for that reason, and else for want of memory
 abbrev pub reason : Option SearchFault → SearchFault

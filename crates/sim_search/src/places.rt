@@ -1,5 +1,6 @@
 //! The first place of a frozen run at which a condition fails.
-ghost use Rattle.std.specs.Prelude.{◌≡◌, ℕ, ◌<◌, ◌≤◌, false, length, None, IfOk, OnOk, IfErr, vec_len, Option};
+ghost use Rattle.std.specs.Prelude.{◌≡◌, ℕ, ◌<◌, ◌≤◌, false, length, None, IfOk, OnOk, IfErr};
+ghost use Rattle.std.specs.Prelude.{vec_len, Option};
 ghost use Rattle.sim_world.specs.Events.{rules, IsRunnable};
 ghost use Rattle.sim_watch.specs.Condition.{fault_of};
 ghost use Rattle.sim_watch.specs.Search.{pieces, piece, first_failing};
@@ -14,7 +15,8 @@ use std::alloc::Global;
 use std::sync::Wait;
 use std::thread::Threads;
 
-// Places of a frozen run, cut into pieces between its checkpoints, and a condition that was checked for it.
+// Places of a frozen run, cut into pieces between its checkpoints, and a condition that was checked
+// for it.
 #[derive(Drop)]
 struct Places<'a, N: Node> {
     alloc: Global,
@@ -54,7 +56,8 @@ impl<'a, N: Node> Pieces<Scanner<N>> for Places<'a, N> {
     ghost count = { λ s. pieces s.lo s.hi s.interval };
 
     ghost finding = { λ s i. let p = piece s.lo s.hi s.interval i in
-        first_failing (rules N.laws N.PROBES s.frozen.now.scenario) s.cond.now s.frozen.now.events p.lo p.hi };
+        first_failing (rules N.laws N.PROBES s.frozen.now.scenario) s.cond.now s.frozen.now.events
+        p.lo p.hi };
 
     fn count(&self) -> u64 {
         pieces(self.lo, self.hi, self.interval)
@@ -82,11 +85,13 @@ fn is_bad(lo: u64, hi: u64, end: u32) -> bool
     hi < lo || u64::from(end) < hi
 }
 
-/// The first place of a frozen run, from `lo` to `hi`, at which a condition fails, by as many workers as there are meters.
+/// The first place of a frozen run, from `lo` to `hi`, at which a condition fails, by as many
+/// workers as there are meters.
 ///
-/// Each piece between two checkpoints is one worker's, and the gate is told of each. `BadRange` where `lo` is above `hi` or `hi`
-/// past the kept end, else `BadCondition` where the condition can't be asked of this run. The run's events can happen one after the
-/// other, so that `None` tells of no place without a world.
+/// Each piece between two checkpoints is one worker's, and the gate is told of each. `BadRange`
+/// where `lo` is above `hi` or `hi` past the kept end, else `BadCondition` where the condition
+/// can't be asked of this run. The run's events can happen one after the other, so that `None`
+/// tells of no place without a world.
 pub fn search<N: Node + Send + Sync, G: Gate + Sync, R: Threads + Wait + Sync>(
     rt: &R,
     alloc: Global,
@@ -104,9 +109,13 @@ where
     requires some { 0 < vec_len meters }
     requires few { vec_len meters ≤ 16 }
     ensures runs { IsRunnable (rules N.laws N.PROBES frozen.now.scenario) frozen.now.events }
-    ensures found { IfOk result (λ place. place ≡ first_failing (rules N.laws N.PROBES frozen.now.scenario) cond.now frozen.now.events lo hi) }
-    ensures allowed { OnOk result (search_fault lo hi (length frozen.now.events) frozen.now.scenario.setup.hosts N.PROBES cond.now ≡ None) }
-    ensures refused { IfErr result (λ why. why ≡ reason (search_fault lo hi (length frozen.now.events) frozen.now.scenario.setup.hosts N.PROBES cond.now)) }
+    ensures found { IfOk result (λ place. place ≡ first_failing
+        (rules N.laws N.PROBES frozen.now.scenario) cond.now frozen.now.events lo hi) }
+    ensures allowed { OnOk result (search_fault lo hi (length frozen.now.events)
+        frozen.now.scenario.setup.hosts N.PROBES cond.now ≡ None) }
+    ensures refused { IfErr result (λ why. why ≡ reason
+        (search_fault lo hi (length frozen.now.events) frozen.now.scenario.setup.hosts N.PROBES
+        cond.now)) }
 {
     frozen.laws();
     if is_bad(lo, hi, frozen.events().len()) {

@@ -1,5 +1,6 @@
 //! The first of many seeds with a place at which a condition fails.
-ghost use Rattle.std.specs.Prelude.{◌≡◌, ℕ, ◌+◌, ◌^◌, ◌<◌, ◌≤◌, false, None, IfOk, OnOk, IfErr, vec_len, Option};
+ghost use Rattle.std.specs.Prelude.{◌≡◌, ℕ, ◌+◌, ◌^◌, ◌<◌, ◌≤◌, false, None, IfOk, OnOk, IfErr};
+ghost use Rattle.std.specs.Prelude.{vec_len, Option};
 ghost use Rattle.sim_watch.specs.Condition.{fault_of};
 ghost use Rattle.sim_watch.specs.Search.{failing_of_seed, first_failing_seed};
 ghost use Rattle.sim_search.specs.Faults.{is_bad_sweep, sweep_fault, reason};
@@ -14,7 +15,8 @@ use std::marker::PhantomData;
 use std::sync::Wait;
 use std::thread::Threads;
 
-// The numbered runs of a scenario, each a piece of its own, and a condition that was checked for them.
+// The numbered runs of a scenario, each a piece of its own, and a condition that was checked for
+// them.
 #[derive(Drop)]
 struct Seeds<'a, N: Node> {
     alloc: Global,
@@ -32,7 +34,8 @@ struct Seeds<'a, N: Node> {
 impl<'a, N: Node> Pieces<N::Meter> for Seeds<'a, N> {
     ghost count = { λ s. s.count };
 
-    ghost finding = { λ s i. failing_of_seed N.laws N.PROBES s.scenario.now s.cond.now s.events (s.first + i) };
+    ghost finding = { λ s i. failing_of_seed N.laws N.PROBES s.scenario.now s.cond.now s.events
+        (s.first + i) };
 
     fn count(&self) -> u64 {
         self.count
@@ -44,19 +47,23 @@ impl<'a, N: Node> Pieces<N::Meter> for Seeds<'a, N> {
     }
 }
 
-// Whether there are too many seeds, none, or too many events, or a seed number is past the greatest.
+// Whether there are too many seeds, none, or too many events, or a seed number is past the
+// greatest.
 fn is_bad(first: u64, count: u64, events: u64) -> bool
     ensures value { result ≡ is_bad_sweep first count events }
-    ensures fine { result ≡ false → (0 < count) × (events ≤ 65536) × (first + count ≤ 2 ^ 64) × (count ≤ 2 ^ 32) }
+    ensures fine { result ≡ false → (0 < count) × (events ≤ 65536) × (first + count ≤ 2 ^ 64)
+        × (count ≤ 2 ^ 32) }
 {
     count == 0 || MAX_SEEDS < count || MAX_EVENTS < events || first > u64::MAX - (count - 1)
 }
 
-/// The first of `count` seeds, from number `first` on, with a place at which a condition fails, and its first such place, by as many
-/// workers as there are meters. Each seed's run has as many steps as can happen, but at most `events`.
+/// The first of `count` seeds, from number `first` on, with a place at which a condition fails, and
+/// its first such place, by as many workers as there are meters. Each seed's run has as many steps
+/// as can happen, but at most `events`.
 ///
-/// Each seed is one worker's, and the gate is told of each by its number from 0. `BadRange` where there is no seed, more than
-/// 2^32, more than 65,536 events or a seed number past 2^64 - 1, else `BadCondition` where the condition can't be asked of this run.
+/// Each seed is one worker's, and the gate is told of each by its number from 0. `BadRange` where
+/// there is no seed, more than 2^32, more than 65,536 events or a seed number past 2^64 - 1, else
+/// `BadCondition` where the condition can't be asked of this run.
 pub fn sweep<N: Node + Send + Sync, G: Gate + Sync, R: Threads + Wait + Sync>(
     rt: &R,
     alloc: Global,
@@ -74,9 +81,12 @@ where
     N::Meter: Send,
     requires some { 0 < vec_len meters }
     requires few { vec_len meters ≤ 16 }
-    ensures found { IfOk result (λ seed. seed ≡ first_failing_seed N.laws N.PROBES scenario.now cond.now events first count) }
-    ensures allowed { OnOk result (sweep_fault first count events scenario.now.setup.hosts N.PROBES cond.now ≡ None) }
-    ensures refused { IfErr result (λ why. why ≡ reason (sweep_fault first count events scenario.now.setup.hosts N.PROBES cond.now)) }
+    ensures found { IfOk result (λ seed. seed ≡ first_failing_seed N.laws N.PROBES scenario.now
+        cond.now events first count) }
+    ensures allowed { OnOk result (sweep_fault first count events scenario.now.setup.hosts N.PROBES
+        cond.now ≡ None) }
+    ensures refused { IfErr result (λ why. why ≡ reason
+        (sweep_fault first count events scenario.now.setup.hosts N.PROBES cond.now)) }
 {
     if is_bad(first, count, events) {
         return Err(SearchFault::BadRange);

@@ -10,7 +10,8 @@ use Rattle.sim_lock.specs.declared.kept.Kept.{Ghosts}
 use Rattle.sim_lock.specs.declared.seat.Seat.{Seat}
 use Rattle.sim_lock.specs.Seats.{session, mine, seen, HasScenario}
 
--- What a contract sees of a shared book: which one it is, how many sessions share it, and the scenario of the book with which it was made
+-- What a contract sees of a shared book: which one it is, how many sessions share it, and the
+-- scenario of the book with which it was made
 pub record Shared : Type 0 where
   pub id : TableId
   pub sessions : ℕ
@@ -27,8 +28,12 @@ module _ {B D F : Type 0} {K : Ghosts B Scenario D Entry F} where
 
   -- a seat of this session that has seen nothing
   abbrev pub IsNew : Shared → ℕ → Seat B Scenario D Entry F K → Type 0
-  IsNew shared k seat = IsAt shared seat × HasScenario seat shared.scenario × (session seat ≡ k) × (mine seat ≡ []) × (seen seat ≡ [])
+  IsNew shared k seat =
+      IsAt shared seat × HasScenario seat shared.scenario × (session seat ≡ k) × (mine seat ≡ [])
+      × (seen seat ≡ [])
 
   -- the seats of the sessions from 0 on
   abbrev pub AreNew : Shared → List (Seat B Scenario D Entry F K) → Type 0
-  AreNew shared seats = (k : ℕ) (d : Seat B Scenario D Entry F K) → k < length seats → IsNew shared k (slice_index_or seats k d)
+  AreNew shared seats =
+      (k : ℕ) (d : Seat B Scenario D Entry F K) → k < length seats
+      → IsNew shared k (slice_index_or seats k d)

@@ -1,5 +1,6 @@
 //! The shared book, and the sessions' calls.
-ghost use Rattle.std.specs.Prelude.{◌≡◌, ◌≢◌, ℕ, ◌+◌, ◌<◌, ◌≤◌, List, [], ◌∷◌, ◌++◌, length, All, IfOk, IfErr, OnErr, vec_len};
+ghost use Rattle.std.specs.Prelude.{◌≡◌, ◌≢◌, ℕ, ◌+◌, ◌<◌, ◌≤◌, List, [], ◌∷◌, ◌++◌, length, All};
+ghost use Rattle.std.specs.Prelude.{IfOk, IfErr, OnErr, vec_len};
 ghost use Rattle.sim_world.specs.Events.{rules};
 ghost use Rattle.sim_world.specs.World.{Scenario as ScenarioValue};
 ghost use Rattle.sim_book.specs.Freezing.{GivesFrozen};
@@ -40,7 +41,11 @@ impl<N: Node> Model for Shared<N> {
 
     ghost Value = { SharedValue };
 
-    ghost view = { λ s. record { id = s.lock.table.shared.table_id; sessions = sessions_of s.lock; scenario = told (λ h. h.book.scenario) s.lock } };
+    ghost view = { λ s. record {
+      id = s.lock.table.shared.table_id;
+      sessions = sessions_of s.lock;
+      scenario = told (λ h. h.book.scenario) s.lock;
+    } };
 }
 
 impl<N: Node> Shared<N> {
@@ -53,7 +58,8 @@ impl<N: Node> Shared<N> {
         requires empty { book.history ≡ [] }
         requires least { 1 ≤ sessions }
         requires most { sessions ≤ 8 }
-        ensures shared { IfOk result (λ r. (r.0.sessions ≡ sessions) × (r.0.scenario ≡ book.scenario)) }
+        ensures shared { IfOk result (λ r. (r.0.sessions ≡ sessions)
+            × (r.0.scenario ≡ book.scenario)) }
         ensures count { IfOk result (λ r. vec_len r.1 ≡ sessions) }
         ensures seats { IfOk result (λ r. AreNew r.0 r.1.items) }
     {
@@ -84,7 +90,8 @@ impl<N: Node> Shared<N> {
         self.lock.call(rt, seat, command)
     }
 
-    /// A call that freezes a branch. Beside the receipt its kept events are given, exactly where the reply is their list.
+    /// A call that freezes a branch. Beside the receipt its kept events are given, exactly where
+    /// the reply is their list.
     pub fn freeze<R: Wait>(
         &self,
         rt: &R,
@@ -94,11 +101,13 @@ impl<N: Node> Shared<N> {
         requires { IsAt self.now seat.old }
         ensures seat { IsAt self.now seat.new × (session seat.new ≡ session seat.old) }
         ensures scenario { (c : ScenarioValue) → HasScenario seat.old c → HasScenario seat.new c }
-        ensures asked { IfOk result (λ r. (r.0.session ≡ session seat.old) × (r.0.command ≡ Command.Freeze branch)) }
+        ensures asked { IfOk result (λ r. (r.0.session ≡ session seat.old)
+            × (r.0.command ≡ Command.Freeze branch)) }
         ensures number { IfOk result (λ r. r.0.number ≡ length (mine seat.new)) }
         ensures mine { IfOk result (λ r. mine seat.new ≡ mine seat.old ++ r.0 ∷ []) }
         ensures last { IfOk result (λ r. EndsWith (seen seat.new) r.0) }
-        ensures frozen { IfOk result (λ r. (c : ScenarioValue) → HasScenario seat.old c → GivesFrozen c r.0.reply r.1) }
+        ensures frozen { IfOk result (λ r. (c : ScenarioValue) → HasScenario seat.old c
+            → GivesFrozen c r.0.reply r.1) }
         ensures not_taken { OnErr result (mine seat.new ≡ mine seat.old) }
         ensures full { IfErr result (λ why. TellsFull why (seen seat.new)) }
         ensures seen { Begins (seen seat.old) (seen seat.new) }
@@ -114,9 +123,11 @@ impl<N: Node> Shared<N> {
         requires own { All (IsAt self) seats.items }
         ensures legal { IsLegalHistory (rules N.laws N.PROBES self.scenario) result.entries.items }
         ensures mine { All (λ s. of_session (session s) result.entries.items ≡ mine s) seats.items }
-        ensures others { (k : ℕ) → All (λ s. session s ≢ k) seats.items → of_session k result.entries.items ≡ [] }
+        ensures others { (k : ℕ) → All (λ s. session s ≢ k) seats.items
+            → of_session k result.entries.items ≡ [] }
         ensures seen { All (λ s. Begins (seen s) result.entries.items) seats.items }
-        ensures receipts { All (λ s. (e : Entry) → IsReceipt s e → HasEntry (λ x. x.session) (λ x. x.number) result.entries.items e) seats.items }
+        ensures receipts { All (λ s. (e : Entry) → IsReceipt s e
+            → HasEntry (λ x. x.session) (λ x. x.number) result.entries.items e) seats.items }
     {
         let Shared { lock } = self;
         let Held { book, alloc: _ } = lock.close(seats);

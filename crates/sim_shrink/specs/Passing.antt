@@ -1,5 +1,6 @@
 -- Passes over the faults that stay: how far one has come.
-use Rattle.std.specs.Prelude.{◌≡◌, ℕ, ◌<◌, Bool, true, false, List, length, slice_set, slice_index_or, None, IsSome}
+use Rattle.std.specs.Prelude.{◌≡◌, ℕ, ◌<◌, Bool, true, false, List, length, slice_set}
+use Rattle.std.specs.Prelude.{slice_index_or, None, IsSome}
 use Rattle.sim_world.specs.declared.Event.{Event}
 use Rattle.sim_world.specs.Events.{Rules}
 use Rattle.sim_watch.specs.Condition.{Cond}
@@ -13,7 +14,8 @@ module _ {State Msg : Type 0} (r : Rules State Msg) (c : Cond) (es : List Event)
 
   -- n faults from a number on are dropped if one of them stayed and the condition still fails. If
   -- not, the choice is as before.
-  pub record IsTried (choice : List Bool) (from n : ℕ) (next : List Bool) (is_dropped : Bool) : Type 0 where
+  pub record IsTried (choice : List Bool) (from n : ℕ) (next : List Bool)
+      (is_dropped : Bool) : Type 0 where
     pub fails : StillFails next
     pub long : length next ≡ length choice
     pub fewer : is_dropped ≡ true → count_left next < count_left choice
@@ -23,10 +25,12 @@ module _ {State Msg : Type 0} (r : Rules State Msg) (c : Cond) (es : List Event)
 
   -- A pass over the faults below a number made one choice of another. If it dropped none of them in
   -- parts of one fault, none of them can be dropped alone.
-  pub record IsPassing (size : ℕ) (first : List Bool) (from : ℕ) (choice : List Bool) (has_dropped : Bool) : Type 0 where
+  pub record IsPassing (size : ℕ) (first : List Bool) (from : ℕ) (choice : List Bool)
+      (has_dropped : Bool) : Type 0 where
     pub fails : StillFails choice
     pub long : length choice ≡ length first
     pub fewer : has_dropped ≡ true → count_left choice < count_left first
     pub same : has_dropped ≡ false → choice ≡ first
-    pub needed : has_dropped ≡ false → size ≡ 1 → (i : ℕ) → i < from → slice_index_or first i false ≡ true
+    pub needed : has_dropped ≡ false → size ≡ 1 → (i : ℕ) → i < from → slice_index_or first i false
+        ≡ true
         → failing r c (kept_by (slice_set first i false) es) ≡ None

@@ -1,5 +1,6 @@
 //! The smallest failing run that faults of a run make.
-ghost use Rattle.std.specs.Prelude.{◌≡◌, ◌≤◌, IfOk, OnOk, IfErr, MatchOption, None, false, length, nat_lt};
+ghost use Rattle.std.specs.Prelude.{◌≡◌, ◌≤◌, IfOk, OnOk, IfErr, MatchOption, None, false, length};
+ghost use Rattle.std.specs.Prelude.{nat_lt};
 ghost use Rattle.sim_world.specs.Events.{rules};
 ghost use Rattle.sim_watch.specs.Condition.{fault_of};
 ghost use Rattle.sim_search.specs.Faults.{reason};

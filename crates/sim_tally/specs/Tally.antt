@@ -8,7 +8,8 @@ use Rattle.sim_tally.specs.declared.tally.Call.TheVariants as call
 -- how the logic stores it
 abbrev pub work_code : Coded Work
 work_code =
-    code_by (ℕ × (ℕ × ℕ)) (coded× coded_ℕ (coded× coded_ℕ coded_ℕ)) (λ w. (w.turns, (w.copies, w.undos)))
+    code_by (ℕ × (ℕ × ℕ)) (coded× coded_ℕ (coded× coded_ℕ coded_ℕ))
+    (λ w. (w.turns, (w.copies, w.undos)))
     (λ p. record { turns = p.0; copies = p.1.0; undos = p.1.1 }) (λ _. refl)
 
 -- after one call more

@@ -6,7 +6,8 @@ ghost use Rattle.sim_tally.specs.Tally.{work_code, counted};
 use sim_node::Meter;
 use std::marker::Model;
 
-/// A meter of no size: the calls of nodes are counted without limit where contracts read them, and nothing is done for it at run time.
+/// A meter of no size: the calls of nodes are counted without limit where contracts read them, and
+/// nothing is done for it at run time.
 #[derive(Drop)]
 pub struct Tally {
     pub ghost work: { Work } by { work_code },

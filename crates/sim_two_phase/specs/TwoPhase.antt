@@ -1,6 +1,9 @@
--- Two-phase commit with presumed abort: server 0 is the coordinator, the other servers are the participants.
--- A server answers for what it writes only when its disk has told that the write is stable.
-use Rattle.std.specs.Prelude.{ℕ, ◌%◌, ◌==◌, nat_lt, nat_le, Bool, true, false, not, ◌&&◌, ◌||◌, List, [], ◌∷◌, ◌++◌, replicate, slice_index, slice_set, Option, None, Some, if◌then◌else◌}
+-- Two-phase commit with presumed abort: server 0 is the coordinator, the other servers are the
+-- participants. A server answers for what it writes only when its disk has told that the write is
+-- stable.
+use Rattle.std.specs.Prelude.{ℕ, ◌%◌, ◌==◌, nat_lt, nat_le, Bool, true, false, not, ◌&&◌, ◌||◌}
+use Rattle.std.specs.Prelude.{List, [], ◌∷◌, ◌++◌, replicate, slice_index, slice_set, Option, None}
+use Rattle.std.specs.Prelude.{Some, if◌then◌else◌}
 use Rattle.sim_node.specs.declared.Setup.{Setup}
 use Rattle.sim_node.specs.declared.Input.{Input}
 use Rattle.sim_node.specs.declared.Input.TheVariants as input
@@ -8,7 +11,8 @@ use Rattle.sim_node.specs.Effects.{Effect}
 use Rattle.sim_node.specs.Node.{NodeLaws, is_server}
 use Rattle.sim_hosts.specs.declared.set.HostSet.{HostSet}
 use Rattle.sim_two_phase.specs.declared.roles.CommitMsg.{CommitMsg}
-use Rattle.sim_two_phase.specs.declared.roles.CommitMsg.TheVariants.{Begin, Answer, Prepare, Vote, Decide, Seen, Inquire}
+use Rattle.sim_two_phase.specs.declared.roles.CommitMsg.TheVariants.{Begin, Answer, Prepare, Vote}
+use Rattle.sim_two_phase.specs.declared.roles.CommitMsg.TheVariants.{Decide, Seen, Inquire}
 use Rattle.sim_two_phase.specs.declared.roles.First.{First}
 use Rattle.sim_two_phase.specs.declared.roles.First.TheVariants as first
 use Rattle.sim_two_phase.specs.declared.roles.Phase.{Phase}
@@ -47,15 +51,19 @@ byte_of_status status.Committed = 2
 byte_of_status status.Aborted = 3
 
 abbrev pub status_of_byte : ℕ → Status
-status_of_byte b = if b == 1 then status.Prepared else if b == 2 then status.Committed else if b == 3 then status.Aborted else status.Idle
+status_of_byte b =
+    if b == 1 then status.Prepared
+    else if b == 2 then status.Committed else if b == 3 then status.Aborted else status.Idle
 
--- a server's 10 bytes: the transaction, the commit flag or the status, and what became of transaction 1
+-- a server's 10 bytes: the transaction, the commit flag or the status, and what became of
+-- transaction 1
 abbrev pub server_bytes : ℕ → ℕ → First → List ℕ
 server_bytes transaction byte outcome = bytes_of transaction ++ byte ∷ byte_of_first outcome ∷ []
 
 -- they are written in one write, and a sync is asked for
 abbrev pub forced : ℕ → ℕ → First → List (Effect CommitMsg)
-forced transaction byte outcome = Effect.Write 0 (server_bytes transaction byte outcome) ∷ Effect.Sync ∷ []
+forced transaction byte outcome =
+    Effect.Write 0 (server_bytes transaction byte outcome) ∷ Effect.Sync ∷ []
 
 -- what becomes of transaction 1, where this is it
 abbrev pub noted : ℕ → First → First → First
@@ -90,7 +98,8 @@ telling setup c = to_all (others setup) (Decide true c.transaction) ++ Effect.Ti
 
 -- it has a commit on its disk when it starts
 abbrev pub started : Setup → Conduct → Reaction Conduct CommitMsg
-started setup c = if c.commits then (record c { phase = phase.Telling nobody }, telling setup c) else (c, [])
+started setup c =
+    if c.commits then (record c { phase = phase.Telling nobody }, telling setup c) else (c, [])
 
 -- the last vote has come: it commits, and owes the client an answer
 abbrev pub committed : ℕ → ℕ → Conduct → Reaction Conduct CommitMsg
@@ -111,24 +120,34 @@ voted_yes from client number voted setup c =
 -- a participant is against: it aborts, and tells the client and all participants at once
 abbrev pub voted_no : ℕ → ℕ → Setup → Conduct → Reaction Conduct CommitMsg
 voted_no client number setup c =
-    let new = record c { first = noted c.transaction first.Aborted c.first; phase = phase.Resting; unsure = raised c.unsure } in (
+    let new = record c {
+      first = noted c.transaction first.Aborted c.first;
+      phase = phase.Resting;
+      unsure = raised c.unsure;
+    } in (
       new,
-      forced_by_coordinator new ++ Effect.Send client (Answer false number) ∷ to_all (others setup) (Decide false c.transaction) ++ Effect.Timer 1 ∷ [],
+      forced_by_coordinator new ++ Effect.Send client (Answer false number)
+          ∷ to_all (others setup) (Decide false c.transaction) ++ Effect.Timer 1 ∷ [],
     )
 
 abbrev pub voted : ℕ → Bool → Phase → Setup → Conduct → Reaction Conduct CommitMsg
-voted from true (phase.Voting client votes number) setup c = voted_yes from client number votes setup c
+voted from true (phase.Voting client votes number) setup c =
+    voted_yes from client number votes setup c
 voted from false (phase.Voting client votes number) setup c = voted_no client number setup c
 voted from agrees _ setup c = (c, [])
 
 -- a participant has seen the commit; after the last the coordinator rests
 abbrev pub seen : ℕ → Phase → Setup → Conduct → Reaction Conduct CommitMsg
 seen from (phase.Telling told) setup c =
-    if all_in (others setup) (joined from told) then (record c { phase = phase.Resting }, Effect.Timer 1 ∷ [])
+    if all_in (others setup) (joined from told) then (
+      record c { phase = phase.Resting },
+      Effect.Timer 1 ∷ [],
+    )
     else (record c { phase = phase.Telling (joined from told) }, [])
 seen from _ setup c = (c, [])
 
--- It tells what became of its transaction when the votes are in, and a commit not before it is stable.
+-- It tells what became of its transaction when the votes are in, and a commit not before it is
+-- stable.
 abbrev pub may_tell : Phase → ℕ → Bool
 may_tell phase.Resting unsure = true
 may_tell (phase.Voting client votes number) unsure = false
@@ -137,28 +156,35 @@ may_tell (phase.Telling told) unsure = is_settled unsure
 abbrev pub inquired : ℕ → ℕ → Conduct → Reaction Conduct CommitMsg
 inquired from u c =
     if nat_lt u c.transaction then (c, Effect.Send from (Decide false u) ∷ [])
-    else if (u == c.transaction) && may_tell c.phase c.unsure then (c, Effect.Send from (Decide c.commits u) ∷ [])
+    else if (u == c.transaction) && may_tell c.phase c.unsure then
+    (c, Effect.Send from (Decide c.commits u) ∷ [])
     else (c, [])
 
 -- what a settled coordinator sends to the participants that have not answered yet
 abbrev pub asked_again : Phase → Setup → Conduct → List (Effect CommitMsg)
 asked_again phase.Resting setup c = []
-asked_again (phase.Voting client votes number) setup c = to_all (not_in (others setup) votes) (Prepare c.transaction)
-asked_again (phase.Telling told) setup c = to_all (not_in (others setup) told) (Decide true c.transaction)
+asked_again (phase.Voting client votes number) setup c =
+    to_all (not_in (others setup) votes) (Prepare c.transaction)
+asked_again (phase.Telling told) setup c =
+    to_all (not_in (others setup) told) (Decide true c.transaction)
 
 -- its timer, while a transaction is under way
 abbrev pub timed_out : Setup → Conduct → Reaction Conduct CommitMsg
-timed_out setup c = (c, (if is_settled c.unsure then asked_again c.phase setup c else []) ++ Effect.Timer 100 ∷ [])
+timed_out setup c =
+    (c, (if is_settled c.unsure then asked_again c.phase setup c else []) ++ Effect.Timer 100 ∷ [])
 
 -- a sync has come; when it is settled it asks for votes, or answers what it owes and tells
 abbrev pub settled : Phase → Option Owed → Setup → Conduct → Reaction Conduct CommitMsg
-settled (phase.Voting client votes number) owed setup c = (c, asked_again c.phase setup c ++ Effect.Timer 100 ∷ [])
-settled (phase.Telling told) (Some o) setup c = (record c { owed = None }, Effect.Send o.client (Answer true o.number) ∷ telling setup c)
+settled (phase.Voting client votes number) owed setup c =
+    (c, asked_again c.phase setup c ++ Effect.Timer 100 ∷ [])
+settled (phase.Telling told) (Some o) setup c =
+    (record c { owed = None }, Effect.Send o.client (Answer true o.number) ∷ telling setup c)
 settled _ owed setup c = (c, [])
 
 abbrev pub coordinator_synced : Setup → Conduct → Reaction Conduct CommitMsg
 coordinator_synced setup c =
-    let new = record c { unsure = lowered c.unsure } in if is_settled new.unsure then settled new.phase new.owed setup new else (new, [])
+    let new = record c { unsure = lowered c.unsure } in
+    if is_settled new.unsure then settled new.phase new.owed setup new else (new, [])
 
 -- a message from a participant about the transaction that is under way
 abbrev pub is_of_this : ℕ → ℕ → Setup → Conduct → Bool
@@ -192,7 +218,8 @@ begun_if_resting _ setup c = (c, [])
 abbrev pub asked_by : ℕ → ℕ → Setup → Coordinator → Reaction Coordinator CommitMsg
 asked_by from i setup c =
     if is_voting_for from c.conduct.phase then (c, [])
-    else begun_if_resting c.conduct.phase setup (record c { waiting = slice_set c.waiting from (Some i) })
+    else begun_if_resting c.conduct.phase setup
+    (record c { waiting = slice_set c.waiting from (Some i) })
 
 -- what the conduct alone goes through
 abbrev pub conducted : Coordinator → Reaction Conduct CommitMsg → Reaction Coordinator CommitMsg
@@ -205,12 +232,18 @@ coordinator_timer _ setup c = conducted c (timed_out setup c.conduct)
 -- a message that does not change who waits
 abbrev pub heard : ℕ → CommitMsg → Setup → Coordinator → Reaction Coordinator CommitMsg
 heard from (Vote agrees u) setup c =
-    if is_of_this from u setup c.conduct then conducted c (voted from agrees c.conduct.phase setup c.conduct) else (c, [])
-heard from (Seen u) setup c = if is_of_this from u setup c.conduct then conducted c (seen from c.conduct.phase setup c.conduct) else (c, [])
+    if is_of_this from u setup c.conduct
+    then conducted c (voted from agrees c.conduct.phase setup c.conduct)
+    else (c, [])
+heard from (Seen u) setup c =
+    if is_of_this from u setup c.conduct
+    then conducted c (seen from c.conduct.phase setup c.conduct)
+    else (c, [])
 heard from (Inquire u) setup c = conducted c (inquired from u c.conduct)
 heard from _ setup c = (c, [])
 
-abbrev pub react_coordinator : Setup → Coordinator → Input CommitMsg → Reaction Coordinator CommitMsg
+abbrev pub react_coordinator : Setup → Coordinator → Input CommitMsg
+    → Reaction Coordinator CommitMsg
 react_coordinator setup c input.Start = conducted c (started setup c.conduct)
 react_coordinator setup c input.Timer = coordinator_timer c.conduct.phase setup c
 react_coordinator setup c input.Synced = conducted c (coordinator_synced setup c.conduct)
@@ -244,7 +277,9 @@ is_aborted _ = false
 
 -- one that is prepared asks what became of its transaction
 abbrev pub inquires : Participant → Reaction Participant CommitMsg
-inquires p = if is_prepared p.status then (p, Effect.Send 0 (Inquire p.transaction) ∷ Effect.Timer 100 ∷ []) else (p, [])
+inquires p =
+    if is_prepared p.status then (p, Effect.Send 0 (Inquire p.transaction) ∷ Effect.Timer 100 ∷ [])
+    else (p, [])
 
 -- where it was prepared for transaction 1 and is asked for a later one, transaction 1 was aborted
 abbrev pub passed_over : Participant → First
@@ -252,17 +287,28 @@ passed_over p = if is_prepared p.status && (p.transaction == 1) then first.Abort
 
 abbrev pub votes_yes : ℕ → Participant → Reaction Participant CommitMsg
 votes_yes u p =
-    let new : Participant = record { transaction = u; status = status.Prepared; first = passed_over p; unsure = raised p.unsure } in
+    let new : Participant = record {
+      transaction = u;
+      status = status.Prepared;
+      first = passed_over p;
+      unsure = raised p.unsure;
+    } in
     (new, forced_by_participant new ++ Effect.Timer 100 ∷ [])
 
 abbrev pub votes_no : ℕ → Participant → Reaction Participant CommitMsg
 votes_no u p =
-    let new : Participant = record { transaction = u; status = status.Aborted; first = noted u first.Aborted (passed_over p); unsure = raised p.unsure } in
+    let new : Participant = record {
+      transaction = u;
+      status = status.Aborted;
+      first = noted u first.Aborted (passed_over p);
+      unsure = raised p.unsure;
+    } in
     (new, forced_by_participant new ++ Effect.Send 0 (Vote false u) ∷ [])
 
 -- It is asked to prepare: one time in eight it is against. It repeats a vote that is stable.
 abbrev pub has_stable_vote : ℕ → Participant → Bool
-has_stable_vote u p = (u == p.transaction) && ((is_prepared p.status || is_aborted p.status) && is_settled p.unsure)
+has_stable_vote u p =
+    (u == p.transaction) && ((is_prepared p.status || is_aborted p.status) && is_settled p.unsure)
 
 abbrev pub prepares : ℕ → ℕ → Participant → Reaction Participant CommitMsg
 prepares u word p =
@@ -280,12 +326,18 @@ outcome_of false = first.Aborted
 
 abbrev pub learns : ℕ → Bool → Participant → Reaction Participant CommitMsg
 learns u commit p =
-    let new = record p { status = status_of commit; first = noted u (outcome_of commit) p.first; unsure = raised p.unsure } in
+    let new = record p {
+      status = status_of commit;
+      first = noted u (outcome_of commit) p.first;
+      unsure = raised p.unsure;
+    } in
     (new, forced_by_participant new)
 
 -- a commit that it has seen, and that is stable
 abbrev pub has_seen : ℕ → Participant → Bool
-has_seen u p = is_settled p.unsure && (nat_lt u p.transaction || ((u == p.transaction) && is_committed p.status))
+has_seen u p =
+    is_settled p.unsure && (nat_lt u p.transaction || ((u == p.transaction)
+    && is_committed p.status))
 
 abbrev pub decided : ℕ → Bool → Participant → Reaction Participant CommitMsg
 decided u commit p =
@@ -301,7 +353,8 @@ says _ t = []
 
 abbrev pub participant_synced : Participant → Reaction Participant CommitMsg
 participant_synced p =
-    let new = record p { unsure = lowered p.unsure } in (new, if is_settled new.unsure then says new.status new.transaction else [])
+    let new = record p { unsure = lowered p.unsure } in
+    (new, if is_settled new.unsure then says new.status new.transaction else [])
 
 abbrev pub react_participant : Participant → Input CommitMsg → ℕ → Reaction Participant CommitMsg
 react_participant p input.Start word = inquires p
@@ -318,12 +371,15 @@ client_asks next = (next, Effect.Send 0 (Begin next) ∷ Effect.Timer 200 ∷ []
 
 -- the answer to its operation has come; after the last it is done
 abbrev pub client_answered : ℕ → ℕ → Reaction ℕ CommitMsg
-client_answered ops next = if next == ops then (raised next, Effect.Done ∷ []) else client_asks (raised next)
+client_answered ops next =
+    if next == ops then (raised next, Effect.Done ∷ []) else client_asks (raised next)
 
 abbrev pub react_client : ℕ → ℕ → Input CommitMsg → Reaction ℕ CommitMsg
 react_client ops next input.Start = client_asks 1
-react_client ops next input.Timer = if nat_le 1 next && nat_le next ops then client_asks next else (next, [])
-react_client ops next (input.Message from (Answer ok i)) = if i == next then client_answered ops next else (next, [])
+react_client ops next input.Timer =
+    if nat_le 1 next && nat_le next ops then client_asks next else (next, [])
+react_client ops next (input.Message from (Answer ok i)) =
+    if i == next then client_answered ops next else (next, [])
 react_client ops next _ = (next, [])
 
 -- A host.
@@ -337,13 +393,17 @@ role_at_boot setup me bytes =
 abbrev pub boot : Setup → ℕ → List ℕ → State
 boot setup me bytes = record { setup = setup; me = me; role = role_at_boot setup me bytes }
 
-abbrev pub in_role : {Part : Type 0} → (Part → Role) → Reaction Part CommitMsg → State → Reaction State CommitMsg
+abbrev pub in_role : {Part : Type 0} → (Part → Role) → Reaction Part CommitMsg → State
+    → Reaction State CommitMsg
 in_role as_role reaction state = (record state { role = as_role reaction.0 }, reaction.1)
 
 abbrev pub react_as : Role → Input CommitMsg → ℕ → State → Reaction State CommitMsg
-react_as (role.Client next) i word state = in_role role.Client (react_client (ops_of state.setup state.me) next i) state
-react_as (role.Coordinator c) i word state = in_role role.Coordinator (react_coordinator state.setup c i) state
-react_as (role.Participant p) i word state = in_role role.Participant (react_participant p i word) state
+react_as (role.Client next) i word state =
+    in_role role.Client (react_client (ops_of state.setup state.me) next i) state
+react_as (role.Coordinator c) i word state =
+    in_role role.Coordinator (react_coordinator state.setup c i) state
+react_as (role.Participant p) i word state =
+    in_role role.Participant (react_participant p i word) state
 
 -- probe 0 is `next` of a client, probe 1 what became of transaction 1 at a server
 abbrev pub probe_as : Role → ℕ → ℕ

@@ -27,7 +27,8 @@ IsPlaced hosts (role.Coordinator c) = IsPlacedConduct hosts c.conduct
 IsPlaced hosts _ = Unit {0}
 
 abbrev pub coordinator_before : Conduct → Slots → Coordinator → Coordinator
-coordinator_before conduct slots c = record { conduct = conduct; waiting = restored slots.asked (restored slots.begun c.waiting) }
+coordinator_before conduct slots c =
+    record { conduct = conduct; waiting = restored slots.asked (restored slots.begun c.waiting) }
 
 -- both slots name one of the 32 hosts
 abbrev pub IsPlacedSlots : Slots → Type 0
@@ -35,7 +36,8 @@ IsPlacedSlots slots = IsPlacedSlot slots.asked × IsPlacedSlot slots.begun
 
 -- a record fits a host of its kind
 abbrev pub fits_role : ℕ → CommitUndo → Role → Type 0
-fits_role hosts (undo.Coordinator conduct slots) (role.Coordinator c) = IsPlacedConduct hosts conduct × IsPlacedSlots slots
+fits_role hosts (undo.Coordinator conduct slots) (role.Coordinator c) =
+    IsPlacedConduct hosts conduct × IsPlacedSlots slots
 fits_role hosts (undo.Participant before) (role.Participant now) = Unit {0}
 fits_role hosts (undo.Client next) (role.Client now) = Unit {0}
 fits_role hosts _ _ = ⊥
@@ -43,7 +45,8 @@ fits_role hosts _ _ = ⊥
 abbrev pub role_before : CommitUndo → Role → Role
 role_before (undo.Client next) r = role.Client next
 role_before (undo.Participant p) r = role.Participant p
-role_before (undo.Coordinator conduct slots) (role.Coordinator c) = role.Coordinator (coordinator_before conduct slots c)
+role_before (undo.Coordinator conduct slots) (role.Coordinator c) =
+    role.Coordinator (coordinator_before conduct slots c)
 role_before (undo.Coordinator conduct slots) r = r
 
 abbrev pub commit_records : NodeRecords State CommitUndo

@@ -37,7 +37,8 @@ fn answered(setup: &Setup, ops: u64, next: u64, effects: &mut Effects<CommitMsg>
     }
 }
 
-/// A client with this many operations, which waits for the one of number `next`, reacts: the operation that it waits for then.
+/// A client with this many operations, which waits for the one of number `next`, reacts: the
+/// operation that it waits for then.
 pub fn react(
     setup: &Setup,
     ops: u64,

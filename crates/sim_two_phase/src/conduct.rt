@@ -2,7 +2,10 @@
 ghost use Rattle.std.specs.Prelude.{◌≡◌, ◌+◌, ◌<◌, ◌≤◌, ◌++◌, [], length};
 ghost use Rattle.sim_node.specs.Node.{IsSetup};
 ghost use Rattle.sim_hosts.specs.Reactions.{asked_for};
-ghost use Rattle.sim_two_phase.specs.TwoPhase.{forced_by_coordinator, telling, started, committed, voted_yes, voted_no, voted, seen, may_tell, inquired, asked_again, timed_out, settled, coordinator_synced};
+ghost use Rattle.sim_two_phase.specs.TwoPhase.{forced_by_coordinator, telling, started, committed};
+ghost use Rattle.sim_two_phase.specs.TwoPhase.{voted_yes, voted_no, voted, seen, may_tell};
+ghost use Rattle.sim_two_phase.specs.TwoPhase.{inquired, asked_again, timed_out, settled};
+ghost use Rattle.sim_two_phase.specs.TwoPhase.{coordinator_synced};
 ghost use Rattle.sim_two_phase.specs.TwoPhaseRecords.{IsPlacedConduct};
 
 use crate::disk::{force, noted};
@@ -20,7 +23,10 @@ impl Conduct {
     /// Writes it to the disk, and asks for a sync.
     pub fn force(&self, effects: &mut Effects<CommitMsg>)
         requires { length effects.old.list < 38 }
-        ensures { effects.new ≡ record effects.old { list = effects.old.list ++ forced_by_coordinator self.now } }
+        ensures { effects.new ≡ record effects.old {
+          list = effects.old.list
+              ++ forced_by_coordinator self.now;
+        } }
     {
         force(self.transaction, self.commits as u8, self.first, effects);
     }
@@ -30,7 +36,10 @@ impl Conduct {
         requires setup { IsSetup setup.now }
         requires room { length effects.old.list < 8 }
         requires hosts { effects.old.hosts ≡ setup.now.hosts }
-        ensures { effects.new ≡ record effects.old { list = effects.old.list ++ telling setup.now self.now } }
+        ensures { effects.new ≡ record effects.old {
+          list = effects.old.list
+              ++ telling setup.now self.now;
+        } }
     {
         send_to_all(1, setup, CommitMsg::Decide(true, self.transaction), effects);
         effects.timer(PATIENCE);
@@ -90,7 +99,8 @@ impl Conduct {
         requires empty { effects.old ≡ asked_for setup.now [] }
         ensures state { self.new ≡ (voted_yes from client number votes setup.now self.old).0 }
         ensures placed { IsPlacedConduct setup.now.hosts self.new }
-        ensures effects { effects.new ≡ asked_for setup.now (voted_yes from client number votes setup.now self.old).1 }
+        ensures effects { effects.new ≡ asked_for setup.now
+            (voted_yes from client number votes setup.now self.old).1 }
     {
         let votes = votes.joined(from);
         if votes.has_servers_from(1, setup) {
@@ -118,7 +128,8 @@ impl Conduct {
         requires empty { effects.old ≡ asked_for setup.now [] }
         ensures state { self.new ≡ (voted_no client number setup.now self.old).0 }
         ensures placed { IsPlacedConduct setup.now.hosts self.new }
-        ensures effects { effects.new ≡ asked_for setup.now (voted_no client number setup.now self.old).1 }
+        ensures effects { effects.new ≡ asked_for setup.now
+            (voted_no client number setup.now self.old).1 }
     {
         self.first = noted(self.transaction, First::Aborted, self.first);
         self.phase = Phase::Resting;
@@ -148,7 +159,8 @@ impl Conduct {
         requires empty { effects.old ≡ asked_for setup.now [] }
         ensures state { self.new ≡ (voted from agrees self.old.phase setup.now self.old).0 }
         ensures placed { IsPlacedConduct setup.now.hosts self.new }
-        ensures effects { effects.new ≡ asked_for setup.now (voted from agrees self.old.phase setup.now self.old).1 }
+        ensures effects { effects.new ≡ asked_for setup.now
+            (voted from agrees self.old.phase setup.now self.old).1 }
     {
         if let Phase::Voting {
             client,
@@ -172,7 +184,8 @@ impl Conduct {
         requires empty { effects.old ≡ asked_for setup.now [] }
         ensures state { self.new ≡ (seen from self.old.phase setup.now self.old).0 }
         ensures placed { IsPlacedConduct setup.now.hosts self.new }
-        ensures effects { effects.new ≡ asked_for setup.now (seen from self.old.phase setup.now self.old).1 }
+        ensures effects { effects.new ≡ asked_for setup.now
+            (seen from self.old.phase setup.now self.old).1 }
     {
         if let Phase::Telling { told } = self.phase {
             let told = told.joined(from);
@@ -185,7 +198,8 @@ impl Conduct {
         }
     }
 
-    /// Whether it may tell what became of its transaction: the votes are in, and a commit is stable.
+    /// Whether it may tell what became of its transaction: the votes are in, and a commit is
+    /// stable.
     fn may_tell(&self) -> bool
         ensures { result ≡ may_tell self.now.phase self.now.unsure }
     {
@@ -214,7 +228,8 @@ impl Conduct {
         requires setup { IsSetup setup.now }
         requires empty { effects.old ≡ asked_for setup.now [] }
         ensures room { length effects.new.list ≤ setup.now.servers }
-        ensures effects { effects.new ≡ asked_for setup.now (asked_again self.now.phase setup.now self.now) }
+        ensures effects { effects.new ≡ asked_for setup.now
+            (asked_again self.now.phase setup.now self.now) }
     {
         match self.phase {
             Phase::Resting => {}
@@ -253,7 +268,8 @@ impl Conduct {
         requires empty { effects.old ≡ asked_for setup.now [] }
         ensures state { self.new ≡ (settled self.old.phase self.old.owed setup.now self.old).0 }
         ensures placed { IsPlacedConduct setup.now.hosts self.new }
-        ensures effects { effects.new ≡ asked_for setup.now (settled self.old.phase self.old.owed setup.now self.old).1 }
+        ensures effects { effects.new ≡ asked_for setup.now
+            (settled self.old.phase self.old.owed setup.now self.old).1 }
     {
         match (self.phase, self.owed) {
             (Phase::Voting { .. }, _) => {
@@ -276,7 +292,8 @@ impl Conduct {
         requires empty { effects.old ≡ asked_for setup.now [] }
         ensures state { self.new ≡ (coordinator_synced setup.now self.old).0 }
         ensures placed { IsPlacedConduct setup.now.hosts self.new }
-        ensures effects { effects.new ≡ asked_for setup.now (coordinator_synced setup.now self.old).1 }
+        ensures effects { effects.new ≡ asked_for setup.now
+            (coordinator_synced setup.now self.old).1 }
     {
         self.unsure = self.unsure.saturating_sub(1);
         if self.unsure == 0 {

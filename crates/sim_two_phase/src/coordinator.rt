@@ -3,8 +3,11 @@ ghost use Rattle.std.specs.Prelude.{ℕ, List, Option, ◌≡◌, ◌<◌, [], s
 ghost use Rattle.sim_node.specs.Node.{IsSetup, IsFrom};
 ghost use Rattle.sim_hosts.specs.Reactions.{asked_for};
 ghost use Rattle.sim_hosts.specs.Waiting.{restored, IsPlacedSlot};
-ghost use Rattle.sim_two_phase.specs.TwoPhase.{presumed, coordinator_at_boot, is_of_this, begun_for, begun, is_voting_for, asked_by, coordinator_timer, heard, react_coordinator};
-ghost use Rattle.sim_two_phase.specs.TwoPhaseRecords.{IsPlacedConduct, IsPlacedSlots, coordinator_before};
+ghost use Rattle.sim_two_phase.specs.TwoPhase.{presumed, coordinator_at_boot, is_of_this};
+ghost use Rattle.sim_two_phase.specs.TwoPhase.{begun_for, begun, is_voting_for, asked_by};
+ghost use Rattle.sim_two_phase.specs.TwoPhase.{coordinator_timer, heard, react_coordinator};
+ghost use Rattle.sim_two_phase.specs.TwoPhaseRecords.{IsPlacedConduct, IsPlacedSlots};
+ghost use Rattle.sim_two_phase.specs.TwoPhaseRecords.{coordinator_before};
 
 use crate::conduct::PATIENCE;
 use crate::disk::first_of_byte;
@@ -20,7 +23,8 @@ const UNCHANGED: Slots = Slots {
     begun: SlotBefore::Same,
 };
 
-/// What became of transaction 1, at a boot: where it has begun and is open, it is presumed to be aborted.
+/// What became of transaction 1, at a boot: where it has begun and is open, it is presumed to be
+/// aborted.
 fn presumed(transaction: u64, first: First) -> First
     ensures { result ≡ presumed transaction first }
 {
@@ -53,7 +57,10 @@ impl Coordinator {
     /// The host waits with this from now on; the answer is what it waited with.
     fn put(&mut self, host: u16, number: Option<u64>) -> SlotBefore<u64>
         requires { host < 32 }
-        ensures state { self.new ≡ record self.old { waiting = slice_set self.old.waiting host number } }
+        ensures state { self.new ≡ record self.old {
+          waiting = slice_set self.old.waiting host
+              number;
+        } }
         ensures back { restored result self.new.waiting ≡ self.old.waiting }
         ensures host { IsPlacedSlot result }
     {
@@ -74,7 +81,8 @@ impl Coordinator {
         requires empty { effects.old ≡ asked_for setup.now [] }
         ensures state { self.new ≡ (begun_for (client, number) self.old).0 }
         ensures placed { IsPlacedConduct setup.now.hosts self.new.conduct }
-        ensures effects { effects.new ≡ asked_for setup.now (begun_for (client, number) self.old).1 }
+        ensures effects { effects.new ≡ asked_for setup.now
+            (begun_for (client, number) self.old).1 }
         ensures back { restored result self.new.waiting ≡ self.old.waiting }
         ensures host { IsPlacedSlot result }
     {
@@ -132,7 +140,8 @@ impl Coordinator {
         requires empty { effects.old ≡ asked_for setup.now [] }
         ensures state { self.new ≡ (asked_by from number setup.now self.old).0 }
         ensures placed { IsPlacedConduct setup.now.hosts self.new.conduct }
-        ensures effects { effects.new ≡ asked_for setup.now (asked_by from number setup.now self.old).1 }
+        ensures effects { effects.new ≡ asked_for setup.now
+            (asked_by from number setup.now self.old).1 }
         ensures back { coordinator_before self.old.conduct result self.new ≡ self.old }
         ensures slots { IsPlacedSlots result }
     {
@@ -154,7 +163,8 @@ impl Coordinator {
         requires empty { effects.old ≡ asked_for setup.now [] }
         ensures state { self.new ≡ (coordinator_timer self.old.conduct.phase setup.now self.old).0 }
         ensures placed { IsPlacedConduct setup.now.hosts self.new.conduct }
-        ensures effects { effects.new ≡ asked_for setup.now (coordinator_timer self.old.conduct.phase setup.now self.old).1 }
+        ensures effects { effects.new ≡ asked_for setup.now
+            (coordinator_timer self.old.conduct.phase setup.now self.old).1 }
         ensures back { restored result self.new.waiting ≡ self.old.waiting }
         ensures host { IsPlacedSlot result }
     {
@@ -180,7 +190,8 @@ impl Coordinator {
         requires empty { effects.old ≡ asked_for setup.now [] }
         ensures state { self.new ≡ (heard from msg.now setup.now self.old).0 }
         ensures placed { IsPlacedConduct setup.now.hosts self.new.conduct }
-        ensures effects { effects.new ≡ asked_for setup.now (heard from msg.now setup.now self.old).1 }
+        ensures effects { effects.new ≡ asked_for setup.now
+            (heard from msg.now setup.now self.old).1 }
         ensures waiting { self.new.waiting ≡ self.old.waiting }
     {
         match msg {
@@ -208,7 +219,8 @@ impl Coordinator {
         requires empty { effects.old ≡ asked_for setup.now [] }
         ensures state { self.new ≡ (react_coordinator setup.now self.old input.now).0 }
         ensures placed { IsPlacedConduct setup.now.hosts self.new.conduct }
-        ensures effects { effects.new ≡ asked_for setup.now (react_coordinator setup.now self.old input.now).1 }
+        ensures effects { effects.new ≡ asked_for setup.now
+            (react_coordinator setup.now self.old input.now).1 }
         ensures back { coordinator_before self.old.conduct result self.new ≡ self.old }
         ensures slots { IsPlacedSlots result }
     {
@@ -226,7 +238,8 @@ impl Coordinator {
         slots
     }
 
-    /// Takes a reaction back: the conduct before, and what those waited with whose waiting has changed.
+    /// Takes a reaction back: the conduct before, and what those waited with whose waiting has
+    /// changed.
     pub fn take_back(&mut self, conduct: Conduct, slots: Slots)
         requires { IsPlacedSlots slots }
         ensures { self.new ≡ coordinator_before conduct slots self.old }

@@ -1,6 +1,7 @@
 //! The ten bytes that a server forces to its disk, and what became of transaction 1 in them.
 ghost use Rattle.std.specs.Prelude.{◌≡◌, ◌+◌, ◌<◌, ◌++◌, length};
-ghost use Rattle.sim_two_phase.specs.TwoPhase.{byte_of_first, first_of_byte, server_bytes, forced, noted};
+ghost use Rattle.sim_two_phase.specs.TwoPhase.{byte_of_first, first_of_byte, server_bytes, forced};
+ghost use Rattle.sim_two_phase.specs.TwoPhase.{noted};
 
 use crate::{CommitMsg, First};
 use sim_hosts::put_number;
@@ -35,7 +36,8 @@ pub fn byte_of_first(first: First) -> u8
     }
 }
 
-/// A server's 10 bytes: the transaction, the commit flag or the status, and what became of transaction 1.
+/// A server's 10 bytes: the transaction, the commit flag or the status, and what became of
+/// transaction 1.
 fn server_bytes(transaction: u64, byte: u8, first: First) -> [u8; 10]
     ensures { result ≡ server_bytes transaction byte first }
 {
@@ -49,7 +51,10 @@ fn server_bytes(transaction: u64, byte: u8, first: First) -> [u8; 10]
 /// Writes a server's bytes to its disk, and asks for a sync.
 pub fn force(transaction: u64, byte: u8, first: First, effects: &mut Effects<CommitMsg>)
     requires { length effects.old.list < 38 }
-    ensures { effects.new ≡ record effects.old { list = effects.old.list ++ forced transaction byte first } }
+    ensures { effects.new ≡ record effects.old {
+      list = effects.old.list
+          ++ forced transaction byte first;
+    } }
 {
     effects.write(0, &server_bytes(transaction, byte, first));
     effects.sync();

@@ -2,7 +2,11 @@
 ghost use Rattle.std.specs.Prelude.{◌≡◌, ◌+◌, ◌<◌, ◌++◌, [], length};
 ghost use Rattle.sim_hosts.specs.Reactions.{asked_for};
 ghost use Rattle.sim_hosts.specs.Numbers.{raised};
-ghost use Rattle.sim_two_phase.specs.TwoPhase.{is_prepared, byte_of_status, status_of_byte, participant_at_boot, forced_by_participant, inquires, passed_over, votes_yes, votes_no, has_stable_vote, prepares, learns, has_seen, decided, participant_synced, react_participant};
+ghost use Rattle.sim_two_phase.specs.TwoPhase.{is_prepared, byte_of_status, status_of_byte};
+ghost use Rattle.sim_two_phase.specs.TwoPhase.{participant_at_boot, forced_by_participant};
+ghost use Rattle.sim_two_phase.specs.TwoPhase.{inquires, passed_over, votes_yes, votes_no};
+ghost use Rattle.sim_two_phase.specs.TwoPhase.{has_stable_vote, prepares, learns, has_seen};
+ghost use Rattle.sim_two_phase.specs.TwoPhase.{decided, participant_synced, react_participant};
 
 use crate::disk::{first_of_byte, force, noted};
 use crate::{CommitMsg, First, Participant, Status};
@@ -64,8 +68,16 @@ impl Participant {
         effects: &mut Effects<CommitMsg>,
     )
         requires { length effects.old.list < 38 }
-        ensures state { self.new ≡ record { transaction = transaction; status = status; first = first; unsure = raised self.old.unsure } }
-        ensures effects { effects.new ≡ record effects.old { list = effects.old.list ++ forced_by_participant self.new } }
+        ensures state { self.new ≡ record {
+          transaction = transaction;
+          status = status;
+          first = first;
+          unsure = raised self.old.unsure;
+        } }
+        ensures effects { effects.new ≡ record effects.old {
+          list = effects.old.list
+              ++ forced_by_participant self.new;
+        } }
     {
         *self = Participant {
             transaction,
@@ -210,7 +222,8 @@ impl Participant {
         requires hosts { 0 < setup.now.hosts }
         requires empty { effects.old ≡ asked_for setup.now [] }
         ensures state { self.new ≡ (react_participant self.old input.now word).0 }
-        ensures effects { effects.new ≡ asked_for setup.now (react_participant self.old input.now word).1 }
+        ensures effects { effects.new ≡ asked_for setup.now
+            (react_participant self.old input.now word).1 }
     {
         match input {
             Input::Start | Input::Timer => self.inquire(setup, effects),

@@ -2,8 +2,8 @@
 use sim_hosts::{Boxed, HostSet, SlotBefore};
 use sim_node::Setup;
 
-/// A message. A transaction is counted from 1 by the coordinator, an operation from 1 by its client.
-/// A flag stands first, beside the tag, to save bytes.
+/// A message. A transaction is counted from 1 by the coordinator, an operation from 1 by its
+/// client. A flag stands first, beside the tag, to save bytes.
 #[derive(Clone, Copy, Debug, PartialEq, Eq)]
 pub enum CommitMsg {
     /// A client asks for a transaction, for its operation of this number.
@@ -35,7 +35,8 @@ pub enum First {
 pub enum Phase {
     /// Nothing.
     Resting,
-    /// It asks for votes on the transaction for this operation of a client; those in the set are for it.
+    /// It asks for votes on the transaction for this operation of a client; those in the set are
+    /// for it.
     Voting {
         client: u16,
         votes: HostSet,
@@ -112,8 +113,8 @@ pub struct State {
     pub role: Role,
 }
 
-/// What those hosts waited with whose waiting a reaction has changed: the one that asked, and the one for which a
-/// transaction was begun after that.
+/// What those hosts waited with whose waiting a reaction has changed: the one that asked, and the
+/// one for which a transaction was begun after that.
 #[derive(Clone, Copy, Debug, PartialEq, Eq)]
 pub struct Slots {
     pub asked: SlotBefore<u64>,

@@ -14,10 +14,11 @@
 //! The input is a scenario, a line `---` and a script, from FILE or from standard input;
 //! docs/SCENARIO.md, docs/SCRIPT.md, docs/SEARCH.md, docs/LOG.md and docs/PAGE.md describe them.
 //!
-//! This crate has no logic of its own: `sim_perform::run` does all. It ends with the status that this
-//! returns: 0, or 1 for a bad scenario, 2 for a wrong command line or a request that cannot be carried
-//! out, 3 if the input or the output failed, 4 for want of memory. A crate is a library or a program,
-//! so everything that can be proved or tested over any reader and writer is in the libraries below.
+//! This crate has no logic of its own: `sim_perform::run` does all. It ends with the status that
+//! this returns: 0, or 1 for a bad scenario, 2 for a wrong command line or a request that cannot be
+//! carried out, 3 if the input or the output failed, 4 for want of memory. A crate is a library or
+//! a program, so everything that can be proved or tested over any reader and writer is in the
+//! libraries below.
 #![tactic(auto)]
 
 use sim_cli::Shipped;

@@ -55,8 +55,8 @@ fn asked(place: u32, clock: u64) -> Told {
     Told::Moved(place, clock, Stop::Asked)
 }
 
-// One server and one client with this many operations, a checkpoint after each `interval` events, and
-// `window` records.
+// One server and one client with this many operations, a checkpoint after each `interval` events,
+// and `window` records.
 fn scenario(operations: u16, interval: u32, window: u32) -> Result<Scenario, Fail> {
     let setting = Setting {
         setup: Setup {
@@ -246,7 +246,8 @@ fn a_rewind_stops_where_one_by_one_does(rt: HostRuntime) -> Result<(), Fail> {
     Ok(())
 }
 
-// A jump is answered so, and takes this many turns, copies and undos; the only branch's world is there.
+// A jump is answered so, and takes this many turns, copies and undos; the only branch's world is
+// there.
 fn jumps(
     rt: &impl Abort,
     alloc: Global,

@@ -4,7 +4,8 @@
 //!   an event that is refused though it has a line.
 //! * `conditions`: a condition that is written otherwise than the page of scripts says, as with two
 //!   spaces, or is refused though it can be written.
-//! * `mistakes::mistakes`: a bad line that is told to be bad at another word, or for another reason.
+//! * `mistakes::mistakes`: a bad line that is told to be bad at another word, or for another
+//!   reason.
 ghost use Rattle.std.specs.Prelude.{◌≡◌, codes, [], ◌∷◌, vec_len, IfOk};
 
 use sim_input::{LineError, push_condition, script};

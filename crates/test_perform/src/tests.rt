@@ -9,12 +9,12 @@
 //! - `hunts::faults_come_in_order`: a fault that hides an earlier one.
 //! - `conditions`: a condition of any form that is read as another, or holds elsewhere; one that is
 //!   taken against the rules.
-//! - `planned`: the option of a sweep that is left out or taken for another; a failure under planned
-//!   faults that is not found, or found elsewhere; a number past its limit that is taken; the script of
-//!   a run that is another run; a fault that was not needed and stays.
+//! - `planned`: the option of a sweep that is left out or taken for another; a failure under
+//!   planned faults that is not found, or found elsewhere; a number past its limit that is taken;
+//!   the script of a run that is another run; a fault that was not needed and stays.
 //! - `shown`: a log or a page that leaves an event out, or that tells another.
-//! - `strict`: `--strict` that is left out or taken for another; a line at fault that does not end the
-//!   job, or of which not all is told that a play tells.
+//! - `strict`: `--strict` that is left out or taken for another; a line at fault that does not end
+//!   the job, or of which not all is told that a play tells.
 mod command_line;
 mod conditions;
 mod hunts;

@@ -2,11 +2,11 @@
 //! another implementation of them.
 //!
 //! What each test catches:
-//! - `examples`, `torn`, `rows`: a command that is answered in other words, or by another world, of each
-//!   protocol, in both formats, for checkpoints and windows from the least to the greatest; a play
-//!   that wants memory for no reason. The examples are those of the folder `examples`.
-//! - `full`: a table that is full early, or takes more than its limit; a trace of 5,000 events or of
-//!   a late branch that is cut off or has other events.
+//! - `examples`, `torn`, `rows`: a command that is answered in other words, or by another world, of
+//!   each protocol, in both formats, for checkpoints and windows from the least to the greatest; a
+//!   play that wants memory for no reason. The examples are those of the folder `examples`.
+//! - `full`: a table that is full early, or takes more than its limit; a trace of 5,000 events or
+//!   of a late branch that is cut off or has other events.
 //! - `faults`: a scenario that is read as another, or refused for another reason.
 //! - `lines`: a line that is taken, or refused, against the rules of scripts.
 //! - `streams::plays_a_byte_at_a_time`: answers that wait for a later line.

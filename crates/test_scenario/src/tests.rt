@@ -1,11 +1,12 @@
-//! Texts of scenarios. What is expected was worked out from the format's description. What each test
-//! would catch, where proofs say nothing or definitions may be wrong:
+//! Texts of scenarios. What is expected was worked out from the format's description. What each
+//! test would catch, where proofs say nothing or definitions may be wrong:
 //!
 //! * `tables_hold`: a text that is answered with another fault, number or key than the format says,
 //!   or refused though it is a scenario; the order of faults.
 //! * `short_and_long_texts`: no text, a comment, the limit of 65,536 bytes, line ends of two bytes.
 //! * `texts_say_what_they_say`: a value, a name or a way that is read from elsewhere.
-//! * `faults_and_names`: what a fault prints, the number of want of memory, and which names are names.
+//! * `faults_and_names`: what a fault prints, the number of want of memory, and which names are
+//!   names.
 
 mod links;
 mod protocols;

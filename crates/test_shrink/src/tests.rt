@@ -1,8 +1,8 @@
 //! Runs of two-phase commit with planned faults, and what is left of them.
 //!
 //! What each test catches:
-//! - `four_faults_are_left`: a search that gives up or keeps what is not needed, and one that does not
-//!   tell how far it has come.
+//! - `four_faults_are_left`: a search that gives up or keeps what is not needed, and one that does
+//!   not tell how far it has come.
 //! - `nothing_fails`: a run that is made of a condition that holds everywhere.
 //! - `a_host_that_is_not_there`: a condition that is not checked.
 ghost use Rattle.std.specs.Prelude.{◌≡◌, IfOk, replicate};

@@ -1,10 +1,11 @@
 //! Tapes of echo. What each test would catch, where proofs say nothing or definitions may be wrong:
 //!
-//! * `tapes_go_by_their_rows`: a tape that never has memory; places, clocks and views that are other
-//!   than what one works out by hand; more turns, copies or undos than a call may take.
+//! * `tapes_go_by_their_rows`: a tape that never has memory; places, clocks and views that are
+//!   other than what one works out by hand; more turns, copies or undos than a call may take.
 //! * `branches_and_frozen_runs`: a branch, or a frozen run, that changes with its origin.
-//! * `walks_are_as_plain_runs`, `walks_by_long_intervals_are_as_plain_runs`: any call that leaves another
-//!   world, other events or a shorter reach than steps from the start do, or that works more.
+//! * `walks_are_as_plain_runs`, `walks_by_long_intervals_are_as_plain_runs`: any call that leaves
+//!   another world, other events or a shorter reach than steps from the start do, or that works
+//!   more.
 mod calls;
 mod plain;
 mod scene;

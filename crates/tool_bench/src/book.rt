@@ -11,7 +11,8 @@ use std::alloc::{AllocError, Global};
 /// What a turn on a book is. A watch has two terms and holds all the time.
 #[derive(Clone, Copy)]
 pub enum BookTurn {
-    /// a step of a run of at most 60,000, with records of the last 1,024; each run is that of a new book
+    /// a step of a run of at most 60,000, with records of the last 1,024; each run is that of a new
+    /// book
     Run,
     /// the same where a watch is looked at after each step
     WatchedRun,

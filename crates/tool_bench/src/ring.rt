@@ -47,7 +47,8 @@ fn stepped(
     }
 }
 
-/// Takes steps, and keeps the records of the last ones. Where a run has ended, a turn starts the next one.
+/// Takes steps, and keeps the records of the last ones. Where a run has ended, a turn starts the
+/// next one.
 pub fn steps(alloc: Global, most: usize, turns: u32) -> Result<u64, NoMemory> {
     let mut tally = Tally::new();
     let scenario = Cluster::FourServers.scenario();
@@ -62,7 +63,8 @@ pub fn steps(alloc: Global, most: usize, turns: u32) -> Result<u64, NoMemory> {
     Ok(mixed(shown(&world), ring.records.len() as u64))
 }
 
-// Takes this many steps, or as many as there are, adds to the sum what the world shows then, and takes them back.
+// Takes this many steps, or as many as there are, adds to the sum what the world shows then, and
+// takes them back.
 fn there_and_back(
     alloc: Global,
     world: EchoWorld,
@@ -82,7 +84,8 @@ fn there_and_back(
     }
 }
 
-/// Takes `depth` steps and takes them back, again and again, and at the end as many as are left of half the turns.
+/// Takes `depth` steps and takes them back, again and again, and at the end as many as are left of
+/// half the turns.
 pub fn undos(alloc: Global, depth: u32, turns: u32) -> Result<u64, NoMemory> {
     let mut tally = Tally::new();
     let scenario = Cluster::FourServers.scenario();

@@ -36,7 +36,8 @@ impl Sessions {
         }
     }
 
-    // This many looks at a new book, and a number that depends on the entries but not on their order.
+    // This many looks at a new book, and a number that depends on the entries but not on their
+    // order.
     fn share<R: Threads + Wait + Sync>(
         self,
         rt: &R,

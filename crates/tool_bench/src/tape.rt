@@ -13,13 +13,15 @@ use std::alloc::Global;
 /// What a turn on a tape is. Checkpoints stand this many events apart, 1,024 where nothing is said.
 #[derive(Clone, Copy)]
 pub enum TapeTurn {
-    /// a step that is added, with records of the last 1,024; where a run has ended, a tape of no events
+    /// a step that is added, with records of the last 1,024; where a run has ended, a tape of no
+    /// events
     Add,
     /// a step that is walked over, forward, with records of the last 1,024
     Forward,
     /// a step that is walked over, by turns 1,024 back and 1,024 forward
     ThereAndBack,
-    /// a jump to a place at random among 60,000 events, with records of the last 64, where checkpoints stand so far apart
+    /// a jump to a place at random among 60,000 events, with records of the last 64, where
+    /// checkpoints stand so far apart
     Jump(u32),
     /// the same, to a checkpoint at random: a copy of one of all its worlds, and no event
     CheckpointJump(u32),

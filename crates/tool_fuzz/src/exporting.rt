@@ -1,7 +1,8 @@
 //! Runs that are written as inputs: a seed's run by `script`, and what `shrink` leaves of it.
 //!
-//! A script has just the lines of the run's events, and a play of it with some looks behind them is told the clocks, the views and the
-//! trace of the plain fold of the numbered scenario. `shrinking.rt` says what is looked at in what `shrink` leaves of it.
+//! A script has just the lines of the run's events, and a play of it with some looks behind them is
+//! told the clocks, the views and the trace of the plain fold of the numbered scenario.
+//! `shrinking.rt` says what is looked at in what `shrink` leaves of it.
 use crate::answering::Answer;
 use crate::asking::Asker;
 use crate::naming::Naming;
@@ -21,7 +22,8 @@ use std::thread::Threads;
 /// What is asked after the run.
 const LOOKS: &str = "look\nlook next\ntrace\n";
 
-/// The planned events of a seed whose run is to be written, and the condition for which it is to be made small.
+/// The planned events of a seed whose run is to be written, and the condition for which it is to be
+/// made small.
 #[derive(Drop)]
 pub struct Export {
     pub naming: Naming,

@@ -1,5 +1,5 @@
-//! Searches and sweeps at random, with planned faults and scripts too, and what they are to write: scans of plain folds, place by
-//! place and seed by seed.
+//! Searches and sweeps at random, with planned faults and scripts too, and what they are to write:
+//! scans of plain folds, place by place and seed by seed.
 ghost use Rattle.std.specs.Prelude.{◌≤◌};
 ghost use Rattle.sim_job.specs.CommandLine.{HasFewWorkers};
 

@@ -1,8 +1,9 @@
 //! The log of a run, whole: each line as the worlds before and after its event have it.
 //!
-//! What a node asks for is what its reaction says. What came of it is read off the two worlds: a message was lost where it is not
-//! pending afterwards, and a crash took out what is no longer pending. What a crash keeps of writes is counted from the words of
-//! the seed. That a message is dropped since 4,096 others are on their way is never the case here.
+//! What a node asks for is what its reaction says. What came of it is read off the two worlds: a
+//! message was lost where it is not pending afterwards, and a crash took out what is no longer
+//! pending. What a crash keeps of writes is counted from the words of the seed. That a message is
+//! dropped since 4,096 others are on their way is never the case here.
 use crate::naming::Naming;
 use crate::plain::Trouble;
 use crate::planned::{Fold, words};
@@ -40,7 +41,8 @@ fn notes_of<N: Node>(fold: &mut Fold<'_, N>, events: &[Event]) -> Result<Vec<Not
     Ok(notes)
 }
 
-/// The place after the event that queued what has a serial, or none where it was there from the start.
+/// The place after the event that queued what has a serial, or none where it was there from the
+/// start.
 fn queued_at(notes: &[Note], serial: u64) -> Option<usize> {
     let mut place = None;
     for (before, event) in notes.iter().enumerate() {
@@ -221,8 +223,8 @@ where
         Ok(())
     }
 
-    /// Writes what became of the messages that a direction held. Those that were let go have the serials from this one on; it gives
-    /// the one after them.
+    /// Writes what became of the messages that a direction held. Those that were let go have the
+    /// serials from this one on; it gives the one after them.
     fn direction(&mut self, from: u16, to: u16, serial: u64) -> Result<u64, AllocError> {
         if 32 <= from || 32 <= to || self.after.link(from, to) == LinkState::Held {
             return Ok(serial);

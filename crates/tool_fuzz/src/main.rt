@@ -1,7 +1,8 @@
-//! Compares plays, searches, sweeps, logs, scripts and shrinks of inputs at random with plain folds of events from the start: no
-//! tape, no book, no undo, and no workers.
+//! Compares plays, searches, sweeps, logs, scripts and shrinks of inputs at random with plain folds
+//! of events from the start: no tape, no book, no undo, and no workers.
 //!
-//! `tool_fuzz COUNT FIRST` tries so many cases from a number on, 300 from 0 without these words, and tells the first that differs.
+//! `tool_fuzz COUNT FIRST` tries so many cases from a number on, 300 from 0 without these words,
+//! and tells the first that differs.
 #![tactic(auto)]
 
 mod answering;

@@ -80,7 +80,8 @@ fn count<N: Node>(world: &World<N>, k: u8, op: Op, number: u64) -> (u64, u64) {
     (passing, failing)
 }
 
-/// Whether the number of running hosts whose value of a probe passes a comparison compares so with a number.
+/// Whether the number of running hosts whose value of a probe passes a comparison compares so with
+/// a number.
 fn counts<N: Node>(world: &World<N>, k: u8, to: Comparison, op: Op, most: u64) -> bool {
     match number_of(world, to.value) {
         Some(number) => holds_op(op, count(world, k, to.op, number).0, most),
@@ -96,7 +97,8 @@ fn are_same<N: Node>(world: &World<N>, a: u16, b: u16, k: u8, n: u64) -> bool {
     }
 }
 
-/// Whether two hosts show other values of a probe, of which none is a number, and the same value of another probe.
+/// Whether two hosts show other values of a probe, of which none is a number, and the same value of
+/// another probe.
 fn are_apart<N: Node>(world: &World<N>, a: u16, b: u16, k: u8, by: u8, n: u64) -> bool {
     let is_same = match (probed(world, a, by), probed(world, b, by)) {
         (Some(x), Some(y)) => x == y,

@@ -15,7 +15,8 @@ use std::alloc::Global;
 /// The stream whose words plan faults.
 const PLANNING: u64 = 34;
 
-/// How a run is planned: one event in so many is a fault or a healing, on average; so many events; and so many quiet steps.
+/// How a run is planned: one event in so many is a fault or a healing, on average; so many events;
+/// and so many quiet steps.
 #[derive(Clone, Copy)]
 pub struct Plan {
     pub faults: Option<u32>,
@@ -159,7 +160,8 @@ impl<N: Node> Fold<'_, N> {
         Ok(run)
     }
 
-    /// The first place that is looked at and where no alternative holds, on the way of those of the events that can happen.
+    /// The first place that is looked at and where no alternative holds, on the way of those of the
+    /// events that can happen.
     pub fn failing(&mut self, events: &[Event], looked: Looked) -> Result<Option<usize>, Trouble> {
         let mut world = self.start()?;
         let mut place = 0usize;

@@ -69,7 +69,8 @@ fn some_operations(dice: &mut Dice) -> [u16; 32] {
     operations
 }
 
-/// A time that is mostly below 50 ms, and once in eight times anything up to half of the longest latency.
+/// A time that is mostly below 50 ms, and once in eight times anything up to half of the longest
+/// latency.
 fn some_time(dice: &mut Dice) -> u32
     ensures { result < 30001 }
 {

@@ -1,5 +1,6 @@
-//! What `shrink` leaves of a run: that its run fails first at its end, that it is the whole run up to its failing place without some
-//! faults, and that without any one of the others it fails nowhere in the rest of that run.
+//! What `shrink` leaves of a run: that its run fails first at its end, that it is the whole run up
+//! to its failing place without some faults, and that without any one of the others it fails
+//! nowhere in the rest of that run.
 use crate::exporting::Export;
 use crate::plain::Trouble;
 use crate::planned::{Fold, Looked};
@@ -13,7 +14,8 @@ use std::rt::Clock;
 use std::sync::Wait;
 use std::thread::Threads;
 
-/// Some of the faults of a run with all its steps, and how far along what is left of the run they lead.
+/// Some of the faults of a run with all its steps, and how far along what is left of the run they
+/// lead.
 #[derive(Drop)]
 struct Choice {
     kept: Vec<Event>,
@@ -31,8 +33,8 @@ impl Choice {
         })
     }
 
-    /// Adds the choices that go on with an event: a fault may stay or not, and a step that can happen has to be the next event that
-    /// is left. Past the end of what is left steps stay.
+    /// Adds the choices that go on with an event: a fault may stay or not, and a step that can
+    /// happen has to be the next event that is left. Past the end of what is left steps stay.
     fn go_on(
         &self,
         alloc: Global,
@@ -86,7 +88,8 @@ impl<N: Node> Fold<'_, N> {
         Ok(are_idle)
     }
 
-    /// The choices of faults by which the run of a whole one begins with what is left, or with a part of it.
+    /// The choices of faults by which the run of a whole one begins with what is left, or with a
+    /// part of it.
     fn choices(&mut self, whole: &[Event], left: &[Event]) -> Result<Vec<Choice>, Trouble> {
         let are_idle = self.are_idle(left)?;
         let mut choices = Vec::new(self.alloc);
@@ -132,7 +135,8 @@ impl<N: Node> Fold<'_, N> {
 }
 
 impl Export {
-    /// Whether a text is an input of the same scenario with what may be left of the run of an input, which fails at a place.
+    /// Whether a text is an input of the same scenario with what may be left of the run of an
+    /// input, which fails at a place.
     fn is_smaller<N: Node>(
         &self,
         fold: &mut Fold<'_, N>,

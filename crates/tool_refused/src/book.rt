@@ -32,7 +32,8 @@ fn looks(alloc: Global, book: &mut Book<Nodes>, names: &Names) -> Result<String,
     Ok(text)
 }
 
-// The turn of a line. Where it wants memory, all branches answer to looks as before, and it is given again.
+// The turn of a line. Where it wants memory, all branches answer to looks as before, and it is
+// given again.
 fn checked_turn(
     alloc: Global,
     book: &mut Book<Nodes>,

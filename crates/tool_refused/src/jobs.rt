@@ -107,7 +107,8 @@ fn add<R: Threads + Wait + Sync + Clock + Eprint>(
     Ok(())
 }
 
-// A run is made small, told as a log in words and in JSON, and shown as a page, which is the same a second time.
+// A run is made small, told as a log in words and in JSON, and shown as a page, which is the same a
+// second time.
 fn shown<R: Threads + Wait + Sync + Clock + Eprint>(
     rt: &R,
     alloc: Global,
@@ -140,7 +141,8 @@ fn shown<R: Threads + Wait + Sync + Clock + Eprint>(
     }
 }
 
-/// What searches and sweeps find, the script of a seed's run, and what is left of this run and told of it.
+/// What searches and sweeps find, the script of a seed's run, and what is left of this run and told
+/// of it.
 pub fn lines<R: Threads + Wait + Sync + Clock + Eprint>(
     rt: &R,
     alloc: Global,

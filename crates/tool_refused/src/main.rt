@@ -1,8 +1,9 @@
-//! Carries out commands on a book, from a shared book's seat, and as whole jobs of the program, and gives each that wanted memory
-//! again.
+//! Carries out commands on a book, from a shared book's seat, and as whole jobs of the program, and
+//! gives each that wanted memory again.
 //!
-//! What wanted memory has left all branches as they were, and the next command goes on; so what is told in the end does not depend on
-//! which growths were refused. The program ends well where all of this is so.
+//! What wanted memory has left all branches as they were, and the next command goes on; so what is
+//! told in the end does not depend on which growths were refused. The program ends well where all
+//! of this is so.
 #![tactic(auto)]
 
 mod book;
@@ -52,7 +53,8 @@ fn again<T, F: Fn() -> Result<T, Trouble>>(attempt: F) -> Result<T, Trouble>
     attempt()
 }
 
-/// Tells the lines of a book, which are those of a seat and of a second time too, and those of the jobs.
+/// Tells the lines of a book, which are those of a seat and of a second time too, and those of the
+/// jobs.
 fn told<R: Threads + Wait + Sync + Clock + Eprint>(
     rt: &R,
     alloc: Global,

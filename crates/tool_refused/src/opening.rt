@@ -29,7 +29,8 @@ name = "c"
 ops = 2
 "#;
 
-/// A script with each command, and what can be asked of the three branches that there are in the end.
+/// A script with each command, and what can be asked of the three branches that there are in the
+/// end.
 pub const SCRIPT: &str = "step
 run 4
 tick

@@ -24,8 +24,8 @@ fn look<R: Wait>(rt: &R, shared: &Shared<Nodes>, seat: &mut Seat<Nodes>) -> Resu
     Ok(())
 }
 
-// Calls for a line, and adds the line of the answer. Where the call wanted memory, the other session's call goes on, and then this
-// one does. It tells how many calls were taken.
+// Calls for a line, and adds the line of the answer. Where the call wanted memory, the other
+// session's call goes on, and then this one does. It tells how many calls were taken.
 fn call<R: Wait>(
     rt: &R,
     alloc: Global,
@@ -57,7 +57,8 @@ fn call<R: Wait>(
     Err(Trouble::StillWanting)
 }
 
-// Calls for each line of the script, and adds the lines of the answers. It tells how many calls were taken.
+// Calls for each line of the script, and adds the lines of the answers. It tells how many calls
+// were taken.
 fn call_all<R: Wait>(
     rt: &R,
     alloc: Global,

@@ -1,4 +1,5 @@
-//! A book beside plain folds: each branch is a list of events and a place, and its world is made from the start for each answer.
+//! A book beside plain folds: each branch is a list of events and a place, and its world is made
+//! from the start for each answer.
 use super::{EchoBook, Told, asked, tell};
 use sim_book::{Book, Command, Refusal, Stop};
 use sim_echo::Echo;

@@ -8,7 +8,8 @@ use std::test::Fail;
 #[derive(Clone, Copy)]
 enum Act {
     Write(u32, &'static [u8]),
-    // A write, for which a sync asks with this many writes twice; all three are taken back, the first sync by its light record.
+    // A write, for which a sync asks with this many writes twice; all three are taken back, the
+    // first sync by its light record.
     WriteAndBack(u32, &'static [u8], u32),
     // It would end past the disk.
     OutOfDisk(u32, &'static [u8]),

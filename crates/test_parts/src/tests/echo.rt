@@ -36,8 +36,8 @@ fn shows_the_same<T: Meter>(
     Ok((node.probe(0), node.probe(1)) == shown)
 }
 
-/// Whether the record of a reaction of one of four hosts, what the host asks for first and its two probes then are these.
-/// Before that the host reacts in the same way and is taken back.
+/// Whether the record of a reaction of one of four hosts, what the host asks for first and its two
+/// probes then are these. Before that the host reacts in the same way and is taken back.
 fn reacts<T: Meter>(
     alloc: Global,
     node: &mut Echo<T>,

@@ -62,7 +62,8 @@ fn ended(next: NextLine) -> Option<&'static str> {
     }
 }
 
-// The next line of an input, put at the text's end with a bar after it, and how the input ended, if it did.
+// The next line of an input, put at the text's end with a bar after it, and how the input ended, if
+// it did.
 fn add_line<R: Read>(
     reader: &mut R,
     ahead: &mut Ahead,
@@ -152,7 +153,8 @@ fn gathers_what_it_writes(rt: HostRuntime) -> Result<(), Fail> {
     Ok(())
 }
 
-// What a text leaves in a writer that fails after this many writes, or nothing where it does not fail.
+// What a text leaves in a writer that fails after this many writes, or nothing where it does not
+// fail.
 fn left_after(alloc: Global, writes_left: usize, text: &[u8]) -> Option<Vec<u8>> {
     let mut writer = Narrow {
         held: Vec::new(alloc),

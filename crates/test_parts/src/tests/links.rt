@@ -12,7 +12,8 @@ enum Act {
     Is(LinkState, u32),
     // A change, and the messages that leave.
     Change(Change, &'static [u32]),
-    // A change, the messages that leave, the state then and how many it holds then; the change is taken back.
+    // A change, the messages that leave, the state then and how many it holds then; the change is
+    // taken back.
     ChangeAndBack(Change, &'static [u32], LinkState, u32),
     Keep(u32),
     Unkeep(u32),

@@ -16,7 +16,8 @@ enum Act {
     InsertAndBack(u64, char, u64, Seen),
     First(Option<Seen>),
     TakeFirst(Option<Seen>),
-    // Takes the first item, then sees this one first, inserts one and takes that back, and puts the first back.
+    // Takes the first item, then sees this one first, inserts one and takes that back, and puts the
+    // first back.
     TakeFirstAndBack(Seen, Seen),
     // What is taken by its serial.
     Take(u64, Option<Seen>),
@@ -81,7 +82,8 @@ fn insert_and_back(
     Ok(Some((serial, then, seen(item))))
 }
 
-// What is taken first, and what is first then; before it is put back an item is inserted and taken back.
+// What is taken first, and what is first then; before it is put back an item is inserted and taken
+// back.
 fn take_first_and_back(queue: &mut Queue<char>) -> Result<Option<(Seen, Option<Seen>)>, NoMemory> {
     let Some(item) = queue.take_first() else {
         return Ok(None);
@@ -258,7 +260,8 @@ fn none(_body: &char) -> Result<char, NoMemory>
     Err(NoMemory)
 }
 
-// Whether a queue of which no body can be copied is neither copied nor kept, nor opened where it is kept.
+// Whether a queue of which no body can be copied is neither copied nor kept, nor opened where it is
+// kept.
 fn wants_bodies(alloc: Global, queue: &Queue<char>) -> Result<bool, NoMemory> {
     let packed = queue.pack(alloc, same)?;
     Ok(

@@ -1,6 +1,7 @@
-//! Drawn words against those of another implementation of ChaCha20. The expected words are those of the package
-//! `cryptography` of Python: the keystream under the seed as key, its 16 bytes of nonce being a block counter of 0
-//! and then the stream's number, each of 8 bytes, read as 32-bit numbers (all little-endian).
+//! Drawn words against those of another implementation of ChaCha20. The expected words are those of
+//! the package `cryptography` of Python: the keystream under the seed as key, its 16 bytes of nonce
+//! being a block counter of 0 and then the stream's number, each of 8 bytes, read as 32-bit numbers
+//! (all little-endian).
 use sim_streams::{STREAMS, Streams};
 
 const ZEROS: [u8; 32] = [0; 32];

@@ -162,8 +162,8 @@ fn are_refused<R: Threads + Wait + Sync + Clock + Eprint + Abort>(
     assert!(rt; found && swept, "{cond}: {want}");
 }
 
-// A scenario's fault is told before words that are no condition, these before a range's, and that before a host or probe that is
-// not there.
+// A scenario's fault is told before words that are no condition, these before a range's, and that
+// before a host or probe that is not there.
 #[test]
 fn faults_come_in_order(rt: HostRuntime) {
     let alloc = rt.alloc();

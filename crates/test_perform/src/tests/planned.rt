@@ -227,7 +227,8 @@ fn faults(alloc: Global, input: &str) -> Result<String, AllocError> {
     Ok(faults)
 }
 
-// The run that the sweep finds is written and made small: it fails at the same place, and four faults are left.
+// The run that the sweep finds is written and made small: it fails at the same place, and four
+// faults are left.
 #[test]
 fn the_run_of_a_seed_made_small(rt: HostRuntime) -> Result<(), Fail> {
     let alloc = rt.alloc();

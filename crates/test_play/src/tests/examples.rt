@@ -1,4 +1,5 @@
-//! The plays of the folder `examples` and what they answer, byte by byte. Those that tear a write are in `torn`.
+//! The plays of the folder `examples` and what they answer, byte by byte. Those that tear a write
+//! are in `torn`.
 use super::scenes::status_of;
 use sim_cli::Status;
 use std::alloc::Global;

@@ -42,8 +42,8 @@ const TWICE: &str =
 const ITSELF: &str =
     "[[link]]\nsource = \"w\"\ntarget = \"w\"\nlatency_min = 3\nlatency_max = 3\nloss = 0\n";
 
-/// What is wrong in a scenario's text, a row a line: its format, its links, what stands in place of what, and the fault. A text and
-/// no table, since the prover takes a text as one value.
+/// What is wrong in a scenario's text, a row a line: its format, its links, what stands in place of
+/// what, and the fault. A text and no table, since the prover takes a text as one value.
 const EDITS: &str = r#"one | none | seed = "00 | seed = "0 | 6 seed
 one | none | format = 1 | format = "1" | 5 format
 one | none | format = 1 | format = 3 | 8 format

@@ -7,8 +7,8 @@ use std::alloc::{AllocError, Global};
 use std::process::Abort;
 use std::test::Fail;
 
-/// A play that fills a table: a line several times, and a script; and how the answers begin, a text several times, and other
-/// answers.
+/// A play that fills a table: a line several times, and a script; and how the answers begin, a text
+/// several times, and other answers.
 #[derive(Clone, Copy)]
 struct Full {
     scene: Scene,

@@ -6,7 +6,8 @@ use std::alloc::AllocError;
 use std::process::Abort;
 use std::test::Fail;
 
-/// 61 lines that are no commands, and one that is. A carriage return is dropped only before a line's end.
+/// 61 lines that are no commands, and one that is. A carriage return is dropped only before a
+/// line's end.
 const BAD: &[u8] = b"   
  # step
 step now
@@ -81,8 +82,8 @@ fn refuses_lines_that_are_no_commands(rt: HostRuntime) -> Result<(), Fail> {
     Ok(())
 }
 
-/// A scenario, and lines of all forms: a line has at most 256 bytes and is read whatever its spaces; other lines are bad and change
-/// nothing.
+/// A scenario, and lines of all forms: a line has at most 256 bytes and is read whatever its
+/// spaces; other lines are bad and change nothing.
 const LINES: &[u8] = b"format = 1
 seed = \"0000000000000000000000000000000000000000000000000000000000000000\"
 protocol = \"echo\"

@@ -1,9 +1,10 @@
-//! A reader and a writer that own nothing: the one gives two texts, the other compares what it takes with a third.
+//! A reader and a writer that own nothing: the one gives two texts, the other compares what it
+//! takes with a third.
 use std::io;
 use std::io::{ErrorKind, Read, Write};
 
-/// Gives two texts, one after the other, at most a given number of bytes a read. After a given number
-/// of reads it fails once; whoever reads on is given more.
+/// Gives two texts, one after the other, at most a given number of bytes a read. After a given
+/// number of reads it fails once; whoever reads on is given more.
 #[derive(Clone, Copy)]
 pub struct Pieces<'a> {
     pub rest: &'a [u8],
@@ -43,8 +44,8 @@ impl Read for Pieces<'_> {
     }
 }
 
-/// Compares what it takes with what is to come, at most a given number of bytes a write. After a given
-/// number of writes, or of flushes, it fails once; whoever writes on has more taken.
+/// Compares what it takes with what is to come, at most a given number of bytes a write. After a
+/// given number of writes, or of flushes, it fails once; whoever writes on has more taken.
 #[derive(Clone, Copy)]
 pub struct Narrow<'a> {
     pub to_come: &'a [u8],

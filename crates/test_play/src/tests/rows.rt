@@ -46,8 +46,8 @@ const FIRST_RUN: &str = "step; step; step; step; step; step; step; look";
 const FIRST_ANSWERS: &str =
     "place 1 clock 0; place 2 clock 0; place 3 clock 10; place 4 clock 20; place 5 clock 30; place 6 clock 40; refused 7 Idle; place 6 clock 40 serial 6 net 8 torn 0 pending 0 held 0";
 
-/// A row a line: the formats, the scene, the script, and what is written for it. A text and no table, since the prover takes a text as
-/// one value.
+/// A row a line: the formats, the scene, the script, and what is written for it. A text and no
+/// table, since the prover takes a text as one value.
 const ROWS: &str =
     r#"both | two_pings | step; step; step; step; step; step; step; look | place 1 clock 0; place 2 clock 0; place 3 clock 10; place 4 clock 20; place 5 clock 30; place 6 clock 40; refused 7 Idle; place 6 clock 40 serial 6 net 8 torn 0 pending 0 held 0
 # 2917185654 mod 10 is 4, and 3848953152 mod 10 is 2.

@@ -14,7 +14,8 @@ pub const FORMAT_2: &str = "format = 2\ndisk_latency = 0\n";
 /// A disk that takes 5 ms for a sync.
 pub const SLOW_DISKS: &str = "format = 2\ndisk_latency = 5\n";
 
-/// How many events lie between two checkpoints, and how many can be undone by their records. None changes a byte of what is written.
+/// How many events lie between two checkpoints, and how many can be undone by their records. None
+/// changes a byte of what is written.
 const GRAINS: [(u32, u32); 15] = [
     (1, 1),
     (1, 2),
@@ -33,8 +34,9 @@ const GRAINS: [(u32, u32); 15] = [
     (1024, 4096),
 ];
 
-/// What differs from one scenario to another: its protocol, its latencies (ms) and its loss in a thousand, its servers, how many hosts
-/// these and its client `w` are, the operations of this client, and its links.
+/// What differs from one scenario to another: its protocol, its latencies (ms) and its loss in a
+/// thousand, its servers, how many hosts these and its client `w` are, the operations of this
+/// client, and its links.
 #[derive(Clone, Copy)]
 pub struct Scene {
     pub protocol: &'static str,
@@ -108,7 +110,8 @@ fn push_client(
     write!(text, "[[client]]\nname = \"w\"\nops = {ops}\n")
 }
 
-/// The scenario, with the lines for its format, this many events between two checkpoints, and this many that can be undone.
+/// The scenario, with the lines for its format, this many events between two checkpoints, and this
+/// many that can be undone.
 pub fn scenario(
     alloc: Global,
     format: &str,
@@ -186,8 +189,8 @@ fn answers_of(alloc: Global, hosts: u32, parted: &str) -> Result<String, AllocEr
     Ok(answers)
 }
 
-/// Plays the lines of a script in each of these formats, and wants these lines, whatever the checkpoint and the window. Then back to
-/// the start, where all is as it was.
+/// Plays the lines of a script in each of these formats, and wants these lines, whatever the
+/// checkpoint and the window. Then back to the start, where all is as it was.
 pub fn plays(
     rt: &impl Abort,
     alloc: Global,

@@ -1,4 +1,5 @@
-//! Plays whose reader gives, and whose writer takes, a byte at a time, and fails at each call in turn.
+//! Plays whose reader gives, and whose writer takes, a byte at a time, and fails at each call in
+//! turn.
 ghost use Rattle.std.specs.Prelude.{codes, [], ◌∷◌};
 
 use super::ports::{Narrow, Pieces};
@@ -10,7 +11,8 @@ use std::io;
 use std::io::Read;
 use std::process::Abort;
 
-/// A scenario of the server `a` and the client `w`, which sends two pings of 10 ms, and the line `---`: 14 lines.
+/// A scenario of the server `a` and the client `w`, which sends two pings of 10 ms, and the line
+/// `---`: 14 lines.
 pub const HEAD: &[u8] =
     b"format = 1\nseed = \"0000000000000000000000000000000000000000000000000000000000000000\"\nprotocol = \"echo\"\ntick = 100\nlatency_min = 10\nlatency_max = 10\nloss = 0\nservers = [\"a\"]\ncheckpoint = 4\nwindow = 2\n[[client]]\nname = \"w\"\nops = 2\n---\n";
 
@@ -20,7 +22,8 @@ const FIRST_RUN: &[u8] = b"step\nstep\nstep\nstep\nstep\nstep\nstep\nlook\n";
 const FIRST_ANSWERS: &[u8] =
     b"place 1 clock 0\nplace 2 clock 0\nplace 3 clock 10\nplace 4 clock 20\nplace 5 clock 30\nplace 6 clock 40\nrefused 7 Idle\nplace 6 clock 40 serial 6 net 8 torn 0 pending 0 held 0\n";
 
-/// A scenario of a primary, a backup and a client, on disks that take 5 ms; the line `---`; and two lines that are passed over.
+/// A scenario of a primary, a backup and a client, on disks that take 5 ms; the line `---`; and two
+/// lines that are passed over.
 const DISKS_HEAD: &[u8] = br#"format = 2
 seed = "000102030405060708090a0b0c0d0e0f101112131415161718191a1b1c1d1e1f"
 protocol = "primary_backup"
@@ -40,7 +43,8 @@ ops = 2
 
 "#;
 
-/// A script with each command, of which some are refused, on three branches. Its last line has no end.
+/// A script with each command, of which some are refused, on three branches. Its last line has no
+/// end.
 const EACH_COMMAND: &[u8] = br#"look next
 step
 run 5
@@ -157,7 +161,8 @@ struct Example {
     head: &'static [u8],
     script: &'static [u8],
     answers: &'static [u8],
-    /// How often the answers are flushed where each byte takes a read: before each line of the script, and at the end.
+    /// How often the answers are flushed where each byte takes a read: before each line of the
+    /// script, and at the end.
     flushes: usize,
 }
 
@@ -185,8 +190,8 @@ impl Example {
         self.head.len().saturating_add(self.script.len())
     }
 
-    /// How many lines answer what this many reads of a byte gave: one for each whole line, and one for the
-    /// rest if the reads came to the end.
+    /// How many lines answer what this many reads of a byte gave: one for each whole line, and one
+    /// for the rest if the reads came to the end.
     fn answered_lines(&self, reads: usize) -> usize {
         if reads > self.len() {
             return line_ends(self.answers);
@@ -218,7 +223,8 @@ fn plays_a_byte_at_a_time(rt: HostRuntime) {
     }
 }
 
-/// A play whose reader fails after this many reads of a byte: whole lines are written, as many as there are to be, and all flushed.
+/// A play whose reader fails after this many reads of a byte: whole lines are written, as many as
+/// there are to be, and all flushed.
 fn a_read_fails<A: Abort + Drop>(rt: &A, alloc: Global, example: &Example, reads: usize) {
     let mut reader = example.reader();
     reader.reads_left = reads;
@@ -252,7 +258,8 @@ fn answers_whole_lines_up_to_a_failed_read(rt: HostRuntime) {
     }
 }
 
-/// A play, whose reader gives this many bytes a read, ends as its writer fails after this many writes of a byte.
+/// A play, whose reader gives this many bytes a read, ends as its writer fails after this many
+/// writes of a byte.
 fn a_write_fails<A: Abort + Drop>(
     rt: &A,
     alloc: Global,
@@ -274,7 +281,8 @@ fn a_write_fails<A: Abort + Drop>(
     assert_eq!(rt; status, want, "at write {writes}");
 }
 
-/// Each write of the answers fails in turn, where they are written line by line, and where they are gathered.
+/// Each write of the answers fails in turn, where they are written line by line, and where they are
+/// gathered.
 #[test]
 fn stops_at_a_failed_write(rt: HostRuntime) {
     for (example, most) in [(FIRST, 1), (EACH, 1), (FIRST, 100_000)] {
@@ -304,7 +312,8 @@ fn a_flush_fails<A: Abort + Drop>(
     assert!(rt; writer.took(want, want.len()), "at flush {flushes}");
 }
 
-/// Where the script takes a read, where its next line does, at the end of the input, and for a fault.
+/// Where the script takes a read, where its next line does, at the end of the input, and for a
+/// fault.
 #[test]
 fn stops_at_a_failed_flush(rt: HostRuntime) {
     let alloc = rt.alloc();

@@ -1,4 +1,5 @@
-//! The plays of the folder `examples` in which a crash tears a write, and what they answer, byte by byte.
+//! The plays of the folder `examples` in which a crash tears a write, and what they answer, byte by
+//! byte.
 use super::examples::plays;
 
 const TORN_COMMIT: &str =

@@ -9,7 +9,8 @@ use sim_scenario::ScenarioText;
 use std::alloc::Global;
 use std::test::Fail;
 
-/// The lines of a text of format 2, whose syncs take no time, with a link from `w` to `a` and room for more.
+/// The lines of a text of format 2, whose syncs take no time, with a link from `w` to `a` and room
+/// for more.
 pub const LINES_2: &str = r#"
 @format
 format = 2
@@ -47,8 +48,9 @@ loss = 0
 
 "#;
 
-/// Links that follow another: unknown keys, missing ones, wrong types and numbers out of their ranges, in the order of the keys and
-/// a table before the next; then a source or target that is no host, or both one; then a pair twice, also where both say the same.
+/// Links that follow another: unknown keys, missing ones, wrong types and numbers out of their
+/// ranges, in the order of the keys and a table before the next; then a source or target that is no
+/// host, or both one; then a pair twice, also where both say the same.
 pub const SECOND_LINKS: &str = r#"
 > 0 @more
 [[link]]

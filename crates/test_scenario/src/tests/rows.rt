@@ -1,5 +1,6 @@
-//! Tables of texts. A row says the number and the key of the fault that is wanted, or 0 where the text is a scenario, and then
-//! of each changed line the key of the line and what stands in its place.
+//! Tables of texts. A row says the number and the key of the fault that is wanted, or 0 where the
+//! text is a scenario, and then of each changed line the key of the line and what stands in its
+//! place.
 
 /// Texts that are not TOML.
 pub const NOT_TOML: &str = r#"
@@ -418,9 +419,10 @@ name = "a0"
 ops = 2
 "#;
 
-/// Two lines changed, each a fault: the first fault of the order is answered. What is not TOML comes before all others, an unknown
-/// key of the text before one of a client, and that before a missing key and a wrong type; then the keys in the order of the
-/// table; of servers their types, their number and their names; clients before equal names.
+/// Two lines changed, each a fault: the first fault of the order is answered. What is not TOML
+/// comes before all others, an unknown key of the text before one of a client, and that before a
+/// missing key and a wrong type; then the keys in the order of the table; of servers their types,
+/// their number and their names; clients before equal names.
 pub const PAIRS: &str = r#"
 > 2 text @format
 
@@ -517,7 +519,8 @@ name = "a"
 ops = 2
 "#;
 
-/// Clients with two faults: the tables in order, in each an unknown key, then its name, then its operations.
+/// Clients with two faults: the tables in order, in each an unknown key, then its name, then its
+/// operations.
 pub const CLIENTS: &str = r#"
 > 3 client @client
 [[client]]

@@ -33,7 +33,8 @@ name = "w"
 ops = 2
 "#;
 
-/// What stands in place of a key's line, where it is changed: each change is the key after an `@`, and below it the lines.
+/// What stands in place of a key's line, where it is changed: each change is the key after an `@`,
+/// and below it the lines.
 fn changed<'a>(changes: &'a str, key: &str) -> Option<&'a str> {
     for change in changes.split('@') {
         if let Some((named, lines)) = change.split_once('\n') {
@@ -88,8 +89,8 @@ pub fn is_answered(alloc: Global, text: &str, wanted: &str) -> bool {
     }
 }
 
-/// Each row of a table holds: the text with its changes is answered as it says. A row stands after a `>`, what is wanted
-/// before its first `@`.
+/// Each row of a table holds: the text with its changes is answered as it says. A row stands after
+/// a `>`, what is wanted before its first `@`.
 pub fn rows_hold(alloc: Global, lines: &str, table: &str) -> Result<(), Fail> {
     for row in table.split('>') {
         if let Some((wanted, changes)) = row.split_once('@') {

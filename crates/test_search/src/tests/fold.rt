@@ -14,7 +14,8 @@ fn next(world: &World<Echo<Tally>>, client: u16) -> u64 {
     world.probe(client, 0).unwrap_or(0)
 }
 
-/// A client's next operation at each place of the run of this many steps, or of as many as can happen.
+/// A client's next operation at each place of the run of this many steps, or of as many as can
+/// happen.
 pub fn nexts(
     alloc: Global,
     scenario: &Scenario,
@@ -49,7 +50,8 @@ pub fn first_above(seen: &[u64], lo: u32, hi: u32, most: u64) -> Option<u32> {
     }
 }
 
-/// The first seed of `count` from number 0 on whose run of this many steps has such a place, and its first.
+/// The first seed of `count` from number 0 on whose run of this many steps has such a place, and
+/// its first.
 pub fn first_seed(
     alloc: Global,
     scenario: &Scenario,

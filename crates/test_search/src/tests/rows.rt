@@ -58,8 +58,8 @@ impl Gate for Counts {
     }
 }
 
-// The first place at which the client's next operation is above this number, as this many workers find
-// it. Each of the two pieces is entered and left once.
+// The first place at which the client's next operation is above this number, as this many workers
+// find it. Each of the two pieces is entered and left once.
 fn finds<R: Threads + Wait + Sync + Abort>(
     rt: &R,
     alloc: Global,

@@ -11,7 +11,8 @@ use sim_world::{Event, Scenario};
 use std::alloc::Global;
 use std::test::Fail;
 
-/// One server and one client of echo, which has two operations; each message takes 10 ms. A checkpoint stands at each fourth event.
+/// One server and one client of echo, which has two operations; each message takes 10 ms. A
+/// checkpoint stands at each fourth event.
 pub fn echoes() -> Result<Scenario, Fail> {
     let ways = Ways::all(Way {
         latency_min: 10,
@@ -26,8 +27,9 @@ pub fn echoes() -> Result<Scenario, Fail> {
     Ok(Scenario::new([0; 32], 100, ways, 0, setup, 4, 2)?)
 }
 
-/// One server of echo and its clients, of a thousand operations each; a message takes 1 to 100 ms, and this many in a thousand are
-/// lost: a client whose message was lost goes no further. Checkpoints are as far apart as can be.
+/// One server of echo and its clients, of a thousand operations each; a message takes 1 to 100 ms,
+/// and this many in a thousand are lost: a client whose message was lost goes no further.
+/// Checkpoints are as far apart as can be.
 pub fn crowd(hosts: u16, loss: u32) -> Result<Scenario, Fail> {
     let ways = Ways::all(Way {
         latency_min: 1,

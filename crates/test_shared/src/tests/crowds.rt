@@ -135,8 +135,8 @@ fn are_all_entries(history: &History<Echoes>, kept: &[Receipt]) -> bool {
     })
 }
 
-// On a branch of its own each session is where its own commands led: a step ahead, and from its first step back on at the start,
-// where a step is refused. Session 7 made the branches first.
+// On a branch of its own each session is where its own commands led: a step ahead, and from its
+// first step back on at the start, where a step is refused. Session 7 made the branches first.
 fn is_led(receipt: &Receipt) -> bool {
     let before = if receipt.session == 7 { 7 } else { 0 };
     let place = match receipt.number.wrapping_sub(before) {

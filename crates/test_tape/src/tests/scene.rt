@@ -31,7 +31,8 @@ pub enum Act {
     Idle,
     /// This many turns, copies and undos were counted.
     Counted((u64, u64, u64)),
-    /// A jump to a place takes this many turns, copies and undos, and ends at this time of the clock.
+    /// A jump to a place takes this many turns, copies and undos, and ends at this time of the
+    /// clock.
     Jump(u32, (u64, u64, u64), u64),
 }
 
@@ -50,7 +51,8 @@ fn are_six_steps(events: &EventList) -> Result<(), Fail> {
     same(&events.get(6), &None, "past the last event")
 }
 
-// A frozen run has the limits of a scene at intervals of four events, and the events of the first run.
+// A frozen run has the limits of a scene at intervals of four events, and the events of the first
+// run.
 fn is_the_first_run<N: Node>(alloc: Global, frozen: &Frozen<N>) -> Result<(), Fail> {
     same(&frozen.interval(), &4, "interval")?;
     same(&frozen.hosts(), &2, "hosts")?;

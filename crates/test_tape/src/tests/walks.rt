@@ -9,8 +9,8 @@ use std::mem;
 use std::test::Fail;
 use test_support::{Counts, Dice, event_at_random, looks};
 
-/// A tape, and what it is to show: the plain run of its events, the place, whether it is warm, and by how many events at least it can
-/// go back by their records.
+/// A tape, and what it is to show: the plain run of its events, the place, whether it is warm, and
+/// by how many events at least it can go back by their records.
 #[derive(Drop)]
 pub struct Walk {
     alloc: Global,
@@ -133,8 +133,8 @@ impl Walk {
             .running(place.saturating_sub(place % self.interval.max(1)))
     }
 
-    // This is the work of going to a place by these means: just the undos, at most a turn for each event, or at most what makes the
-    // world anew from its checkpoint.
+    // This is the work of going to a place by these means: just the undos, at most a turn for each
+    // event, or at most what makes the world anew from its checkpoint.
     fn is_work_of(&self, to: u32, means: Means, work: (u64, u64, u64)) -> Result<(), Fail> {
         let (turns, copies, undos) = work;
         match means {
@@ -245,7 +245,8 @@ impl Walk {
         is_work(seen, turns, copies, 0, "the work of making a world anew")
     }
 
-    // Goes on with a tape of the frozen run, at a place. The frozen run stays as it was when its tape went on.
+    // Goes on with a tape of the frozen run, at a place. The frozen run stays as it was when its
+    // tape went on.
     fn freeze(&mut self, to: u32) -> Result<(), Fail> {
         let len = self.plain.len();
         let before = self.meter.counted();

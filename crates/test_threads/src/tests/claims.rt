@@ -1,5 +1,6 @@
 //! Searches over a row of numbers, with gates that count and that wait.
-ghost use Rattle.std.specs.Prelude.{◌≡◌, ◌≤◌, ◌==◌, length, ltb, cond, Some, None, slice_index, vec_len, IfOk};
+ghost use Rattle.std.specs.Prelude.{◌≡◌, ◌≤◌, ◌==◌, length, ltb, cond, Some, None, slice_index};
+ghost use Rattle.std.specs.Prelude.{vec_len, IfOk};
 
 use sim_claims::{Gate, NoMemory, OpenGate, Pieces, least};
 use std::alloc::Global;
@@ -21,7 +22,8 @@ struct Row<'a> {
 impl<'a> Pieces<()> for Row<'a> {
     ghost count = { λ r. length r.numbers.now };
 
-    ghost finding = { λ r i. cond (ltb r.most (slice_index r.numbers.now i)) (Some (slice_index r.numbers.now i)) None };
+    ghost finding = { λ r i. cond (ltb r.most (slice_index r.numbers.now i))
+        (Some (slice_index r.numbers.now i)) None };
 
     fn count(&self) -> u64 {
         self.numbers.len() as u64

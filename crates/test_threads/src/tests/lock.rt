@@ -1,5 +1,6 @@
 //! Sessions at a plain list of notes.
-ghost use Rattle.std.specs.Prelude.{◌≡◌, ◌≤◌, ◌<◌, ◌+◌, ℕ, List, [], ◌++◌, ◌∷◌, ◌==◌, length, All, IfOk, OnOk, count_by, IsTrue};
+ghost use Rattle.std.specs.Prelude.{◌≡◌, ◌≤◌, ◌<◌, ◌+◌, ℕ, List, [], ◌++◌, ◌∷◌, ◌==◌, length, All};
+ghost use Rattle.std.specs.Prelude.{IfOk, OnOk, count_by, IsTrue};
 ghost use Rattle.sim_lock.specs.Entries.{HasEntry};
 ghost use Rattle.sim_lock.specs.Seats.{IsOf, IsReceipt};
 ghost use Rattle.test_threads.specs.declared.tests.lock.Ask.TheVariants.{Freeze};
@@ -173,7 +174,8 @@ fn ask_all<R: Wait>(
 
 // Each receipt is an entry of the history.
 fn find_all(history: &History<Plain>, receipts: &[Note]) -> bool
-    requires { All (λ r. HasEntry (λ e. e.session) (λ e. e.number) history.now.entries.items r) receipts.now }
+    requires { All (λ r. HasEntry (λ e. e.session) (λ e. e.number) history.now.entries.items r)
+        receipts.now }
 {
     for receipt in receipts {
         if history.entry(receipt) != receipt {
@@ -190,8 +192,10 @@ fn ask_both<R: Threads + Wait + Sync>(
     first: &[Ask],
     second: &[Ask],
 ) -> Result<(History<Plain>, Vec<Note>, Vec<Note>), AllocError>
-    ensures one { IfOk result (λ r. All (λ e. HasEntry (λ e. e.session) (λ e. e.number) r.0.entries.items e) r.1.items) }
-    ensures two { IfOk result (λ r. All (λ e. HasEntry (λ e. e.session) (λ e. e.number) r.0.entries.items e) r.2.items) }
+    ensures one { IfOk result (λ r. All (λ e. HasEntry (λ e. e.session)
+        (λ e. e.number) r.0.entries.items e) r.1.items) }
+    ensures two { IfOk result (λ r. All (λ e. HasEntry (λ e. e.session)
+        (λ e. e.number) r.0.entries.items e) r.2.items) }
 {
     let (lock, mut seats) = Lock::new(alloc, Plain::new(alloc), 2)?;
     let Some(one) = seats.pop() else {

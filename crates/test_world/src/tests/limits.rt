@@ -34,8 +34,8 @@ fn summary(clock: u64, serial: u64, net: u64, torn: u64, pending: u32, held: u32
     }
 }
 
-// What is seen of a run whose client starts anew this many times, while all that it sends is held but
-// the first message.
+// What is seen of a run whose client starts anew this many times, while all that it sends is held
+// but the first message.
 fn holds(alloc: Global, times: u32) -> Result<View, Fail> {
     let mut meter = Tally::new();
     let world = World::<Echo<Tally>>::start(alloc, &TWO_ECHOES.scenario()?, &mut meter)?;

@@ -6,9 +6,9 @@ use sim_node::{Effects, Input, Meter, NoMemory, Node, Setup};
 use std::alloc::Global;
 use std::marker::{Model, PhantomData};
 
-/// A host that writes 11 22 33 44 (hex) as it starts, at the offset that the operations of host 2 give. What it asks for further
-/// goes by the operations of host 0:
-/// at 0 nothing, at 1 a sync, else a sync and a timer, at which it does all this again.
+/// A host that writes 11 22 33 44 (hex) as it starts, at the offset that the operations of host 2
+/// give. What it asks for further goes by the operations of host 0: at 0 nothing, at 1 a sync, else
+/// a sync and a timer, at which it does all this again.
 #[derive(Drop)]
 pub struct Scribe<T> {
     setup: Setup,
