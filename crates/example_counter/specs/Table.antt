@@ -31,8 +31,7 @@ boot setup me bytes =
     record {
       setup = setup;
       me = me;
-      role = if is_server setup me then Idle
-          (count_on bytes) else Client 0;
+      role = if is_server setup me then Idle (count_on bytes) else Client 0;
     }
 
 abbrev pub in_role : Role → State → State
@@ -46,8 +45,7 @@ nothing state = (state, [])
 abbrev pub asking : ℕ → State → Reaction
 asking n state = (
   in_role (Client n) state,
-  Effect.Send (state.me % state.setup.servers) (Add n)
-      ∷ Effect.Timer 500 ∷ [],
+  Effect.Send (state.me % state.setup.servers) (Add n) ∷ Effect.Timer 500 ∷ [],
 )
 
 -- the answer to the n-th has come; after the last operation the client is done

@@ -231,8 +231,7 @@ abbrev pub verified : ℕ → ℕ → Standing → Standing
 verified n commit standing =
     record standing {
       matched = max standing.matched n;
-      commit = max standing.commit
-          (min commit n);
+      commit = max standing.commit (min commit n);
     }
 
 abbrev pub acknowledges : ℕ → Bool → ℕ → Standing → List (Effect Message)
@@ -269,8 +268,7 @@ abbrev pub lacks : Context → ℕ → ℕ → Server → Reaction Server Messag
 lacks here from prev s =
     let new = follower_of from s.standing in (
       with_standing new s,
-      timeout here.word ++ acknowledges from false
-          (min s.standing.len (prev - 1)) new,
+      timeout here.word ++ acknowledges from false (min s.standing.len (prev - 1)) new,
     )
 
 -- it follows the leader of a later term

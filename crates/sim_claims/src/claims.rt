@@ -50,8 +50,7 @@ impl Claims {
             < worker.old.me.0.parts }
         ensures of { worker.new.table_id ≡ self.now.table.shared.table_id }
         ensures drawn { worker.new.me ≡ (
-          hand worker.old.me.0.parts
-              (worker.old.me.0.drawn ++ result ∷ []),
+          hand worker.old.me.0.parts (worker.old.me.0.drawn ++ result ∷ []),
           worker.old.me.1,
         ) }
         ensures later { length worker.old.me.0.drawn ≤ result }

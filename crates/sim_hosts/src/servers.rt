@@ -17,8 +17,7 @@ pub fn send_to_all<M: Copy + Drop>(first: u16, setup: &Setup, msg: M, effects: &
     requires hosts { setup.now.servers ≤ effects.old.hosts }
     ensures room { length effects.new.list ≤ length effects.old.list + setup.now.servers }
     ensures sent { effects.new ≡ record effects.old {
-      list = effects.old.list
-          ++ to_all (servers_from first setup.now) msg;
+      list = effects.old.list ++ to_all (servers_from first setup.now) msg;
     } }
 {
     for host in first..setup.servers {
@@ -39,8 +38,7 @@ pub fn send_to_missing<M: Copy + Drop>(
     requires hosts { setup.now.servers ≤ effects.old.hosts }
     ensures room { length effects.new.list ≤ length effects.old.list + setup.now.servers }
     ensures sent { effects.new ≡ record effects.old {
-      list = effects.old.list
-          ++ to_all (not_in (servers_from first setup.now) set) msg;
+      list = effects.old.list ++ to_all (not_in (servers_from first setup.now) set) msg;
     } }
 {
     for host in first..setup.servers {

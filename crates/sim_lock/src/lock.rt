@@ -136,14 +136,12 @@ impl<B: Kept> Lock<B> {
         requires table { rest.old.table_id ≡ self.now.table.shared.table_id }
         requires next { (session < sessions_of self.now)
             × (rest.old.me ≡ (
-              fresh (told B.scenario self.now) session
-                  (sessions_of self.now - session),
+              fresh (told B.scenario self.now) session (sessions_of self.now - session),
               [],
             )) }
         ensures table { rest.new.table_id ≡ self.now.table.shared.table_id }
         ensures next { rest.new.me ≡ (
-          fresh (told B.scenario self.now) (session + 1)
-              (sessions_of self.now - (session + 1)),
+          fresh (told B.scenario self.now) (session + 1) (sessions_of self.now - (session + 1)),
           [],
         ) }
         ensures seat { IsNew self.now (told B.scenario self.now) session result }

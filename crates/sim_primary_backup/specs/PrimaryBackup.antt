@@ -108,8 +108,7 @@ put_by from i val (Some r) p =
     if is_of_another from r
     then (
       record p {
-        waiting = slice_set p.waiting from
-            (Some (record { number = i; val = val }));
+        waiting = slice_set p.waiting from (Some (record { number = i; val = val }));
       },
       [],
     )
@@ -142,8 +141,7 @@ abbrev pub primary_timer : Option Request → Setup → Primary → Reaction Pri
 primary_timer None setup p = (p, [])
 primary_timer (Some r) setup p = (
   p,
-  (if is_settled p.store.progress.unsure then spread r setup p else []) ++ Effect.Timer 100
-      ∷ [],
+  (if is_settled p.store.progress.unsure then spread r setup p else []) ++ Effect.Timer 100 ∷ [],
 )
 
 abbrev pub settled : Option Request → Setup → Primary → Reaction Primary BackupMsg

@@ -98,8 +98,7 @@ impl Primary {
         ensures state { self.new ≡ (begun client put.number put.val self.old).0 }
         ensures placed { IsPlacedPrimary setup.now.hosts self.new.store.progress self.new.current }
         ensures effects { effects.new ≡ record effects.old {
-          list = effects.old.list
-              ++ (begun client put.number put.val self.old).1;
+          list = effects.old.list ++ (begun client put.number put.val self.old).1;
         } }
         ensures cell { IsPlacedCell result }
         ensures back { restored_cell result self.new.store.cells ≡ self.old.store.cells }
@@ -121,8 +120,7 @@ impl Primary {
     fn put_waiter(&mut self, host: u16, waiter: Option<Waiter>) -> SlotBefore<Waiter>
         requires { host < 32 }
         ensures state { self.new ≡ record self.old {
-          waiting = slice_set self.old.waiting host
-              waiter;
+          waiting = slice_set self.old.waiting host waiter;
         } }
         ensures back { restored result self.new.waiting ≡ self.old.waiting }
         ensures slot { IsPlacedSlot result }
@@ -138,8 +136,7 @@ impl Primary {
         ensures state { self.new ≡ (begun_lowest setup.now self.old).0 }
         ensures placed { IsPlacedPrimary setup.now.hosts self.new.store.progress self.new.current }
         ensures effects { effects.new ≡ record effects.old {
-          list = effects.old.list
-              ++ (begun_lowest setup.now self.old).1;
+          list = effects.old.list ++ (begun_lowest setup.now self.old).1;
         } }
         ensures changes { IsPlacedChanges result }
         ensures back { primary_before self.old.store.progress self.old.current result self.new

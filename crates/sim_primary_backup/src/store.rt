@@ -108,8 +108,7 @@ impl Store {
         ensures state { self.new ≡ with_put n place val self.old }
         ensures placed { IsPlacedStore self.new.progress }
         ensures effects { effects.new ≡ record effects.old {
-          list = effects.old.list
-              ++ saved self.new;
+          list = effects.old.list ++ saved self.new;
         } }
         ensures held { result ≡ before.Held place (slice_index self.old.cells place) }
         ensures cell { IsPlacedCell result }

@@ -24,8 +24,7 @@ impl Conduct {
     pub fn force(&self, effects: &mut Effects<CommitMsg>)
         requires { length effects.old.list < 38 }
         ensures { effects.new ≡ record effects.old {
-          list = effects.old.list
-              ++ forced_by_coordinator self.now;
+          list = effects.old.list ++ forced_by_coordinator self.now;
         } }
     {
         force(self.transaction, self.commits as u8, self.first, effects);
@@ -37,8 +36,7 @@ impl Conduct {
         requires room { length effects.old.list < 8 }
         requires hosts { effects.old.hosts ≡ setup.now.hosts }
         ensures { effects.new ≡ record effects.old {
-          list = effects.old.list
-              ++ telling setup.now self.now;
+          list = effects.old.list ++ telling setup.now self.now;
         } }
     {
         send_to_all(1, setup, CommitMsg::Decide(true, self.transaction), effects);

@@ -58,8 +58,7 @@ impl Coordinator {
     fn put(&mut self, host: u16, number: Option<u64>) -> SlotBefore<u64>
         requires { host < 32 }
         ensures state { self.new ≡ record self.old {
-          waiting = slice_set self.old.waiting host
-              number;
+          waiting = slice_set self.old.waiting host number;
         } }
         ensures back { restored result self.new.waiting ≡ self.old.waiting }
         ensures host { IsPlacedSlot result }

@@ -52,8 +52,7 @@ fn server_bytes(transaction: u64, byte: u8, first: First) -> [u8; 10]
 pub fn force(transaction: u64, byte: u8, first: First, effects: &mut Effects<CommitMsg>)
     requires { length effects.old.list < 38 }
     ensures { effects.new ≡ record effects.old {
-      list = effects.old.list
-          ++ forced transaction byte first;
+      list = effects.old.list ++ forced transaction byte first;
     } }
 {
     effects.write(0, &server_bytes(transaction, byte, first));

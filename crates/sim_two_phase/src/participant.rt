@@ -75,8 +75,7 @@ impl Participant {
           unsure = raised self.old.unsure;
         } }
         ensures effects { effects.new ≡ record effects.old {
-          list = effects.old.list
-              ++ forced_by_participant self.new;
+          list = effects.old.list ++ forced_by_participant self.new;
         } }
     {
         *self = Participant {
