@@ -1,5 +1,5 @@
--- The tables of the counter: a client asks a server to add one, the server saves its count and
--- tells the client.
+-- The tables of the counter: a client asks a server to add one; the server saves its count and
+-- answers the client.
 use Rattle.std.specs.Prelude.{ℕ, ◌+◌, ◌-◌, ◌%◌, ◌^◌, ◌==◌, nat_le, ◌&&◌, min, length, slice_index}
 use Rattle.std.specs.Prelude.{List, [], ◌∷◌, if◌then◌else◌}
 use Rattle.std.specs.Int.{w64, to_le_bytes, from_le_bytes}

@@ -1,6 +1,6 @@
 -- The register of Attiya, Bar-Noy and Dolev with several writers: each operation asks a majority of
--- the servers, and then stores at one. A server answers for what it stores only after its disk
--- reports that the write is stable.
+-- the servers, and then stores at a majority. A server answers for what it stores only after its
+-- disk reports that the write is stable.
 use Rattle.std.specs.Prelude.{ℕ, ◌+◌, ◌*◌, ◌/◌, ◌%◌, ◌==◌, nat_lt, nat_le, Bool, false, not, ◌&&◌}
 use Rattle.std.specs.Prelude.{◌||◌, List, [], ◌∷◌, ◌++◌, Option, None, Some, if◌then◌else◌}
 use Rattle.sim_node.specs.declared.Setup.{Setup}

@@ -108,7 +108,7 @@ fn visit<M, S: Pieces<M>, G: Gate, R: Wait>(
     looked
 }
 
-// Claims pieces and looks at them until none is left.
+// Claims pieces and scans them until none is left. Returns the least of them with a finding.
 fn work<M, S: Pieces<M>, G: Gate, R: Wait>(
     rt: &R,
     claims: &Claims,
@@ -146,7 +146,7 @@ fn both(a: Result<Found, NoMemory>, b: Result<Found, NoMemory>) -> Result<Found,
     }
 }
 
-// Runs one worker to its end.
+// Runs one worker to its end. Returns it and the least of its pieces with a finding.
 fn alone<M: Drop, S: Pieces<M>, G: Gate, R: Wait>(
     rt: &R,
     claims: &Claims,

@@ -63,7 +63,7 @@ pub fn plan_of(faults: Option<u64>, events: u64, quiet: u64, at_end: bool) -> Op
     })
 }
 
-// Returns the events of a run whose plan is within the limits. Fails only if memory is wanted.
+// Returns the events of a run whose plan is within the limits. Fails only for want of memory.
 fn events_of<N: Node<Meter = Tally>>(
     alloc: Global,
     opened: &Opened,
@@ -102,7 +102,7 @@ fn input_with<N: Node<Meter = Tally>>(
     input_of(alloc, scenario.as_str(), &opened.names, events.as_slice())
 }
 
-// Returns what is written of a run in a scenario that was read. Fails only if memory is wanted.
+// Returns what is written of a run in a scenario that was read. Fails only for want of memory.
 fn export_of<N: Node<Meter = Tally>>(
     alloc: Global,
     opened: &Opened,

@@ -30,7 +30,7 @@ impl<T: fmt::Debug> fmt::Debug for Boxed<T> {
 }
 
 impl<T: Copy> Boxed<T> {
-    /// Puts the state on the heap. Fails only if memory is wanted.
+    /// Puts the state on the heap. Fails only for want of memory.
     pub fn new(alloc: Global, state: T) -> Result<Boxed<T>, NoMemory>
         ensures { IfOk result (λ boxed. boxed ≡ state) }
     {

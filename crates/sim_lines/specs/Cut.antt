@@ -27,7 +27,7 @@ whole_lines bytes = whole_lines_of_parts (parts bytes)
 abbrev pub is_marker : List ℕ → Bool
 is_marker line = bytes_eq line (codes "---")
 
--- the scenario's text, and what follows the marker line
+-- the scenario's text, and the bytes after the marker line
 abbrev pub head_of_parts : List (List ℕ) → List ℕ × List ℕ
 head_of_parts [] = ([], [])
 head_of_parts (part ∷ []) = if is_marker part then ([], []) else (part, [])

@@ -7,8 +7,7 @@ abbrev pub AppendsPart : Option (List ℕ) → Option (List ℕ) → List ℕ �
 AppendsPart old new text =
     (part : List ℕ) × (after : List ℕ) × (text ≡ part ++ after) × Appends old new part
 
--- The writer received bytes of the waiting ones and the text, in order from the front; the rest is
--- left.
+-- The writer received a front part of the waiting bytes and the text after them; the rest is left.
 pub record Passes (old new : Option (List ℕ)) (waiting text left : List ℕ) : Type 0 where
   pub part : List ℕ
   pub appended : Appends old new part

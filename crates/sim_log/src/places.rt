@@ -20,7 +20,7 @@ pub struct Places {
 }
 
 impl Places {
-    /// Walks a run from its start. Fails only if memory is wanted.
+    /// Walks a run from its start. Fails only for want of memory.
     pub fn new<N: Node>(
         alloc: Global,
         run: &Frozen<N>,

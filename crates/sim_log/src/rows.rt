@@ -215,7 +215,7 @@ fn state_word(state: LinkState) -> &'static str {
 }
 
 /// Returns the rows of an event: the event itself, and then its changes in order, without those
-/// that [`rows_after`] adds. Fails only if memory is wanted.
+/// that [`rows_after`] adds. Fails only for want of memory.
 pub fn rows_of<N: Node + fmt::Debug>(
     alloc: Global,
     told: &Told<'_, N>,
@@ -239,7 +239,7 @@ where
 }
 
 /// Returns the rows that the world after an event adds: for a bounce, the node that booted and its
-/// start. Fails only if memory is wanted.
+/// start. Fails only for want of memory.
 pub fn rows_after<N: Node + fmt::Debug>(
     alloc: Global,
     event: Event,

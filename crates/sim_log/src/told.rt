@@ -28,7 +28,7 @@ pub struct Told<'a, N: Node> {
 impl<'a, N: Node> Told<'a, N> {
     /// Gathers what the event will do. For a step in a world of age 65,536, which can have no
     /// further event, it gathers nothing. If a node reacts, counts one copy of a node and one turn.
-    /// Fails only if memory is wanted.
+    /// Fails only for want of memory.
     pub fn new(
         alloc: Global,
         world: &'a World<N>,
@@ -77,7 +77,7 @@ fn crashed_host<N: Node>(world: &World<N>, event: Event) -> Option<u16>
 fn lost_by<N: Node>(alloc: Global, world: &World<N>, host: u16) -> Result<Vec<u64>, NoMemory> {
     let mut lost = Vec::new(alloc);
     let mut from = 0;
-    // Each turn passes a serial.
+    // Each iteration passes a serial.
     for _ in 0..world.next_serial() {
         let Some(serial) = world.next_pending(from) else {
             break;

@@ -174,7 +174,7 @@ fn is_held<N: Node>(cond: &Cond, world: &World<N>) -> bool {
     }
 }
 
-/// Returns the page of a run. Fails only if memory is wanted.
+/// Returns the page of a run. Fails only for want of memory.
 pub(crate) fn page_of<N: Node<Meter = Tally> + Debug>(
     frame: &Frame<'_>,
     run: &Frozen<N>,

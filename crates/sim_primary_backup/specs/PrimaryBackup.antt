@@ -67,7 +67,7 @@ abbrev pub primary_at_boot : List ℕ → Primary
 primary_at_boot bytes =
     record { store = store_on bytes; current = None; waiting = replicate 32 None }
 
--- it starts: it spreads the last put that it applied again, which may have been lost
+-- it starts: it spreads the last applied put again, since that put may have been lost
 abbrev pub started : Setup → Primary → Reaction Primary BackupMsg
 started setup p =
     if nat_lt 0 p.store.progress.applied then (

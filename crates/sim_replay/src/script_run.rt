@@ -66,7 +66,7 @@ fn first_run<N: Node>(alloc: Global, book: &Book<N>) -> Result<Frozen<N>, Status
     }
 }
 
-// Copies an event list to a vector. Fails only if memory is wanted.
+// Copies an event list to a vector. Fails only for want of memory.
 fn listed(alloc: Global, list: &EventList) -> Result<Vec<Event>, NoMemory>
     ensures { IfOk result (λ v. v.items ≡ list.now) }
 {

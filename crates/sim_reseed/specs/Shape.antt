@@ -28,7 +28,7 @@ abbrev pub is_shallow : Members → Bool
 is_shallow no_members = true
 is_shallow (member key d rest) = is_value d && is_shallow rest
 
--- ---- what is found where a table has another shape
+-- ---- a table of another shape
 
 -- some key has a value that is not plain
 pub record HasOther (members : Members) : Type 0 where

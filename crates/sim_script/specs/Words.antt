@@ -54,7 +54,7 @@ module _ (names : Names) where
   abbrev pub probe : Text → Option ℕ
   probe word = named names.probes 255 word
 
-  -- the name with a number, or no bytes
+  -- the name with this number, or an empty text
   abbrev pub host_name : ℕ → Text
   host_name h = name_at names.hosts h
 

@@ -35,7 +35,7 @@ pub enum Expected {
     Unless,
     /// The word `unless` or `by`.
     UnlessOrBy,
-    /// An operator, as `<=`.
+    /// An operator, such as `<=`.
     Operator,
     /// A number of 1 to 19 digits, or the probe of a host.
     Value,

@@ -21,7 +21,7 @@ fn after_trial<L: Listener>(stays: Vec<bool>, trials: u64, listener: &mut L) -> 
 
 impl<'a, N: Node> Case<'a, N> {
     // Drops `count` faults from number `from` on if the condition still fails without them. Returns
-    // whether it did.
+    // the choice after that, and whether it dropped them.
     fn drop_part<L: Listener>(
         &self,
         choice: Choice,
@@ -48,8 +48,8 @@ impl<'a, N: Node> Case<'a, N> {
         }
     }
 
-    // Drops each part of `size` faults without which the condition still fails. Returns whether it
-    // dropped one.
+    // Drops each part of `size` faults without which the condition still fails. Returns the choice
+    // after that, and whether it dropped one.
     fn pass<L: Listener>(
         &self,
         choice: Choice,

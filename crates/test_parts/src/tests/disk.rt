@@ -68,7 +68,8 @@ fn write_and_back(
     first == count && second == count
 }
 
-// Takes a sync, and drops its record. Checks that a sync for good of a copy has the same result.
+// Takes a sync, and drops its record. Returns how many writes it covers, or `None` if a sync for
+// good of a copy has another result.
 fn sync(alloc: Global, disk: &mut Disk, spare: &mut SpareDisks) -> Result<Option<u32>, NoMemory> {
     let (count, _asked) = disk.ask();
     let mut other = disk.copy(alloc)?;

@@ -356,7 +356,7 @@ latency_max = 2
 loss = 250
 "#;
 
-/// A way of one latency that loses no message.
+/// Returns a way of one latency that loses no message.
 fn steady(latency: u32) -> Way {
     Way {
         latency_min: latency,

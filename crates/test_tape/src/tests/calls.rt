@@ -29,7 +29,7 @@ pub fn add<N: Node>(
     Ok(tape.add(alloc, event, meter)?)
 }
 
-/// Returns whether an event can happen at the place.
+/// Returns whether an event can happen at the place, and if not, why.
 pub fn can<N: Node>(
     alloc: Global,
     tape: &mut Tape<N>,

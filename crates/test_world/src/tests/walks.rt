@@ -38,7 +38,7 @@ impl Course for Random {
     }
 }
 
-// Checks that a step for good leads an equal world to one that shows the same.
+// Returns whether a step for good leads an equal world to one that shows the same.
 fn is_passed<N: Node>(
     alloc: Global,
     copy: World<N>,
