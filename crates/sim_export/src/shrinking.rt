@@ -60,8 +60,8 @@ fn input_with(
     input_of(alloc, text, names, events)
 }
 
-// Returns what is written of the run of these events in a scenario that was read. Fails only if
-// memory is wanted.
+// Returns what is written of the run of these events in a scenario that was read. Fails only for
+// want of memory.
 fn export_of<N: Node<Meter = Tally>, P: Listener>(
     alloc: Global,
     opened: &Opened,

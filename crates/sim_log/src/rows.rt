@@ -258,8 +258,8 @@ pub fn rows_after<N: Node + fmt::Debug>(
     Ok(rows.into_vec())
 }
 
-/// Returns the rows before the first event: the node and the start of each host. Fails only if
-/// memory is wanted.
+/// Returns the rows before the first event: the node and the start of each host. Fails only for
+/// want of memory.
 pub fn first_rows<N: Node + fmt::Debug>(
     alloc: Global,
     world: &World<N>,

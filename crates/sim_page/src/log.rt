@@ -208,8 +208,8 @@ where
     Ok(log)
 }
 
-/// Returns the log of a run, or a bad range if the run has no such event. Fails only if memory is
-/// wanted.
+/// Returns the log of a run, or a bad range if the run has no such event. Fails only for want of
+/// memory.
 pub(crate) fn log_of<N: Node<Meter = Tally> + Debug>(
     alloc: Global,
     names: &Names,

@@ -35,7 +35,7 @@ impl Model for Ask {
 }
 
 impl Ask {
-    /// Returns the command. Fails only if memory for a condition is wanted.
+    /// Returns the command. Fails only for want of memory for a condition.
     #[inline]
     pub fn into_command(self, alloc: Global) -> Result<Command, NoMemory>
         ensures { IfOk result (λ c. c ≡ self) }

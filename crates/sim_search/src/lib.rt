@@ -40,7 +40,7 @@ pub use sim_claims::{Gate, OpenGate};
 pub enum SearchFault {
     /// The places, the seeds or the number of events are out of range.
     BadRange,
-    /// The condition names a host or a probe that the run does not have.
+    /// The condition has no term, or names a host or a probe that the run does not have.
     BadCondition,
     /// Memory was refused.
     NoMemory,
