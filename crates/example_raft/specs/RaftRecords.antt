@@ -29,7 +29,7 @@ pub record IsHost (state : State) : Type 0 where
   pub me : state.me < state.setup.hosts
   pub placed : IsPlaced state.setup.hosts state.role
 
--- A reaction changed one of the 64 places, or the acknowledgement of one of the 32 hosts.
+-- A changed place is one of the 64, and a changed acknowledgement that of one of the 32 hosts.
 abbrev pub IsPlacedChange : Change → Type 0
 IsPlacedChange change.Nothing = Unit {0}
 IsPlacedChange (change.Entry place e) = place < 64

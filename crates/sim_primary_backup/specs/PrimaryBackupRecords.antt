@@ -48,7 +48,7 @@ primary_before progress current changes p = record {
   waiting = restored changes.slot p.waiting;
 }
 
--- A reaction changed one of the 16 cells, and the slot of one of the 32 hosts.
+-- A changed cell is one of the 16, and a changed slot that of one of the 32 hosts.
 abbrev pub IsPlacedCell : CellBefore → Type 0
 IsPlacedCell cell.Same = Unit {0}
 IsPlacedCell (cell.Held place val) = place < 16
