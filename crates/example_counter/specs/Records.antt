@@ -5,7 +5,7 @@ use Rattle.example_counter.specs.declared.Role.{Role}
 use Rattle.example_counter.specs.declared.Role.TheVariants.{Client, Idle, Saving}
 use Rattle.example_counter.specs.declared.State.{State}
 
--- the client that a server saves for is a host
+-- the client for which a server saves exists
 abbrev pub IsPlaced : ℕ → Role → Type 0
 IsPlaced hosts (Client next) = Unit {0}
 IsPlaced hosts (Idle count) = Unit {0}

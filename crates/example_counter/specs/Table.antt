@@ -1,5 +1,5 @@
--- The tables of the counter: a client asks a server to add one, the server saves its count and
--- tells the client.
+-- The tables of the counter: a client asks a server to add one; the server saves its count and
+-- answers the client.
 use Rattle.std.specs.Prelude.{ℕ, ◌+◌, ◌-◌, ◌%◌, ◌^◌, ◌==◌, nat_le, ◌&&◌, min, length, slice_index}
 use Rattle.std.specs.Prelude.{List, [], ◌∷◌, if◌then◌else◌}
 use Rattle.std.specs.Int.{w64, to_le_bytes, from_le_bytes}
@@ -14,15 +14,15 @@ use Rattle.example_counter.specs.declared.Role.{Role}
 use Rattle.example_counter.specs.declared.Role.TheVariants.{Client, Idle, Saving}
 use Rattle.example_counter.specs.declared.State.{State}
 
--- a state, and the effects that lead there ask for, in order
+-- a state, and the effects of the reaction in order
 abbrev pub Reaction : Type 0
 Reaction = State × List (Effect Message)
 
--- a number after one more: it stays at the largest
+-- a number plus one; it stays at the largest
 abbrev pub raised : ℕ → ℕ
 raised n = min (n + 1) (2 ^ 64 - 1)
 
--- the count that was saved: 8 bytes, low byte first
+-- the saved count: 8 bytes, low byte first
 abbrev pub count_on : List ℕ → ℕ
 count_on bytes = if length bytes == 8 then from_le_bytes w64 bytes else 0
 
@@ -40,22 +40,21 @@ in_role role state = record state { role = role }
 abbrev pub nothing : State → Reaction
 nothing state = (state, [])
 
--- a client asks its server to add one, for the n-th time, and asks again where no answer has come
--- in half a second
+-- a client asks its server to add one for operation n, and again if no answer comes in 500 ms
 abbrev pub asking : ℕ → State → Reaction
 asking n state = (
   in_role (Client n) state,
   Effect.Send (state.me % state.setup.servers) (Add n) ∷ Effect.Timer 500 ∷ [],
 )
 
--- the answer to the n-th has come; after the last operation the client is done
+-- the answer to operation n has come; after the last one the client is done
 abbrev pub answered : ℕ → State → Reaction
 answered n state =
     if n == slice_index state.setup.ops state.me
     then (in_role (Client (raised n)) state, Effect.Done ∷ [])
     else asking (raised n) state
 
--- a server adds one, and its new count is to become stable
+-- a server adds one, and saves its new count
 abbrev pub adding : ℕ → ℕ → ℕ → State → Reaction
 adding count client n state = (
   in_role (Saving (raised count) client n) state,

@@ -7,7 +7,7 @@ use std::alloc::Global;
 use std::fmt;
 use std::marker::{Model, PhantomData};
 
-/// How long a client waits for an answer before it asks again, in milliseconds.
+/// How long a client waits for an answer before it asks again (ms).
 const PATIENCE: u32 = 500;
 
 /// A host of the counter. Contracts see its state.
@@ -31,14 +31,14 @@ impl<T> Model for Counter<T> {
         × IsPlaced c.state.setup.hosts c.state.role };
 }
 
-/// Shows what the host is. Its setup and its number never change, and are left out.
+/// Shows the role of the host, without its setup and its number, which never change.
 impl<T> fmt::Debug for Counter<T> {
     fn fmt<W: fmt::Write>(&self, f: &mut fmt::Formatter<W>) -> fmt::Result {
         fmt::Debug::fmt(&self.state.role, f)
     }
 }
 
-/// The count that was saved on a disk, or 0.
+/// Returns the count that was saved on a disk, or 0.
 fn count_on(disk: &[u8]) -> u64
     ensures { result ≡ count_on disk.now }
 {
@@ -51,7 +51,7 @@ fn count_on(disk: &[u8]) -> u64
 }
 
 impl<T> Counter<T> {
-    /// The client asks its server for the n-th time.
+    /// Asks the client's server to add one for operation `n`.
     fn ask(&mut self, n: u64, effects: &mut Effects<Message>)
         requires { effects.old ≡ record { hosts = self.old.setup.hosts; list = [] } }
         ensures state { self.new ≡ (asking n self.old).0 }
@@ -65,7 +65,7 @@ impl<T> Counter<T> {
         effects.timer(PATIENCE);
     }
 
-    /// The answer to the n-th has come.
+    /// Handles the answer to operation `n`.
     fn go_on(&mut self, n: u64, effects: &mut Effects<Message>)
         requires { effects.old ≡ record { hosts = self.old.setup.hosts; list = [] } }
         ensures state { self.new ≡ (answered n self.old).0 }
@@ -83,7 +83,7 @@ impl<T> Counter<T> {
         }
     }
 
-    /// The server adds one for a client.
+    /// Adds one for a client.
     fn add(&mut self, count: u64, client: u16, n: u64, effects: &mut Effects<Message>)
         requires host { client < self.old.setup.hosts }
         requires empty { effects.old ≡ record { hosts = self.old.setup.hosts; list = [] } }
@@ -99,7 +99,7 @@ impl<T> Counter<T> {
         effects.sync();
     }
 
-    /// The operations of the client.
+    /// Returns how many operations the client has.
     fn operations(&self) -> u64
         ensures { result ≡ slice_index self.now.setup.ops self.now.me }
     {

@@ -1,22 +1,22 @@
-//! An example of a node of one's own: a counter on a server's disk, that clients ask to add one.
+//! An example of a node of one's own: a counter on a server's disk. Clients ask to add one.
 //!
 //! A client asks its server to add one, and asks again every half second until it has the answer;
 //! then it goes on, until it has done its operations. A server adds one, writes the count to its
-//! disk and asks for a sync. It answers when the sync has come. Meanwhile it hears nobody else.
+//! disk and asks for a sync. It answers after the sync. Until then it ignores all other clients.
 //! docs/NODES.md builds this crate from nothing, a step at a time.
 //!
 //! [`Counter`] implements the trait `Node` of `sim_node` for every meter. So it is proved that the
 //! node does what its table says (`specs/Table.antt`, a definition for each row) and that each
-//! reaction can be taken back.
+//! reaction can be undone.
 //!
 //! Why it is built this way:
 //!
 //! - All that a reaction can change is in the [`Role`]. So the record of a reaction is the role
-//!   before it, and taking it back is one assignment.
-//! - The host in a role (whom a server is to answer) is below the number of hosts by the node's
-//!   invariant, because `send` asks for it.
-//! - It answers a client only when the count is stable. A wrong body that answers before
-//!   (`must-fail/answers_before_its_disk.edit`) is refused by the prover.
+//!   before it, and one assignment undoes the reaction.
+//! - The host in a role (to which a server owes an answer) is below the number of hosts by the
+//!   node's invariant, because `send` requires it.
+//! - It answers a client only when the count is stable. The prover refuses a wrong body that
+//!   answers before (`must-fail/answers_before_its_disk.edit`).
 #![tactic(auto)]
 
 mod counter;
@@ -26,7 +26,7 @@ mod tests;
 pub use counter::Counter;
 use sim_node::Setup;
 
-/// A message of the counter, about a client's n-th operation.
+/// A message of the counter, about operation n of a client.
 #[derive(Clone, Copy, Debug, PartialEq, Eq)]
 pub enum Message {
     /// A client asks to add one.
@@ -35,15 +35,15 @@ pub enum Message {
     Added(u64),
 }
 
-/// What a host does.
+/// The role of a host.
 #[derive(Clone, Copy, Debug, PartialEq, Eq)]
 pub enum Role {
-    /// A client waits for the answer to this operation, counted from 1.
+    /// A client waits for the answer to this operation, from 1.
     Client { next: u64 },
-    /// A server waits for somebody to ask.
+    /// A server waits for a client.
     Idle { count: u64 },
-    /// A server waits for its disk, to answer this client. Whoever else asks gets no answer and
-    /// asks again.
+    /// A server waits for its disk, to answer this client. Other clients get no answer, and ask
+    /// again.
     Saving { count: u64, client: u16, n: u64 },
 }
 

@@ -7,7 +7,7 @@ use std::alloc::Global;
 use std::process::Abort;
 use std::test::Fail;
 
-/// A meter that counts in numbers, and ends the test rather than count too far.
+/// A meter that counts in numbers, and ends the test on overflow.
 #[derive(Drop)]
 struct Counts<'a, R: Abort> {
     rt: &'a R,
@@ -46,7 +46,7 @@ impl<'a, R: Abort> Meter for Counts<'a, R> {
     }
 }
 
-/// One server and one client with one operation.
+/// Returns a cluster of one server and one client with one operation.
 fn two_hosts() -> Setup
     ensures setup { IsSetup result }
     ensures hosts { result.hosts ≡ 2 }
@@ -58,8 +58,8 @@ fn two_hosts() -> Setup
     }
 }
 
-/// One of two hosts reacts, is taken back, and shows what it showed before. Then it reacts again,
-/// and asks for these effects and no more.
+/// Lets one of two hosts react, undoes the reaction, and checks that the probes are as before. Then
+/// lets it react again, and checks that it has exactly these effects.
 fn react<T: Meter>(
     rt: &impl Abort,
     node: &mut Counter<T>,

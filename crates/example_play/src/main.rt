@@ -1,20 +1,20 @@
 //! The counter of docs/NODES.md as a program: `play`, `search`, `sweep` and the other commands of
 //! `simback`, over scenarios that say `protocol = "counter"`.
 //!
-//! This is all that a program over a protocol of one's own takes: a [`Subject`], which gives the
-//! name of the protocol, the least number of its servers and the names of its probes, and a `main`
-//! of one line. `sim_perform::run` reads the command line and the input, and writes the answers.
+//! This is all that a program over a protocol of one's own takes: a [`Subject`], which has the name
+//! of the protocol, the least number of its servers and the names of its probes, and a `main` of
+//! one line. `sim_perform::run` reads the command line and the input, and writes the answers.
 //!
 //! Why it is built this way:
 //!
 //! - A list of subjects is a type and no value: `Only<Counting>`, or `With<First, Only<Second>>`
 //!   for two. So everything is compiled for each type of node.
-//! - The ghost items say the same as the functions below them, in the terms of contracts. With them
-//!   the contract of `run` speaks of this protocol by its name and its probes.
+//! - The ghost items say the same as the functions below them, for contracts. With them the
+//!   contract of `run` names this protocol and its probes.
 //! - The node has a crate of its own, `example_counter`, so that libraries and tests can use it
 //!   without the program.
 //!
-//! The gate runs it on the file `stdin` and compares what it writes with `stdout`.
+//! The gate runs it on the file `stdin` and compares its output with `stdout`.
 #![tactic(auto)]
 
 ghost use Rattle.std.specs.Prelude.{codes, [], ◌∷◌};

@@ -1,6 +1,6 @@
--- The tables of Raft: servers elect a leader, the leader puts the values of clients into its log
--- and spreads them, and what a majority has is committed. A server speaks of a vote or of an entry
--- only when its disk has told that it is stable.
+-- The tables of Raft: servers elect a leader, the leader adds the values of clients to its log and
+-- sends them to the others, and an entry that a majority has is committed. A server reports a vote
+-- or an entry only after its disk reports that it is stable.
 use Rattle.std.specs.Prelude.{ℕ, ◌+◌, ◌-◌, ◌*◌, ◌/◌, ◌%◌, ◌==◌, min, max, nat_lt, nat_le, Bool}
 use Rattle.std.specs.Prelude.{true, false, ◌&&◌, ◌||◌, List, [], ◌∷◌, ◌++◌, take, count_by}
 use Rattle.std.specs.Prelude.{slice_index_or, slice_set, Option, None, Some, if◌then◌else◌}
@@ -35,11 +35,11 @@ use Rattle.example_raft.specs.RaftProbes.{probe_as}
 abbrev pub with_standing : Standing → Server → Server
 with_standing standing s = record s { standing = standing }
 
--- a timer of an election
+-- an election timer (ms)
 abbrev pub timeout : ℕ → List (Effect Message)
 timeout word = Effect.Timer (150 + word % 150) ∷ []
 
--- what it says where its disk lets it
+-- these effects, if the server is settled
 abbrev pub if_settled : Standing → List (Effect Message) → List (Effect Message)
 if_settled standing said = if is_settled standing.unsure then said else []
 
@@ -48,7 +48,7 @@ to_others here msg = to_all (not_in (servers here.setup) (joined here.me nobody)
 
 -- The log grows.
 
--- an entry is kept at a place, and the log ends behind it
+-- an entry is stored at a place, where the log then ends
 abbrev pub kept : ℕ → Entry → Server → Server
 kept place e s = record {
   standing = record s.standing { len = place + 1; unsure = raised s.standing.unsure };
@@ -56,7 +56,7 @@ kept place e s = record {
   peers = s.peers;
 }
 
--- an entry of its own term is kept at the end, where the log is not full
+-- an entry of its own term is stored at the end, unless the log is full
 abbrev pub appended : ℕ → Server → Reaction Server Message
 appended value s =
     if nat_lt s.standing.len 64 then (
@@ -65,7 +65,7 @@ appended value s =
     )
     else (s, [])
 
--- what a leader says of the entry at a place
+-- a leader's message about the entry at a place
 abbrev pub append_of : ℕ → Server → Message
 append_of place s = msg.Append (record {
   term = s.standing.term;
@@ -75,7 +75,7 @@ append_of place s = msg.Append (record {
   commit = s.standing.commit;
 })
 
--- it tells all others of its last entry
+-- it sends its last entry to all others
 abbrev pub spread : Context → Server → List (Effect Message)
 spread here s = to_others here (append_of (s.standing.len - 1) s)
 
@@ -88,12 +88,12 @@ following term standing =
 abbrev pub waiting : Standing → Standing
 waiting standing = record standing { unsure = raised standing.unsure }
 
--- a leader that follows sets its timer anew
+-- a leader that follows now sets its timer again
 abbrev pub anew : Rank → ℕ → List (Effect Message)
 anew rank.Leader word = timeout word
 anew _ word = []
 
--- it steps down to a later term
+-- it steps down to follow in a later term
 abbrev pub steps_down : Context → ℕ → Server → Reaction Server Message
 steps_down here term s =
     let new = waiting (following term s.standing) in
@@ -115,7 +115,7 @@ candidacy me standing = record standing {
   unsure = raised standing.unsure;
 }
 
--- it stands for election in the next term
+-- it becomes a candidate in the next term
 abbrev pub stands : Context → Server → Reaction Server Message
 stands here s =
     let new = candidacy here.me s.standing in
@@ -124,7 +124,7 @@ stands here s =
 abbrev pub blank : ℕ
 blank = 1
 
--- it leads, and begins with a blank entry
+-- it leads, and appends a blank entry
 abbrev pub leads : ℕ → Server → Reaction Server Message
 leads me s =
     let next = appended blank (with_standing (record s.standing {
@@ -149,7 +149,7 @@ abbrev pub is_new : Ask → Server → Bool
 is_new ask s =
     nat_lt (last_term s) ask.last || ((ask.last == last_term s) && nat_le s.standing.len ask.len)
 
--- as it is in the term of the message, where that is later than its own
+-- its standing in the term of the message, if that is later than its own
 abbrev pub caught_up : ℕ → Standing → Standing
 caught_up term standing = if nat_lt standing.term term then following term standing else standing
 
@@ -158,7 +158,7 @@ grants from ask s =
     let standing = caught_up ask.term s.standing in
     (ask.term == standing.term) && is_free standing.voted from && is_new ask s
 
--- it votes; a hasty one says so at once
+-- it votes; a hasty server reports the vote at once
 abbrev pub granted : Context → ℕ → Ask → Server → Reaction Server Message
 granted here from ask s =
     let new = waiting (record (caught_up ask.term s.standing) { voted = Some from }) in (
@@ -173,7 +173,7 @@ asked here from ask s =
     else if nat_lt s.standing.term ask.term then steps_down here ask.term s
     else (s, if_settled s.standing (Effect.Send from (msg.Vote false s.standing.term) ∷ []))
 
--- a vote for a candidate
+-- a candidate gets a vote
 abbrev pub elected : Context → ℕ → Server → Reaction Server Message
 elected here from s =
     let new = with_standing (record s.standing { votes = joined from s.standing.votes }) s in
@@ -201,7 +201,7 @@ may_commit here n s =
     && (here.rules.eager || (term_of n s.log == s.standing.term))
     && is_majority (holders n here.setup s + 1) here.setup
 
--- the client of a value is told that it is committed
+-- the client of a value gets the answer that it is committed
 abbrev pub fin_of : ℕ → Setup → List (Effect Message)
 fin_of value setup =
     let client = (value - 1) / 1000 in
@@ -217,16 +217,16 @@ commits here n s =
     )
     else (s, [])
 
--- What a follower hears of its leader.
+-- A follower receives a leader's message.
 
 abbrev pub follower_of : ℕ → Standing → Standing
 follower_of from standing = record standing { rank = rank.Follower; leader = Some from }
 
--- the log has what stands before the entry
+-- the log has the entries before this one
 abbrev pub fits : Append → Server → Bool
 fits a s = nat_le a.prev s.standing.len && (term_of a.prev s.log == a.before)
 
--- it knows n entries to be the leader's, and to be committed as far as the leader says so
+-- n entries are known to be the leader's, and as many of them committed as the leader says
 abbrev pub verified : ℕ → ℕ → Standing → Standing
 verified n commit standing =
     record standing {
@@ -263,7 +263,7 @@ told_entry (Some e) here from a s =
     else if nat_lt a.prev 64 then took here from a e s
     else agreed here from a.prev a.commit s
 
--- it lacks what stands before the entry
+-- it lacks entries before this one
 abbrev pub lacks : Context → ℕ → ℕ → Server → Reaction Server Message
 lacks here from prev s =
     let new = follower_of from s.standing in (
@@ -284,9 +284,9 @@ told here from a s =
     else if fits a s then told_entry a.entry here from a s
     else lacks here from a.prev s
 
--- What a leader hears of a follower.
+-- A leader receives a follower's message.
 
--- how much a host had acknowledged in this term
+-- how many entries a host has acknowledged in this term
 abbrev pub known_of : ℕ → Server → ℕ
 known_of host s =
     let p = slice_index_or s.peers host (record { term = 0; has = 0 }) in
@@ -318,7 +318,7 @@ acked rank.Leader here from ack s =
 acked _ here from ack s =
     if nat_lt s.standing.term ack.term then steps_down here ack.term s else (s, [])
 
--- What a server hears of a client.
+-- A server receives a client's message.
 
 abbrev pub redirected : Option ℕ → ℕ → List (Effect Message)
 redirected None from = []
@@ -339,7 +339,7 @@ abbrev pub timed_out : Rank → Context → Server → Reaction Server Message
 timed_out rank.Leader here s = (s, if_settled s.standing (spread here s) ++ Effect.Timer 50 ∷ [])
 timed_out _ here s = stands here s
 
--- a follower tells its leader what it has, or a candidate its vote
+-- a follower reports its log to its leader, or its vote to a candidate
 abbrev pub answered : Option ℕ → Option ℕ → Standing → List (Effect Message)
 answered (Some leader) voted standing =
     Effect.Send leader (msg.Appended (record {
@@ -429,7 +429,7 @@ abbrev pub in_role : {Part : Type 0} → (Part → Role) → Reaction Part Messa
     → Reaction State Message
 in_role as_role reaction state = (record state { role = as_role reaction.0 }, reaction.1)
 
--- what a server has at hand when it reacts
+-- the context in which a server reacts
 abbrev pub context : Rules → ℕ → State → Context
 context rules word state = record { rules = rules; setup = state.setup; me = state.me; word = word }
 

@@ -1,4 +1,4 @@
--- The log of Raft, and what stands on a server's disk.
+-- The log of Raft, and the disk of a server.
 use Rattle.std.specs.Prelude.{ℕ, zero, suc, ◌+◌, ◌-◌, ◌*◌, ◌==◌, nat_lt, nat_le, Bool, ◌&&◌, List}
 use Rattle.std.specs.Prelude.{[], ◌∷◌, ◌++◌, take, replicate, position, slice_index, slice_index_or}
 use Rattle.std.specs.Prelude.{slice_set, Option, None, Some, if◌then◌else◌}
@@ -29,12 +29,12 @@ term_of n log = if n == 0 then 0 else (entry_at (n - 1) log).term
 abbrev pub value_of : ℕ → List Entry → ℕ
 value_of n log = (entry_at (n - 1) log).value
 
--- the first place below a length at which a value stands
+-- the first place below a length with this value
 abbrev pub place_of : ℕ → ℕ → List Entry → Option ℕ
 place_of value len log = position (λ e. e.value == value) (take len log)
 
--- The disk. At 0: the term, high byte first, and a byte for the vote.
--- Entry k stands at 64 + 48 k, twice, with the term of the entry before it.
+-- The disk. At 0: the term, high byte first, and a byte for the vote. Entry k is at 64 + 48 k,
+-- twice, with the term of the entry before it.
 
 abbrev pub vote_byte : Option ℕ → ℕ
 vote_byte None = 0
@@ -71,7 +71,7 @@ entry_on bytes place =
       value = number_at bytes (entry_offset place + 8);
     }
 
--- the entry at a place is whole, and it is the one that stood behind an entry of this term
+-- the entry at a place is whole, and the entry before it had this term
 unfoldable pub is_linked : List ℕ → ℕ → ℕ → Bool
 is_linked bytes place before =
     nat_lt 0 (number_at bytes (entry_offset place))
@@ -80,7 +80,7 @@ is_linked bytes place before =
     && (number_at bytes (entry_offset place + 32) == number_at bytes (entry_offset place + 8))
     && (number_at bytes (entry_offset place + 40) == before)
 
--- n more entries from a place on, as long as they are linked: the length and the log
+-- n more entries from a place on, while they are linked: the length and the log
 unfoldable pub log_from : List ℕ → ℕ → ℕ → ℕ → List Entry → ℕ × List Entry
 log_from bytes place zero before log = (place, log)
 log_from bytes place (suc n) before log =

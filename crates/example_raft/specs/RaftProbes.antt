@@ -24,7 +24,7 @@ abbrev pub leads_term : Rank → ℕ → ℕ
 leads_term rank.Leader term = term
 leads_term _ term = 0
 
--- the n-th value, where a server knows it to be committed
+-- the n-th value, if a server knows that it is committed
 abbrev pub committed_at : ℕ → Server → ℕ
 committed_at n s = if nat_le n s.standing.commit then value_of n s.log else 0
 
@@ -32,7 +32,7 @@ abbrev pub leader_of : Option ℕ → ℕ
 leader_of None = 0
 leader_of (Some leader) = leader + 1
 
--- one more than whom a server knows to lead a term
+-- one more than the server that it knows to lead a term
 abbrev pub elected_in : ℕ → Standing → ℕ
 elected_in term standing = if term == standing.term then leader_of standing.leader else 0
 

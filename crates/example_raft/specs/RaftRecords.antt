@@ -1,4 +1,4 @@
--- The records of Raft: what a role was before a reaction.
+-- The records of Raft: a role before a reaction.
 use Rattle.std.specs.Prelude.{ℕ, ◌<◌, ◌≤◌, List, slice_set, IfSome}
 use Rattle.sim_node.specs.Node.{IsSetup, NodeRecords}
 use Rattle.example_raft.specs.declared.roles.Entry.{Entry}
@@ -29,7 +29,7 @@ pub record IsHost (state : State) : Type 0 where
   pub me : state.me < state.setup.hosts
   pub placed : IsPlaced state.setup.hosts state.role
 
--- What has changed is one of the 64 places, or what one of the 32 hosts has acknowledged.
+-- A changed place is one of the 64, and a changed acknowledgement that of one of the 32 hosts.
 abbrev pub IsPlacedChange : Change → Type 0
 IsPlacedChange change.Nothing = Unit {0}
 IsPlacedChange (change.Entry place e) = place < 64
@@ -51,7 +51,7 @@ server_before standing what s =
       peers = restored_peers what s.peers;
     }
 
--- a record fits a host of its kind
+-- a record fits a host with the same role
 abbrev pub fits_role : ℕ → RaftUndo → Role → Type 0
 fits_role hosts (undo.Client before) (role.Client c) = before.server < hosts
 fits_role hosts (undo.Server standing what) (role.Server s) =

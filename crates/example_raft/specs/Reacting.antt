@@ -1,4 +1,4 @@
--- What the contracts of a server's reactions have in common.
+-- What the contracts of a server's reactions share.
 use Rattle.std.specs.Prelude.{◌≡◌, ◌<◌, ◌++◌, List, []}
 use Rattle.sim_node.specs.Effects.{Effect, Effects}
 use Rattle.sim_node.specs.Node.{IsSetup}
@@ -10,7 +10,7 @@ use Rattle.example_raft.specs.declared.roles.Change.{Change}
 use Rattle.example_raft.specs.RaftRecords.{IsPlacedStanding, IsPlacedChange, restored_log}
 use Rattle.example_raft.specs.RaftRecords.{restored_peers}
 
--- what was asked for, and then more
+-- the effects with more added
 abbrev pub asking : List (Effect Message) → Effects Message → Effects Message
 asking more effects = record effects { list = effects.list ++ more }
 
@@ -19,20 +19,20 @@ pub record IsContext (here : Context) : Type 0 where
   pub setup : IsSetup here.setup
   pub me : here.me < here.setup.hosts
 
--- a server may begin to react: what it names is there, and it has asked for nothing
+-- a server may begin to react: the hosts that it names exist, and it has no effects yet
 pub record MayReact (here : Context) (s : Server) (effects : Effects Message) : Type 0 where
   pub context : IsContext here
   pub placed : IsPlacedStanding here.setup.hosts s.standing
   pub empty : effects ≡ asked_for here.setup []
 
--- a server has reacted so: its state, its effects, and what it names is there again
+-- a server has reacted: this is its state, these are its effects, and the hosts that it names exist
 pub record Reacted (here : Context) (reaction : Reaction Server Message) (new : Server)
     (out : Effects Message) : Type 0 where
   pub state : new ≡ reaction.0
   pub effects : out ≡ asked_for here.setup reaction.1
   pub placed : IsPlacedStanding here.setup.hosts new.standing
 
--- what is told of a change leads back to the log and the peers before it
+-- a change leads back to the log and the peers before it
 pub record LeadsBack (change : Change) (old new : Server) : Type 0 where
   pub placed : IsPlacedChange change
   pub log : restored_log change new.log ≡ old.log

@@ -6,7 +6,7 @@ ghost use Rattle.example_raft.specs.Reacting.{LeadsBack};
 use crate::{Change, Entry, Peer, Server, Standing};
 
 impl Server {
-    /// An entry is kept at a place: the answer is what stood there.
+    /// Stores an entry at a place of the log. Returns what was there.
     pub fn keep(&mut self, place: u8, entry: Entry) -> Change
         requires { place < 64 }
         ensures state { self.new ≡ kept place entry self.old }
@@ -19,7 +19,7 @@ impl Server {
         before
     }
 
-    /// It notes what a host has acknowledged: the answer is what it knew before.
+    /// Notes what a host has acknowledged. Returns what was noted before.
     pub fn note(&mut self, host: u16, at: u8) -> Change
         requires { host < 32 }
         ensures state { self.new ≡ noted host at self.old }
@@ -33,7 +33,7 @@ impl Server {
         before
     }
 
-    /// Takes a reaction back.
+    /// Undoes a reaction.
     pub fn take_back(&mut self, standing: Standing, change: Change)
         requires { IsPlacedChange change }
         ensures { self.new ≡ server_before standing change self.old }

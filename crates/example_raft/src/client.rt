@@ -8,17 +8,17 @@ ghost use Rattle.example_raft.specs.Raft.{react_client};
 use crate::{Client, Message};
 use sim_node::{Effects, Input, Setup};
 
-/// How long a client waits for an answer before it asks the next server, in milliseconds.
+/// How long a client waits for an answer before it asks the next server (ms).
 const PATIENCE: u32 = 250;
 
-/// The value of an operation.
+/// Returns the value of an operation.
 fn value_by(me: u16, next: u64) -> u64
     ensures { result ≡ value_by me next }
 {
     (me as u64).saturating_mul(1000).saturating_add(next)
 }
 
-/// The server after this one.
+/// Returns the server after this one; server 0 comes after the last.
 fn next_server(server: u16, setup: &Setup) -> u16
     requires { IsSetup setup.now }
     ensures value { result ≡ next_server server setup.now }
@@ -32,14 +32,14 @@ fn next_server(server: u16, setup: &Setup) -> u16
 }
 
 impl Client {
-    /// It waits for an operation.
+    /// Returns whether the client waits for an operation.
     fn waits(&self, ops: u64) -> bool
         ensures { result ≡ waits ops self.now }
     {
         1 <= self.next && self.next <= ops
     }
 
-    /// It sends its put to the server that it asks.
+    /// Sends the client's value to the server that it asks.
     fn put(&self, me: u16, setup: &Setup, effects: &mut Effects<Message>)
         requires server { self.now.server < setup.now.hosts }
         requires empty { effects.old ≡ asked_for setup.now [] }
@@ -49,7 +49,7 @@ impl Client {
         effects.timer(PATIENCE);
     }
 
-    /// Its value is committed.
+    /// Goes on to the next operation after the value was committed.
     fn finish(&mut self, me: u16, ops: u64, setup: &Setup, effects: &mut Effects<Message>)
         requires server { self.old.server < setup.now.hosts }
         requires empty { effects.old ≡ asked_for setup.now [] }

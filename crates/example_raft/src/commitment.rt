@@ -12,7 +12,7 @@ use crate::standing::{is_majority, term_of, value_of};
 use crate::{Ack, Append, Change, Context, Message, Rank, Server};
 use sim_node::{Effects, Setup};
 
-/// Tells the client of a value that it is committed.
+/// Sends the client of a value the answer that it is committed.
 fn tell_client(value: u64, setup: &Setup, effects: &mut Effects<Message>)
     requires room { length effects.old.list < 8 }
     requires hosts { effects.old.hosts ≡ setup.now.hosts }
@@ -26,7 +26,7 @@ fn tell_client(value: u64, setup: &Setup, effects: &mut Effects<Message>)
 }
 
 impl Server {
-    /// What it tells a follower of the entry at a place.
+    /// Returns a leader's message about the entry at a place.
     pub fn append_of(&self, place: u8) -> Message
         requires len { self.now.standing.len ≤ 64 }
         requires place { place ≤ 64 }
@@ -46,7 +46,7 @@ impl Server {
         })
     }
 
-    /// Tells all other servers of its last entry.
+    /// Sends the last entry to all other servers.
     pub fn spread(&self, here: &Context, effects: &mut Effects<Message>)
         requires here { IsContext here.now }
         requires len { self.now.standing.len ≤ 64 }
@@ -59,7 +59,7 @@ impl Server {
         send_to_others(here, msg, effects);
     }
 
-    /// How many hosts have acknowledged n entries in its term.
+    /// Returns how many hosts have acknowledged `n` entries in this term.
     fn holders(&self, n: u8, setup: &Setup) -> u32
         requires { IsSetup setup.now }
         ensures value { result ≡ holders n setup.now self.now }
@@ -73,7 +73,7 @@ impl Server {
             .count() as u32
     }
 
-    /// Whether it may commit n entries.
+    /// Returns whether the leader may commit `n` entries.
     fn may_commit(&self, n: u8, here: &Context) -> bool
         requires here { IsContext here.now }
         requires len { self.now.standing.len ≤ 64 }
@@ -85,7 +85,7 @@ impl Server {
             && is_majority(self.holders(n, &here.setup) + 1, &here.setup)
     }
 
-    /// Commits n entries if it may, and tells the client of the last.
+    /// Commits `n` entries if the leader may, and answers the client of the last one.
     pub fn commit(&mut self, n: u8, here: &Context, effects: &mut Effects<Message>)
         requires { MayReact here.now self.old effects.old }
         ensures room { length effects.new.list ≤ 1 }
@@ -97,7 +97,7 @@ impl Server {
         }
     }
 
-    /// How much a host has acknowledged in its term.
+    /// Returns how many entries a host has acknowledged in this term.
     fn known_of(&self, host: u16) -> u8
         requires { host < 32 }
         ensures { result ≡ known_of host self.now }
@@ -110,7 +110,7 @@ impl Server {
         }
     }
 
-    /// Tells a follower of the entry at a place, if it is settled.
+    /// Sends a follower the entry at a place, if the leader is settled.
     fn send_next(&self, to: u16, place: u8, effects: &mut Effects<Message>)
         requires len { self.now.standing.len ≤ 64 }
         requires place { place ≤ 64 }
@@ -123,7 +123,8 @@ impl Server {
         }
     }
 
-    /// A follower has more of the log than before.
+    /// Notes that a follower has more of the log than before: commits what it may, and sends the
+    /// next entry.
     fn advance(
         &mut self,
         from: u16,
@@ -145,7 +146,7 @@ impl Server {
         change
     }
 
-    /// A follower has answered in its term.
+    /// Handles a follower's answer in this term.
     fn hear_back(
         &mut self,
         from: u16,
@@ -170,7 +171,7 @@ impl Server {
         Change::Nothing
     }
 
-    /// A server answers what a leader of a term told it.
+    /// Handles a server's answer to the leader of a term.
     pub fn hear_ack(
         &mut self,
         from: u16,
@@ -196,7 +197,7 @@ impl Server {
         }
     }
 
-    /// The first place of its log at which a value stands.
+    /// Returns the first place of the log with a value.
     fn place_of(&self, value: u64) -> Option<usize>
         requires { self.now.standing.len ≤ 64 }
         ensures { result ≡ place_of value self.now.standing.len self.now.log }
@@ -205,7 +206,7 @@ impl Server {
         log.iter().position(|entry| entry.value == value)
     }
 
-    /// A client asks a leader to commit a value.
+    /// Handles a client's value as a leader.
     fn put(
         &mut self,
         from: u16,
@@ -230,7 +231,7 @@ impl Server {
         }
     }
 
-    /// A client asks to commit a value.
+    /// Handles a client's value.
     pub fn hear_put(
         &mut self,
         from: u16,

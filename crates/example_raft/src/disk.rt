@@ -14,10 +14,10 @@ use sim_node::{Effects, Setup};
 /// No entry.
 const NO_ENTRY: Entry = Entry { term: 0, value: 0 };
 
-/// Nothing is known of a host.
+/// A peer of which nothing is known.
 const UNKNOWN: Peer = Peer { term: 0, has: 0 };
 
-/// The byte of a vote.
+/// Returns the byte of a vote.
 fn vote_byte(voted: Option<u16>) -> u8
     requires { IfSome voted (λ host. host < 32) }
     ensures { result ≡ vote_byte voted }
@@ -28,7 +28,7 @@ fn vote_byte(voted: Option<u16>) -> u8
     }
 }
 
-/// The 9 bytes of a term, high byte first, and a vote.
+/// Returns the 9 bytes of a term, high byte first, and a vote.
 fn vote_bytes(standing: &Standing) -> [u8; 9]
     requires { IfSome standing.now.voted (λ host. host < 32) }
     ensures { result ≡ vote_bytes standing.now }
@@ -39,7 +39,7 @@ fn vote_bytes(standing: &Standing) -> [u8; 9]
     bytes
 }
 
-/// The 24 bytes of an entry and the term of the entry before it.
+/// Returns the 24 bytes of an entry and the term of the entry before it.
 fn half_bytes(entry: Entry, before: u64) -> [u8; 24]
     ensures { result ≡ half_bytes entry before }
 {
@@ -50,7 +50,7 @@ fn half_bytes(entry: Entry, before: u64) -> [u8; 24]
     bytes
 }
 
-/// The 48 bytes of an entry on a disk.
+/// Returns the 48 bytes of an entry on a disk.
 fn entry_bytes(entry: Entry, before: u64) -> [u8; 48]
     ensures { result ≡ entry_bytes entry before }
 {
@@ -82,7 +82,7 @@ pub fn save_entry(place: u8, log: &[Entry; 64], effects: &mut Effects<Message>)
     effects.sync();
 }
 
-/// The entry at a place of a disk.
+/// Reads the entry at a place of a disk.
 fn entry_on(disk: &[u8], place: u8) -> Entry
     requires { place < 64 }
     ensures { result ≡ entry_on disk.now place }
@@ -94,7 +94,7 @@ fn entry_on(disk: &[u8], place: u8) -> Entry
     }
 }
 
-/// Whether the entry at a place is whole, and stood behind an entry of this term.
+/// Returns whether the entry at a place is whole, and the entry before it had the term `before`.
 #[tactic(auto, unfolding(crate::specs::RaftLog::is_linked))]
 fn is_linked(disk: &[u8], place: u8, before: u64) -> bool
     requires { place < 64 }
@@ -110,7 +110,7 @@ fn is_linked(disk: &[u8], place: u8, before: u64) -> bool
         && number_at(disk, offset + 40) == before
 }
 
-/// The log on a disk: its length and its entries.
+/// Reads the log on a disk: its length and its entries.
 fn log_on(disk: &[u8]) -> (u8, [Entry; 64])
     ensures value { result ≡ log_on disk.now }
     ensures len { result.0 ≤ 64 }
@@ -128,7 +128,7 @@ fn log_on(disk: &[u8]) -> (u8, [Entry; 64])
     (64, log)
 }
 
-/// The term on a disk.
+/// Reads the term on a disk.
 fn term_on(disk: &[u8]) -> u64
     ensures { result ≡ term_on disk.now }
 {
@@ -144,7 +144,7 @@ fn term_on(disk: &[u8]) -> u64
     ])
 }
 
-/// The vote on a disk.
+/// Reads the vote on a disk.
 fn voted_on(setup: &Setup, disk: &[u8]) -> Option<u16>
     ensures value { result ≡ voted_on setup.now disk.now }
     ensures host { IfSome result (λ host. host < setup.now.servers) }
@@ -158,7 +158,7 @@ fn voted_on(setup: &Setup, disk: &[u8]) -> Option<u16>
 }
 
 impl Server {
-    /// The server that boots from these bytes of its disk.
+    /// Returns the server that boots from these bytes of its disk.
     pub fn on(setup: &Setup, disk: &[u8]) -> Server
         requires { IsSetup setup.now }
         ensures state { result ≡ server_on setup.now disk.now }

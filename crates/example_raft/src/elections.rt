@@ -10,13 +10,13 @@ use crate::{Ask, Change, Context, Entry, Message, Rank, Server, Standing};
 use sim_hosts::{HostSet, send_to_missing};
 use sim_node::Effects;
 
-/// How long a leader waits before it tells again what it has, in milliseconds.
+/// How long a leader waits before it sends again (ms).
 pub const HEARTBEAT: u32 = 50;
 
 /// The value of a leader's first entry.
 const BLANK: u64 = 1;
 
-/// Whether a server with this vote may vote for the candidate.
+/// Returns whether a server with this vote may vote for the candidate.
 fn is_free(voted: Option<u16>, candidate: u16) -> bool
     ensures { result ≡ is_free voted candidate }
 {
@@ -38,7 +38,7 @@ pub fn send_to_others(here: &Context, msg: Message, effects: &mut Effects<Messag
     send_to_missing(0, &here.setup, myself, msg, effects);
 }
 
-/// A leader that steps down sets its timer anew.
+/// Sets the timer of a leader that steps down.
 fn set_anew(rank: Rank, word: u32, effects: &mut Effects<Message>)
     requires { length effects.old.list < 38 }
     ensures { effects.new ≡ asking (anew rank word) effects.old }
@@ -50,7 +50,7 @@ fn set_anew(rank: Rank, word: u32, effects: &mut Effects<Message>)
 }
 
 impl Server {
-    /// Keeps an entry of its own term at the end, if the log is not full.
+    /// Appends an entry of the server's own term, unless the log is full.
     pub fn append(&mut self, value: u64, effects: &mut Effects<Message>) -> Change
         requires len { self.old.standing.len ≤ 64 }
         requires room { length effects.old.list < 8 }
@@ -70,7 +70,7 @@ impl Server {
         }
     }
 
-    /// Follows in a later term.
+    /// Steps down to follow in a later term.
     pub fn step_down(&mut self, term: u64, here: &Context, effects: &mut Effects<Message>)
         requires { MayReact here.now self.old effects.old }
         ensures { Reacted here.now (steps_down here.now term self.old) self.new effects.new }
@@ -81,7 +81,7 @@ impl Server {
         set_anew(rank, here.word, effects);
     }
 
-    /// Stands for election in the next term.
+    /// Becomes a candidate in the next term.
     pub fn stand(&mut self, here: &Context, effects: &mut Effects<Message>)
         requires { MayReact here.now self.old effects.old }
         ensures { Reacted here.now (stands here.now self.old) self.new effects.new }
@@ -91,7 +91,7 @@ impl Server {
         set_timeout(here.word, effects);
     }
 
-    /// Leads, and begins with a blank entry.
+    /// Becomes the leader, and appends a blank entry.
     pub fn lead(&mut self, here: &Context, effects: &mut Effects<Message>) -> Change
         requires { MayReact here.now self.old effects.old }
         ensures did { Reacted here.now (leads here.now.me self.old) self.new effects.new }
@@ -104,7 +104,7 @@ impl Server {
         change
     }
 
-    /// The term of its last entry.
+    /// Returns the term of the last entry.
     fn last_term(&self) -> u64
         requires { self.now.standing.len ≤ 64 }
         ensures { result ≡ last_term self.now }
@@ -112,7 +112,7 @@ impl Server {
         term_of(self.standing.len, &self.log)
     }
 
-    /// Its request for votes.
+    /// Returns the request for votes.
     pub fn request(&self) -> Message
         requires { self.now.standing.len ≤ 64 }
         ensures { result ≡ request_of self.now }
@@ -124,7 +124,7 @@ impl Server {
         })
     }
 
-    /// Whether the log of a candidate is at least as new as its own.
+    /// Returns whether the log of a candidate is at least as new as this one.
     fn finds_new(&self, ask: &Ask) -> bool
         requires { self.now.standing.len ≤ 64 }
         ensures { result ≡ is_new ask.now self.now }
@@ -133,7 +133,7 @@ impl Server {
         last < ask.last || ask.last == last && self.standing.len <= ask.len
     }
 
-    /// Whether it grants its vote.
+    /// Returns whether the server grants its vote.
     fn grants(&self, from: u16, ask: &Ask) -> bool
         requires { self.now.standing.len ≤ 64 }
         ensures { result ≡ grants from ask.now self.now }
@@ -160,7 +160,7 @@ impl Server {
         }
     }
 
-    /// A candidate asks for its vote.
+    /// Handles a candidate's request for a vote.
     pub fn hear_request(
         &mut self,
         from: u16,
@@ -181,7 +181,7 @@ impl Server {
         }
     }
 
-    /// A candidate gets a vote.
+    /// Counts a vote for the candidate.
     fn elect(&mut self, from: u16, here: &Context, effects: &mut Effects<Message>) -> Change
         requires from { from < here.now.setup.hosts }
         requires may { MayReact here.now self.old effects.old }
@@ -196,7 +196,7 @@ impl Server {
         }
     }
 
-    /// A server tells its vote.
+    /// Handles a server's vote.
     pub fn hear_vote(
         &mut self,
         from: u16,

@@ -1,30 +1,30 @@
 //! An example of a node of real size: Raft, after Ongaro and Ousterhout (USENIX ATC 2014).
 //!
-//! Servers elect a leader. The leader puts the values of clients into its log and spreads them, one
-//! entry in a message. What a majority has is committed. A server says nothing of a vote or an
-//! entry before its disk has told that it is stable. The log has at most 64 entries. docs/RAFT.md
-//! has the table, a row for each input.
+//! Servers elect a leader. The leader adds the values of clients to its log and sends them to the
+//! others, one entry in a message. An entry that a majority has is committed. A server reports a
+//! vote or an entry only after its disk reports that it is stable. The log has at most 64 entries.
+//! docs/RAFT.md has the table, a row for each input.
 //!
 //! [`Raft`] implements the trait `Node` of `sim_node` for every [`Variant`] and every meter. So it
 //! is proved that the node does what its table says (`specs/Raft.antt`, a definition for each row)
-//! and that each reaction can be taken back. That Raft is safe is not proved, and two variants are
-//! not: [`Eager`] commits entries of older terms because a majority has them, and [`Hasty`] tells
-//! its vote before the vote is stable. They are there to be found with the simulator.
+//! and that each reaction can be undone. That Raft is safe is not proved, and two variants are not:
+//! [`Eager`] commits entries of older terms because a majority has them, and [`Hasty`] reports its
+//! vote before the vote is stable. They are there to be found with the simulator.
 //!
 //! Where to find what:
 //!
 //! - `roles.rt` has the messages, the roles, the state and the records, `rules.rt` the variants.
 //! - `elections.rt`, `replication.rt` and `commitment.rt` have the rows of elections, of followers
-//!   and of leaders; `server.rt` has timers, syncs, and which row an input comes to.
-//! - `client.rt` is the client, `disk.rt` what a server writes and boots from, `changes.rt` how a
-//!   reaction is taken back, `probes.rt` what is shown, `node.rt` the node.
+//!   and of leaders; `server.rt` has timers, syncs, and the choice of the row for an input.
+//! - `client.rt` is the client. `disk.rt` has the bytes that a server writes and boots from,
+//!   `changes.rt` undoes reactions, `probes.rt` has the probes, and `node.rt` the node.
 //!
 //! Why it is built this way (docs/NODES_SERVERS.md says more):
 //!
 //! - A server's [`Standing`] is all of it but the log and what it knows of its peers. A reaction
 //!   changes at most one entry or one peer ([`Change`]), so a record is small.
-//! - What a server has at hand is one [`Context`], and what the contracts of its reactions have in
-//!   common has names in `specs/Reacting.antt`: `MayReact`, `Reacted` and `LeadsBack`.
+//! - A server reacts in one [`Context`]. What the contracts of its reactions share has names in
+//!   `specs/Reacting.antt`: `MayReact`, `Reacted` and `LeadsBack`.
 //! - A variant is a type, so that a world has servers of one variant. The code is the same; it asks
 //!   the [`Rules`] at the two places where the variants differ.
 #![tactic(auto)]

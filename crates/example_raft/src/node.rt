@@ -25,7 +25,7 @@ impl<V, T> Model for Raft<V, T> {
     ghost invariant = { λ node. IsHost node.state };
 }
 
-/// Shows what the host is. Its setup and its number never change, and are left out.
+/// Shows the role of the host, without its setup and its number, which never change.
 impl<V, T> fmt::Debug for Raft<V, T> {
     fn fmt<W: fmt::Write>(&self, f: &mut fmt::Formatter<W>) -> fmt::Result {
         fmt::Debug::fmt(&self.state.role, f)

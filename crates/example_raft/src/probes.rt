@@ -5,12 +5,12 @@ ghost use Rattle.example_raft.specs.RaftProbes.{committed_at, leader_of, elected
 use crate::standing::value_of;
 use crate::{Rank, Server};
 
-/// The name of a probe, or none.
+/// Returns the name of a probe, or `None`.
 ///
-/// `next` is the operation that a client waits for. Of a server, `term`, `commit` and `len` are
+/// `next` is the operation that a client waits for. At a server, `term`, `commit` and `len` are
 /// what their names say, and `leads` is the term that it leads. `c1` to `c8` are the values
-/// committed at the first eight places of its log. `e1` to `e8` are one more than whom it knows to
-/// lead terms 1 to 8. What means nothing at a host is 0.
+/// committed at the first eight places of its log. `e1` to `e8` are one more than the server that
+/// it knows to lead terms 1 to 8. A probe without a meaning at a host is 0.
 pub fn probe_name(k: u8) -> Option<&'static str>
     ensures { option_copied result ≡ slice_get probe_names k }
 {
@@ -40,7 +40,7 @@ pub fn probe_name(k: u8) -> Option<&'static str>
     }
 }
 
-/// One more than the leader, 0 if it knows none.
+/// Returns one more than the leader, or 0 if there is none.
 fn leader_of(leader: Option<u16>) -> u64
     ensures { result ≡ leader_of leader }
 {
@@ -51,7 +51,7 @@ fn leader_of(leader: Option<u16>) -> u64
 }
 
 impl Server {
-    /// The n-th value, if it knows it to be committed; else 0.
+    /// Returns the n-th value if the server knows that it is committed, else 0.
     fn committed_at(&self, n: u8) -> u64
         requires low { 1 ≤ n }
         requires high { n ≤ 64 }
@@ -64,7 +64,7 @@ impl Server {
         }
     }
 
-    /// One more than whom it knows to lead a term.
+    /// Returns one more than the server that it knows to lead a term, or 0.
     fn elected_in(&self, term: u64) -> u64
         ensures { result ≡ elected_in term self.now.standing }
     {
@@ -75,7 +75,7 @@ impl Server {
         }
     }
 
-    /// The term that it leads, or 0.
+    /// Returns the term that the server leads, or 0.
     fn leads_term(&self) -> u64
         ensures { result ≡ leads_term self.now.standing.rank self.now.standing.term }
     {
@@ -85,7 +85,7 @@ impl Server {
         }
     }
 
-    /// The number that a probe shows.
+    /// Returns the number that a probe shows.
     pub fn probe(&self, k: u8) -> u64
         ensures { result ≡ probe_server k self.now }
     {

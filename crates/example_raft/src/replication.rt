@@ -9,7 +9,7 @@ use crate::{Ack, Append, Change, Context, Entry, Message, Rank, Server, Standing
 use sim_node::Effects;
 
 impl Standing {
-    /// The standing of a follower of this leader.
+    /// Returns the standing of a follower of this leader.
     fn follower_of(&self, from: u16) -> Standing
         ensures { result ≡ follower_of from self.now }
     {
@@ -20,8 +20,8 @@ impl Standing {
         }
     }
 
-    /// The standing that knows n entries to be the leader's, and those to be committed of which the
-    /// leader says so.
+    /// Returns the standing that also knows `n` entries to be the leader's, and as many of them to
+    /// be committed as `commit` says.
     fn verified(&self, n: u8, commit: u8) -> Standing
         ensures { result ≡ verified n commit self.now }
     {
@@ -46,7 +46,7 @@ impl Standing {
 }
 
 impl Server {
-    /// Whether it has what stands before an entry.
+    /// Returns whether the log has the entries before the one of a message.
     fn fits(&self, append: &Append) -> bool
         requires { self.now.standing.len ≤ 64 }
         ensures { result ≡ fits append.now self.now }
@@ -54,7 +54,7 @@ impl Server {
         append.prev <= self.standing.len && term_of(append.prev, &self.log) == append.before
     }
 
-    /// It has n entries of its leader already.
+    /// Handles a message of the leader when the log has its `n` entries already.
     fn agree(
         &mut self,
         from: u16,
@@ -73,7 +73,7 @@ impl Server {
         self.standing.acknowledge(from, true, matched, effects);
     }
 
-    /// Takes an entry of its leader.
+    /// Takes an entry of the leader.
     fn take(
         &mut self,
         from: u16,
@@ -98,7 +98,7 @@ impl Server {
         change
     }
 
-    /// Its leader tells of an entry, or of none, and it has what stands before that.
+    /// Handles a leader's message when the log has the entries before it.
     fn hear_entry(
         &mut self,
         from: u16,
@@ -130,7 +130,7 @@ impl Server {
         Change::Nothing
     }
 
-    /// It lacks what stands before an entry.
+    /// Handles a leader's message when the log lacks an entry before it.
     fn lack(&mut self, from: u16, prev: u8, here: &Context, effects: &mut Effects<Message>)
         requires from { from < here.now.setup.hosts }
         requires may { MayReact here.now self.old effects.old }
@@ -153,7 +153,7 @@ impl Server {
         set_timeout(here.word, effects);
     }
 
-    /// A leader tells of its log.
+    /// Handles a leader's message about its log.
     pub fn hear_append(
         &mut self,
         from: u16,

@@ -2,15 +2,15 @@ use crate::Rules;
 use sim_hosts::{Boxed, HostSet};
 use sim_node::Setup;
 
-/// A value in the log, with the term of the leader that put it there. No entry has the term 0.
+/// A value in the log, with the term of the leader that added it. No entry has the term 0.
 #[derive(Clone, Copy, Debug, PartialEq, Eq)]
 pub struct Entry {
     pub term: u64,
     pub value: u64,
 }
 
-/// A candidate's request for a vote: its term, how many entries its log has, and the term of the
-/// last of them.
+/// A candidate's request for a vote: its term, the number of entries of its log, and the term of
+/// the last one.
 #[derive(Clone, Copy, Debug, PartialEq, Eq)]
 pub struct Ask {
     pub term: u64,
@@ -18,8 +18,8 @@ pub struct Ask {
     pub last: u64,
 }
 
-/// What a leader of this term tells: after `prev` entries, the last of them of the term `before`,
-/// stands this entry, if any. `commit` entries are committed.
+/// A leader's message in this term: after `prev` entries, the last of them of the term `before`,
+/// comes this entry, if any. `commit` entries are committed.
 #[derive(Clone, Copy, Debug, PartialEq, Eq)]
 pub struct Append {
     pub term: u64,
@@ -29,8 +29,8 @@ pub struct Append {
     pub commit: u8,
 }
 
-/// What a follower answers in a term: its log is the leader's up to `at` entries, or else the
-/// leader is to try again after `at` entries.
+/// A follower's answer in a term: its log is the leader's up to `at` entries, or else the leader
+/// should try again after `at` entries.
 #[derive(Clone, Copy, Debug, PartialEq, Eq)]
 pub struct Ack {
     pub agrees: bool,
@@ -38,8 +38,8 @@ pub struct Ack {
     pub term: u64,
 }
 
-/// A message. A client's value is 1000 times the client's number, and the number of its operation,
-/// counted from 1.
+/// A message. A client's value is 1000 times the client's number, plus the number of its operation,
+/// from 1.
 #[derive(Clone, Copy, Debug, PartialEq, Eq)]
 pub enum Message {
     /// A client asks to commit a value.
@@ -50,22 +50,22 @@ pub enum Message {
     Try(u16),
     /// A candidate asks for a vote.
     RequestVote(Ask),
-    /// A server is for the candidate of this term, or isn't.
+    /// A server votes for the candidate of this term, or against it.
     Vote(bool, u64),
-    /// A leader tells of its log.
+    /// A leader sends of its log.
     Append(Append),
     /// A follower answers its leader.
     Appended(Ack),
 }
 
-/// A client: the operation that it waits for, counted from 1, and the server that it asks.
+/// A client: the operation that it waits for, from 1, and the server that it asks.
 #[derive(Clone, Copy, Debug, PartialEq, Eq)]
 pub struct Client {
     pub next: u64,
     pub server: u16,
 }
 
-/// What a server is in its term.
+/// The rank of a server in its term.
 #[derive(Clone, Copy, Debug, PartialEq, Eq)]
 pub enum Rank {
     Follower,
@@ -73,36 +73,36 @@ pub enum Rank {
     Leader,
 }
 
-/// What a server is, but for its log and what it knows of the others.
+/// The state of a server, but for its log and what it knows of the others.
 #[derive(Clone, Copy, Debug, PartialEq, Eq)]
 pub struct Standing {
     pub term: u64,
-    /// For whom it has voted in this term.
+    /// The candidate for which it has voted in this term.
     pub voted: Option<u16>,
     pub rank: Rank,
-    /// Whom it knows to lead this term.
+    /// The server that it knows to lead this term.
     pub leader: Option<u16>,
-    /// Who has voted for it.
+    /// The servers that have voted for it.
     pub votes: HostSet,
-    /// How many entries its log has.
+    /// The number of entries of its log.
     pub len: u8,
-    /// How many of them are known to be the leader's.
+    /// How many of its entries are known to be the leader's.
     pub matched: u8,
-    /// How many of them are known to be committed.
+    /// How many of its entries are known to be committed.
     pub commit: u8,
-    /// How many syncs it waits for.
+    /// The number of syncs that it waits for.
     pub unsure: u64,
 }
 
-/// How many entries a host has acknowledged in a term.
+/// The number of entries that a host has acknowledged in a term.
 #[derive(Clone, Copy, Debug, PartialEq, Eq)]
 pub struct Peer {
     pub term: u64,
     pub has: u8,
 }
 
-/// A server. What stands in `log` from its length on has no meaning; nor has what it knows of a
-/// peer in another term.
+/// A server. Entries of `log` past its length have no meaning; nor has what it knows of a peer in
+/// another term.
 #[derive(Clone, Copy, Debug)]
 pub struct Server {
     pub standing: Standing,
@@ -110,8 +110,8 @@ pub struct Server {
     pub peers: [Peer; 32],
 }
 
-/// What a server has at hand when it reacts: the rules that it follows, the setup of the cluster,
-/// its number, and the random word.
+/// The context in which a server reacts: the rules that it follows, the setup of the cluster, its
+/// number, and the random word.
 #[derive(Clone, Copy, Debug)]
 pub struct Context {
     pub rules: Rules,
@@ -120,7 +120,7 @@ pub struct Context {
     pub word: u32,
 }
 
-/// What a host is.
+/// The role of a host.
 #[derive(Debug, Drop)]
 pub enum Role {
     Client(Client),
@@ -135,17 +135,17 @@ pub struct State {
     pub role: Role,
 }
 
-/// What a reaction has changed of a log or of what is known of the others: what stood there before.
+/// What a reaction changed in the log or in the knowledge of the others: the value before.
 #[derive(Clone, Copy, Debug, PartialEq, Eq)]
 pub enum Change {
     Nothing,
-    /// This place of the log held this entry.
+    /// This place of the log had this entry.
     Entry(u8, Entry),
-    /// This host had acknowledged so much.
+    /// This host had acknowledged this much.
     Peer(u16, Peer),
 }
 
-/// The record of a reaction: what the host was before it, as far as that may have changed.
+/// The record of a reaction: the parts of the state before it that may have changed.
 #[derive(Clone, Copy, Debug, PartialEq, Eq)]
 pub enum RaftUndo {
     Client(Client),

@@ -3,7 +3,7 @@
 pub struct Rules {
     /// It commits an entry of an older term because a majority has it.
     pub eager: bool,
-    /// It tells a vote before the vote is stable.
+    /// It reports a vote before the vote is stable.
     pub hasty: bool,
 }
 
@@ -31,8 +31,8 @@ impl Variant for Sound {
     ghost RULES = { record { eager = false; hasty = false } };
 }
 
-/// Raft with a mistake: a leader commits what a majority has, of whatever term. A value that is
-/// committed so can be replaced later.
+/// Raft with a mistake: a leader commits what a majority has, of whatever term. A value committed
+/// this way can be replaced later.
 pub struct Eager;
 
 impl Variant for Eager {
@@ -46,7 +46,7 @@ impl Variant for Eager {
     ghost RULES = { record { eager = true; hasty = false } };
 }
 
-/// Raft with a mistake: a server tells its vote before it is stable. If it starts again, it can
+/// Raft with a mistake: a server reports its vote before it is stable. If it starts again, it can
 /// vote twice in a term, and so a term can have two leaders.
 pub struct Hasty;
 

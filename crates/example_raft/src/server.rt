@@ -12,7 +12,7 @@ use crate::{Ack, Change, Context, Message, Rank, Server, Standing};
 use sim_node::{Effects, Input, Setup};
 
 impl Standing {
-    /// A follower that is settled tells its leader what it has, or a candidate its vote.
+    /// As a settled follower, reports the log to the leader, or the vote to a candidate.
     fn answer(&self, setup: &Setup, effects: &mut Effects<Message>)
         requires placed { IsPlacedStanding setup.now.hosts self.now }
         requires empty { effects.old ≡ asked_for setup.now [] }
@@ -31,7 +31,7 @@ impl Standing {
 }
 
 impl Server {
-    /// A leader that is settled commits what it has, and spreads.
+    /// As a settled leader, commits what it may, and sends its last entry.
     fn lead_on(&mut self, here: &Context, effects: &mut Effects<Message>)
         requires { MayReact here.now self.old effects.old }
         ensures { Reacted here.now (settled rank.Leader here.now self.old) self.new effects.new }
@@ -40,7 +40,7 @@ impl Server {
         self.spread(here, effects);
     }
 
-    /// A candidate that is settled leads if its own vote is enough, and else asks for votes.
+    /// As a settled candidate, leads if its own vote is enough, and else asks for votes.
     fn seek(&mut self, here: &Context, effects: &mut Effects<Message>) -> Change
         requires { MayReact here.now self.old effects.old }
         ensures did { Reacted here.now (settled rank.Candidate here.now self.old) self.new
@@ -54,7 +54,7 @@ impl Server {
         Change::Nothing
     }
 
-    /// It is settled.
+    /// Goes on once settled, by its rank.
     fn settle(&mut self, here: &Context, effects: &mut Effects<Message>) -> Change
         requires { MayReact here.now self.old effects.old }
         ensures did { Reacted here.now (settled self.old.standing.rank here.now self.old) self.new
@@ -69,7 +69,7 @@ impl Server {
         Change::Nothing
     }
 
-    /// A sync has happened.
+    /// Handles a sync.
     fn hear_sync(&mut self, here: &Context, effects: &mut Effects<Message>) -> Change
         requires { MayReact here.now self.old effects.old }
         ensures did { Reacted here.now (synced here.now self.old) self.new effects.new }
@@ -83,7 +83,7 @@ impl Server {
         }
     }
 
-    /// The timer is over.
+    /// Handles the timer.
     fn time_out(&mut self, here: &Context, effects: &mut Effects<Message>)
         requires { MayReact here.now self.old effects.old }
         ensures { Reacted here.now (timed_out self.old.standing.rank here.now self.old) self.new
@@ -100,7 +100,7 @@ impl Server {
         }
     }
 
-    /// Reacts to an input. Returns what has changed of its log or of what it knows of the others.
+    /// Reacts to an input. Returns the change of the log or of what the server knows of the others.
     pub fn react(
         &mut self,
         here: &Context,

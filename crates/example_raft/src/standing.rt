@@ -9,7 +9,7 @@ use crate::{Entry, Message, Rank, Standing};
 use sim_hosts::HostSet;
 use sim_node::{Effects, Setup};
 
-/// The term of the n-th entry, 0 before the first.
+/// Returns the term of the n-th entry, or 0 before the first.
 pub fn term_of(n: u8, log: &[Entry; 64]) -> u64
     requires { n ≤ 64 }
     ensures { result ≡ term_of n log.now }
@@ -17,7 +17,7 @@ pub fn term_of(n: u8, log: &[Entry; 64]) -> u64
     if n == 0 { 0 } else { log[n as usize - 1].term }
 }
 
-/// The value of the n-th entry.
+/// Returns the value of the n-th entry.
 pub fn value_of(n: u8, log: &[Entry; 64]) -> u64
     requires low { 1 ≤ n }
     requires high { n ≤ 64 }
@@ -34,7 +34,7 @@ pub fn set_timeout(word: u32, effects: &mut Effects<Message>)
     effects.timer(150 + word % 150);
 }
 
-/// Whether so many servers are a majority.
+/// Returns whether `n` servers are a majority.
 pub fn is_majority(n: u32, setup: &Setup) -> bool
     ensures { result ≡ is_majority n setup.now }
 {
@@ -42,14 +42,14 @@ pub fn is_majority(n: u32, setup: &Setup) -> bool
 }
 
 impl Standing {
-    /// Whether it waits for no sync.
+    /// Returns whether the server waits for no sync.
     pub fn is_settled(&self) -> bool
         ensures { result ≡ is_settled self.now.unsure }
     {
         self.unsure == 0
     }
 
-    /// The standing of a follower in this term that knows no leader and has not voted.
+    /// Returns the standing of a follower in this term that knows no leader and has not voted.
     pub fn following(&self, term: u64) -> Standing
         ensures { result ≡ following term self.now }
     {
@@ -63,7 +63,7 @@ impl Standing {
         }
     }
 
-    /// The standing that waits for one sync more.
+    /// Returns the standing that waits for one more sync.
     pub fn waiting(&self) -> Standing
         ensures { result ≡ waiting self.now }
     {
@@ -73,7 +73,7 @@ impl Standing {
         }
     }
 
-    /// The standing in the term of a message, if that is later.
+    /// Returns the standing in the term of a message, if that is later.
     pub fn caught_up(&self, term: u64) -> Standing
         ensures { result ≡ caught_up term self.now }
     {
@@ -84,7 +84,7 @@ impl Standing {
         }
     }
 
-    /// The standing of a candidate in the next term.
+    /// Returns the standing of a candidate in the next term.
     pub fn candidacy(&self, me: u16) -> Standing
         requires { me < 32 }
         ensures { result ≡ candidacy me self.now }

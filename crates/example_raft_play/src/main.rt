@@ -12,8 +12,8 @@
 //! - The variants are one list of subjects ([`With`], [`Only`]), so one program runs the same
 //!   scenario with and without a mistake: change the protocol's name and nothing else.
 //!
-//! The gate runs it on the file `stdin`, in which a server votes twice in a term, and compares what
-//! it writes with `stdout`.
+//! The gate runs it on the file `stdin`, in which a server votes twice in a term, and compares its
+//! output with `stdout`.
 #![tactic(auto)]
 
 mod subject;

@@ -1,6 +1,6 @@
-//! Four sessions at one book, each in a thread of its own. A run of two-phase commit is crashed
-//! after more and more events, on a branch for each crash, and each session looks at what became of
-//! its own.
+//! Four sessions at one book, each in a thread of its own. Each session has a branch of a run of
+//! two-phase commit. It crashes the coordinator there, each session after a different number of
+//! events, and looks at the outcome.
 //!
 //! docs/SESSIONS.md says what the calls promise. The program makes a book, lends it to four seats
 //! (`Shared::new`), lets each thread give seven commands through its seat, and writes the entries
@@ -14,8 +14,8 @@
 //! - Session 0 makes all branches before the threads start, since the number of a branch depends on
 //!   the order in which they are made.
 //! - A session that is refused a command ends early. The contracts of the helpers say only that a
-//!   seat stays at its book (`IsAt`), which the next call asks for.
-//! - Entries are told by `told.rt` in a few words of its own; a program that wants the lines of
+//!   seat stays at its book (`IsAt`), which the next call requires.
+//! - `told.rt` shows entries in a few words of its own; a program that wants the lines of
 //!   `simback play` calls `sim_replies`.
 #![tactic(auto)]
 
@@ -41,19 +41,18 @@ type Node = TwoPhase<Tally>;
 
 const SESSIONS: u8 = 4;
 
-/// Three branches are made, and each session gives seven commands.
+/// Three commands make branches, and each of four sessions gives seven.
 const ENTRIES: usize = 31;
 
 const COORDINATOR: u16 = 0;
 
 const PARTICIPANT: u16 = 1;
 
-/// The probe that tells the outcome of the first transaction: 1 where it is committed, 2 where it
-/// is aborted, else 0.
+/// The probe of the first transaction's outcome: 1 if it is committed, 2 if it is aborted, else 0.
 const FIRST: u8 = 1;
 
-// A coordinator, a participant and a client with one transaction. A message takes 10 ms, a sync of
-// a disk 5 ms.
+// Returns a scenario with a coordinator, a participant and a client with one transaction. A message
+// takes 10 ms, a sync of a disk 5 ms.
 fn scenario() -> Result<Scenario> {
     let ways = Ways::all(Way {
         latency_min: 10,
@@ -71,7 +70,7 @@ fn scenario() -> Result<Scenario> {
     Ok(scenario.numbered(5))
 }
 
-// Session 0 makes a branch without events for each session but itself. It has the first branch.
+// Makes a branch without events for each session but session 0, which has the first branch.
 fn make_branches<R: Wait>(rt: &R, shared: &Shared<Node>, seat: &mut Seat<Node>) -> Result<()>
     requires { IsAt shared.now seat.old }
     ensures { IsAt shared.now seat.new }
@@ -85,8 +84,8 @@ fn make_branches<R: Wait>(rt: &R, shared: &Shared<Node>, seat: &mut Seat<Node>) 
     Ok(())
 }
 
-// A session crashes the coordinator of its branch, and asks both servers what became of the
-// transaction. It ends early where a command is not taken.
+// Crashes the coordinator of the session's branch, and looks at the outcome of the transaction at
+// both servers. Ends early if a command is not taken.
 fn crash<R: Wait>(rt: &R, shared: &Shared<Node>, seat: &mut Seat<Node>)
     requires { IsAt shared.now seat.old }
     ensures { IsAt shared.now seat.new }

@@ -3,7 +3,7 @@ use sim_book::{Command, Entry, Reply, Stop};
 use sim_world::{Fault, Query, View};
 use std::fmt;
 
-/// An entry as a line: whose it is, its number, the command, and what it was answered.
+/// Shows an entry as a line: its session, its number, the command, and the reply.
 #[derive(Clone, Copy)]
 pub struct Told<'a>(pub &'a Entry);
 
@@ -16,7 +16,7 @@ impl fmt::Display for Told<'_> {
     }
 }
 
-// The command, without its branch.
+// Writes the command, without its branch.
 fn tell_command<W: fmt::Write>(f: &mut fmt::Formatter<W>, command: &Command) -> fmt::Result {
     match command {
         Command::Branch(_, events) => write!(f, "branch of {events} events"),
@@ -29,7 +29,7 @@ fn tell_command<W: fmt::Write>(f: &mut fmt::Formatter<W>, command: &Command) -> 
     }
 }
 
-// What it was answered.
+// Writes the reply.
 fn tell_reply<W: fmt::Write>(f: &mut fmt::Formatter<W>, reply: &Reply) -> fmt::Result {
     match reply {
         Reply::Made(branch) => write!(f, ", made {branch}"),
@@ -48,7 +48,7 @@ fn tell_reply<W: fmt::Write>(f: &mut fmt::Formatter<W>, reply: &Reply) -> fmt::R
     }
 }
 
-// Why a run stopped, where that is not what was asked.
+// Returns why a run stopped, unless it stopped as asked.
 fn why(stop: Stop) -> &'static str {
     match stop {
         Stop::AllDone => ", all clients are done",

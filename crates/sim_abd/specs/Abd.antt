@@ -1,6 +1,6 @@
 -- The register of Attiya, Bar-Noy and Dolev with several writers: each operation asks a majority of
--- the servers, and then stores at one. A server answers for what it stores only when its disk has
--- told that the write is stable.
+-- the servers, and then stores at a majority. A server answers for what it stores only after its
+-- disk reports that the write is stable.
 use Rattle.std.specs.Prelude.{ℕ, ◌+◌, ◌*◌, ◌/◌, ◌%◌, ◌==◌, nat_lt, nat_le, Bool, false, not, ◌&&◌}
 use Rattle.std.specs.Prelude.{◌||◌, List, [], ◌∷◌, ◌++◌, Option, None, Some, if◌then◌else◌}
 use Rattle.sim_node.specs.declared.Setup.{Setup}
@@ -25,7 +25,7 @@ use Rattle.sim_hosts.specs.Reactions.{Reaction}
 use Rattle.sim_hosts.specs.Bytes.{bytes_of, number_at}
 use Rattle.sim_hosts.specs.Hosts.{nobody, servers, is_in, joined, not_in, size, to_all}
 
--- the first tag is greater: by its number, and where these are equal by its writer
+-- the first tag is greater: by its number, and by its writer if the numbers are equal
 abbrev pub is_greater : Tagged → Tagged → Bool
 is_greater a b = nat_lt b.number a.number || ((a.number == b.number) && nat_lt b.writer a.writer)
 
@@ -51,7 +51,7 @@ ask_of c = Ask (times 2 c.next)
 abbrev pub store_of : Client → AbdMsg
 store_of c = Store (plus (times 2 c.next) 1) c.best
 
--- an operation begins: the servers are asked
+-- an operation begins: it asks the servers
 abbrev pub begun : ℕ → Setup → Client → Reaction Client AbdMsg
 begun i setup c =
     let new = record c { next = i; phase = phase.Asking; answers = nobody; best = untagged } in
@@ -64,7 +64,7 @@ to_be_stored me i best =
     then record { number = raised best.number; writer = me; val = plus (times 1000 me) i }
     else best
 
--- a majority has told: the servers store
+-- a majority has answered: the client asks the servers to store
 abbrev pub stores : ℕ → Setup → Client → Reaction Client AbdMsg
 stores me setup c =
     let new = record c {
@@ -82,8 +82,7 @@ has_told from told me setup c =
     let new = record c { answers = joined from c.answers; best = greater_of c.best told } in
     if is_majority setup new.answers then stores me setup new else (new, [])
 
--- a majority has stored: the operation is over, and the next begins; after the last the client
--- rests
+-- a majority has stored: the operation ends, and the next begins; after the last the client rests
 abbrev pub finished : ℕ → Setup → Client → Reaction Client AbdMsg
 finished ops setup c =
     let next = raised c.next in
@@ -96,7 +95,7 @@ has_kept from ops setup c =
     let new = record c { answers = joined from c.answers } in
     if is_majority setup new.answers then finished ops setup new else (new, [])
 
--- the timer: what was sent is sent again to the servers that have not answered
+-- the timer: the client sends again to the servers that have not answered
 abbrev pub asks_again : Phase → Setup → Client → Reaction Client AbdMsg
 asks_again phase.Resting setup c = (c, [])
 asks_again phase.Asking setup c =
@@ -135,7 +134,7 @@ server_at_boot bytes = record {
 abbrev pub tagged_bytes : Tagged → List ℕ
 tagged_bytes t = bytes_of t.number ++ bytes_of t.writer ++ bytes_of t.val
 
--- a greater tag is taken with its value, and its host is answered when it is stable
+-- takes a greater tag with its value; the server answers when it is stable
 abbrev pub takes : ℕ → ℕ → Tagged → Server → Reaction Server AbdMsg
 takes from r new s = (
   record {
@@ -152,12 +151,12 @@ stored from r new s =
     else if is_settled s.unsure then (s, Effect.Send from (Kept r) ∷ [])
     else (record s { owed = Some (record { host = from; request = r }) }, [])
 
--- what is owed is paid
+-- sends the answer that the server owes
 abbrev pub paid : Option Owed → Server → Reaction Server AbdMsg
 paid None s = (s, [])
 paid (Some o) s = (record s { owed = None }, Effect.Send o.host (Kept o.request) ∷ [])
 
--- a sync has come
+-- handles a sync
 abbrev pub server_synced : Server → Reaction Server AbdMsg
 server_synced s =
     let new = record s { unsure = lowered s.unsure } in
@@ -186,7 +185,7 @@ abbrev pub react_as : Role → Input AbdMsg → State → Reaction State AbdMsg
 react_as (role.Client c) i state = in_role role.Client (react_client state.setup state.me c i) state
 react_as (role.Server s) i state = in_role role.Server (react_server s i) state
 
--- probe 0 is `next` of a client, probe 1 the number of a server, probe 2 the value of a server and
+-- probe 0 is `next` of a client, probe 1 the number of a server, probe 2 the value of a server or
 -- the last read of a client
 abbrev pub probe_as : Role → ℕ → ℕ
 probe_as (role.Client c) k = if k == 0 then c.next else if k == 2 then c.last_read else 0

@@ -6,7 +6,7 @@ use Rattle.sim_abd.specs.declared.roles.Role.{Role}
 use Rattle.sim_abd.specs.declared.roles.Role.TheVariants as role
 use Rattle.sim_abd.specs.declared.roles.State.{State}
 
--- the host that a server owes an answer is one
+-- the host to which a server owes an answer exists
 abbrev pub IsPlacedServer : ℕ → Server → Type 0
 IsPlacedServer hosts s = IfSome s.owed (λ o. o.host < hosts)
 

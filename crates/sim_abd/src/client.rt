@@ -11,11 +11,11 @@ use crate::{AbdMsg, Client, Phase, Tagged};
 use sim_hosts::{HostSet, send_to_all, send_to_missing};
 use sim_node::{Effects, Input, Setup};
 
-/// How long a client waits for answers before it sends again, in milliseconds.
+/// How long a client waits for answers before it sends again (ms).
 const PATIENCE: u32 = 200;
 
 impl Tagged {
-    /// What has the least tag.
+    /// Returns a value with the least tag.
     fn untagged() -> Tagged
         ensures { result ≡ untagged }
     {
@@ -26,7 +26,7 @@ impl Tagged {
         }
     }
 
-    /// Whether its tag is greater.
+    /// Returns whether this tag is greater than the other.
     pub fn is_greater(&self, other: &Tagged) -> bool
         ensures { result ≡ is_greater self.now other.now }
     {
@@ -34,14 +34,14 @@ impl Tagged {
     }
 }
 
-/// Whether the operation of this number is a write.
+/// Returns whether the operation of this number is a write.
 fn is_write(i: u32) -> bool
     ensures { result ≡ is_write i }
 {
     i % 2 == 1
 }
 
-/// Whether most servers have answered.
+/// Returns whether most servers have answered.
 fn is_majority(setup: &Setup, answers: HostSet) -> bool
     ensures { result ≡ is_majority setup.now answers }
 {
@@ -61,7 +61,7 @@ impl Client {
         }
     }
 
-    /// What it asks the servers.
+    /// Returns the message that asks the servers for their value.
     fn ask(&self) -> AbdMsg
         requires { self.now.next < 2 ^ 16 }
         ensures { result ≡ ask_of self.now }
@@ -69,7 +69,7 @@ impl Client {
         AbdMsg::Ask(2 * self.next)
     }
 
-    /// What it asks the servers to keep.
+    /// Returns the message that asks the servers to store.
     fn store(&self) -> AbdMsg
         requires { self.now.next < 2 ^ 16 }
         ensures { result ≡ store_of self.now }
@@ -93,7 +93,8 @@ impl Client {
         effects.timer(PATIENCE);
     }
 
-    /// A majority has told: it asks the servers to keep the best, or in a write what it writes.
+    /// Asks the servers to store, after a majority answered: a read stores the best value, a write
+    /// its own.
     fn begin_to_store(&mut self, me: u16, setup: &Setup, effects: &mut Effects<AbdMsg>)
         requires setup { IsSetup setup.now }
         requires counted { self.old.next < 2 ^ 16 }
@@ -117,7 +118,7 @@ impl Client {
         effects.timer(PATIENCE);
     }
 
-    /// A server has told what it keeps.
+    /// Handles a server's answer with its value.
     fn has_told(
         &mut self,
         from: u16,
@@ -144,7 +145,7 @@ impl Client {
         }
     }
 
-    /// A majority has stored: the operation is over.
+    /// Ends the operation, after a majority stored.
     fn finish(&mut self, ops: u16, setup: &Setup, effects: &mut Effects<AbdMsg>)
         requires setup { IsSetup setup.now }
         requires counted { self.old.next < 2 ^ 16 }
@@ -166,7 +167,7 @@ impl Client {
         }
     }
 
-    /// A server has kept what it was asked to.
+    /// Handles a server's answer that it has stored.
     fn has_kept(&mut self, from: u16, ops: u16, setup: &Setup, effects: &mut Effects<AbdMsg>)
         requires setup { IsSetup setup.now }
         requires from { from < setup.now.hosts }
@@ -204,7 +205,7 @@ impl Client {
         }
     }
 
-    /// Whether it waits for this answer of a server that tells what it keeps.
+    /// Returns whether the client waits for this answer of a server with its value.
     fn waits_for_told(&self, from: u16, r: u32) -> bool
         requires from { from < 32 }
         requires counted { IsCounted self.now.phase self.now.next }
@@ -217,7 +218,7 @@ impl Client {
         }
     }
 
-    /// Whether it waits for this answer of a server that has kept what it was asked to.
+    /// Returns whether the client waits for this answer of a server that it has stored.
     fn waits_for_kept(&self, from: u16, r: u32) -> bool
         requires from { from < 32 }
         requires counted { IsCounted self.now.phase self.now.next }
@@ -230,7 +231,7 @@ impl Client {
         }
     }
 
-    /// It reacts to an input.
+    /// Reacts to an input.
     pub(crate) fn react(
         &mut self,
         setup: &Setup,

@@ -8,7 +8,7 @@ use crate::{AbdMsg, Client};
 use sim_node::{Effects, Input, Setup};
 use std::marker::Model;
 
-/// A client whose operation under way has a number of 16 bits, so that its requests fit into
+/// A client whose current operation has a number of 16 bits, so that its requests fit into
 /// messages. Contracts see the client.
 #[derive(Clone, Copy, Debug, PartialEq, Eq)]
 pub struct CountedClient {
@@ -37,7 +37,7 @@ impl CountedClient {
         }
     }
 
-    /// The client.
+    /// Returns the client.
     #[inline]
     pub fn get(&self) -> &Client
         ensures { result.now ≡ self.now }
@@ -45,7 +45,7 @@ impl CountedClient {
         &self.inner
     }
 
-    /// It reacts to an input.
+    /// Reacts to an input.
     pub fn react(
         &mut self,
         setup: &Setup,

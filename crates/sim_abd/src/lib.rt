@@ -7,15 +7,15 @@
 //!
 //! [`AbdRegister`] implements the trait `Node` of `sim_node` for every meter. So it is proved that
 //! the node does what its table says (`specs/Abd.antt`, a definition for each row) and that each
-//! reaction can be taken back. That the register is atomic is not proved; that is what the
-//! simulator is there to look at.
+//! reaction can be undone. That the register is atomic is not proved; the simulator is there to
+//! examine it.
 //!
 //! Where to find what: `roles.rt` has the messages, the roles and the state; `client.rt` and
 //! `server.rt` have the rows; `node.rt` is the node.
 //!
 //! Why it is built this way:
 //!
-//! - A role is small, so it is its own record: a reaction is taken back by the role before it.
+//! - A role is small, so it is its own record: the role before a reaction undoes it.
 //! - A request has four bytes, so that it fits beside the tag of a message: twice the number of the
 //!   operation, or one more. So the number of an operation must be small. [`CountedClient`] is a
 //!   type with that invariant (16 bits), and `specs/AbdNumbers.antt` says which numbers an

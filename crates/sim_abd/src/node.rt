@@ -1,4 +1,4 @@
-//! A host of the register as a node: a client or a server, and how its reactions are taken back.
+//! A host of the register as a node: a client or a server, and how its reactions are undone.
 use crate::{AbdMsg, CountedClient, Role, Server, State};
 use sim_node::{Effects, Input, Meter, NoMemory, Node, Setup};
 use std::alloc::Global;
@@ -26,7 +26,7 @@ impl<T> Model for AbdRegister<T> {
         × IsPlaced node.state.setup.hosts node.state.role };
 }
 
-/// Shows what the host is. Its setup and its number never change, and are left out.
+/// Shows the role of the host, without its setup and its number, which never change.
 impl<T> fmt::Debug for AbdRegister<T> {
     fn fmt<W: fmt::Write>(&self, f: &mut fmt::Formatter<W>) -> fmt::Result {
         fmt::Debug::fmt(&self.state.role, f)

@@ -11,21 +11,21 @@ pub struct Tagged {
     pub val: u64,
 }
 
-/// A message. A request of a client has an even number where it asks, an odd one where it stores.
-/// It stands first, beside the tag, to save bytes.
+/// A message. A request of a client has an even number if it asks, an odd one if it stores. The
+/// number comes first, next to the tag, to save bytes.
 #[derive(Clone, Copy, Debug, PartialEq, Eq)]
 pub enum AbdMsg {
-    /// A client asks what a server keeps.
+    /// A client asks for the value of a server.
     Ask(u32),
-    /// A server tells what it keeps.
+    /// A server answers with its value.
     Tell(u32, Tagged),
-    /// A client asks a server to keep this.
+    /// A client asks a server to store this.
     Store(u32, Tagged),
-    /// A server keeps this or a greater one, and it is stable.
+    /// A server has stored this or a greater one, and it is stable.
     Kept(u32),
 }
 
-/// What a client does.
+/// The phase of a client's operation.
 #[derive(Clone, Copy, Debug, PartialEq, Eq)]
 pub enum Phase {
     Resting,
@@ -36,17 +36,17 @@ pub enum Phase {
 /// A client.
 #[derive(Clone, Copy, Debug, PartialEq, Eq)]
 pub struct Client {
-    /// The operation that is under way, counted from 1.
+    /// The number of the current operation, from 1.
     pub next: u32,
     pub phase: Phase,
-    /// Who has answered in this phase.
+    /// The servers that have answered in this phase.
     pub answers: HostSet,
-    /// What has the greatest tag of all that was told, and then what is stored.
+    /// The greatest tagged value of the answers, and then the one to be stored.
     pub best: Tagged,
     pub last_read: u64,
 }
 
-/// A host, and its request that is answered when what is kept is stable.
+/// A host and its request, to be answered when the stored value is stable.
 #[derive(Clone, Copy, Debug, PartialEq, Eq)]
 pub struct Owed {
     pub host: u16,
@@ -57,12 +57,12 @@ pub struct Owed {
 #[derive(Clone, Copy, Debug, PartialEq, Eq)]
 pub struct Server {
     pub kept: Tagged,
-    /// How many syncs it waits for.
+    /// The number of syncs that it waits for.
     pub unsure: u64,
     pub owed: Option<Owed>,
 }
 
-/// What a host is.
+/// The role of a host.
 #[derive(Clone, Copy, Debug, PartialEq, Eq)]
 pub enum Role {
     Client(CountedClient),

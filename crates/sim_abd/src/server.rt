@@ -1,4 +1,4 @@
-//! The rows of a server of the register, and what it writes to its disk.
+//! The rows of a server of the register, and the bytes that it writes to its disk.
 ghost use Rattle.std.specs.Prelude.{◌≡◌, ◌<◌, []};
 ghost use Rattle.sim_node.specs.Node.{IsFrom};
 ghost use Rattle.sim_hosts.specs.Reactions.{asked_for};
@@ -10,7 +10,7 @@ use crate::{AbdMsg, Owed, Server, Tagged};
 use sim_hosts::{number_at, put_number};
 use sim_node::{Effects, Input, Setup};
 
-/// The bytes of a value with its tag.
+/// Returns the bytes of a tagged value.
 fn tagged_bytes(tagged: &Tagged) -> [u8; 24]
     ensures { result ≡ tagged_bytes tagged.now }
 {
@@ -22,7 +22,7 @@ fn tagged_bytes(tagged: &Tagged) -> [u8; 24]
 }
 
 impl Server {
-    /// The server that starts from these bytes of its disk.
+    /// Returns the server that boots from these bytes of its disk.
     pub fn at_boot(disk: &[u8]) -> Server
         ensures { result ≡ server_at_boot disk.now }
     {
@@ -37,7 +37,7 @@ impl Server {
         }
     }
 
-    /// Takes a value of a greater tag, and owes an answer for it.
+    /// Takes a value with a greater tag, and owes an answer for it.
     fn take(&mut self, owed: Owed, new: &Tagged, setup: &Setup, effects: &mut Effects<AbdMsg>)
         requires host { owed.host < setup.now.hosts }
         requires empty { effects.old ≡ asked_for setup.now [] }
@@ -55,7 +55,7 @@ impl Server {
         effects.sync();
     }
 
-    /// A host asks it to keep a value.
+    /// Handles a host's request to store a value.
     fn store(
         &mut self,
         from: u16,
@@ -84,7 +84,7 @@ impl Server {
         }
     }
 
-    /// A sync has come: where it is settled, it pays what it owes.
+    /// Handles a sync. If the server is settled, it sends the answer that it owes.
     fn synced(&mut self, setup: &Setup, effects: &mut Effects<AbdMsg>)
         requires placed { IsPlacedServer setup.now.hosts self.old }
         requires empty { effects.old ≡ asked_for setup.now [] }
@@ -101,7 +101,7 @@ impl Server {
         }
     }
 
-    /// It reacts to an input.
+    /// Reacts to an input.
     pub fn react(&mut self, setup: &Setup, input: &Input<AbdMsg>, effects: &mut Effects<AbdMsg>)
         requires sender { IsFrom setup.now.hosts input.now }
         requires placed { IsPlacedServer setup.now.hosts self.old }

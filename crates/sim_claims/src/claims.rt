@@ -1,4 +1,4 @@
-//! The word from which the workers draw.
+//! The word from which workers draw numbers.
 ghost use Rattle.std.specs.Prelude.{ℕ, ◌≡◌, ◌+◌, ◌-◌, ◌^◌, ◌<◌, ◌≤◌, [], ◌∷◌, ◌++◌, length, IfOk};
 ghost use Rattle.sim_claims.specs.Claims.{hand, past, times, once_below};
 
@@ -6,7 +6,7 @@ use crate::hand::{Apart, Claim, Hand, Law, Limits, Together};
 use atomic_table::{Seat, Table};
 use std::alloc::{AllocError, Global};
 
-/// The number of the next piece.
+/// A shared word: the number of the next piece.
 #[derive(Drop)]
 pub(crate) struct Claims {
     table: Table<(), Hand, Limits, Law, Global>,
@@ -15,11 +15,11 @@ pub(crate) struct Claims {
     ghost known: { (pieces ≡ table.shared.key.pieces) × (pieces + 1 < 2 ^ 64) },
 }
 
-/// A worker's right to claim, and what it drew.
+/// A worker's right to claim, and the numbers it drew.
 pub(crate) type Worker = Seat<(), Hand>;
 
 impl Claims {
-    /// The claims, and a worker that stands for all.
+    /// Makes the claims, and one worker that has the parts of all workers.
     pub(crate) fn new(
         alloc: Global,
         pieces: u64,
@@ -36,14 +36,14 @@ impl Claims {
         Ok((Claims { table, pieces }, worker))
     }
 
-    /// How many pieces there are.
+    /// Returns the number of pieces.
     pub(crate) fn count(&self) -> u64
         ensures { (result ≡ self.now.table.shared.key.pieces) × (result + 1 < 2 ^ 64) }
     {
         self.pieces
     }
 
-    /// The next number, which no other claim gives.
+    /// Draws the next number. No other claim returns the same.
     pub(crate) fn claim(&self, worker: &mut Worker) -> u64
         requires of { worker.old.table_id ≡ self.now.table.shared.table_id }
         requires turn { past self.now.table.shared.key.pieces worker.old.me.0.drawn
@@ -58,7 +58,7 @@ impl Claims {
         self.table.shared.fetch_add::<Claim>(worker, 0, 1)
     }
 
-    /// One worker apart from the others.
+    /// Splits one worker off `worker`.
     pub(crate) fn apart(&self, worker: &mut Worker) -> Worker
         requires of { worker.old.table_id ≡ self.now.table.shared.table_id }
         requires parts { 1 < worker.old.me.0.parts }
@@ -75,7 +75,7 @@ impl Claims {
         self.table.shared.split_seat::<Apart>(worker)
     }
 
-    /// What two workers drew.
+    /// Joins another worker to `worker`, with the numbers it drew.
     pub(crate) fn together(&self, worker: &mut Worker, other: Worker)
         requires of { (worker.old.table_id ≡ self.now.table.shared.table_id)
             × (other.table_id ≡ self.now.table.shared.table_id) }
@@ -90,7 +90,7 @@ impl Claims {
         self.table.shared.join_seat::<Together>(worker, other);
     }
 
-    /// Ends the claims. The numbers that were drawn are those below some number, each once.
+    /// Ends the claims. The numbers drawn by then are all numbers below some bound, each once.
     pub(crate) fn close(self, worker: Worker)
         requires of { worker.table_id ≡ self.table.shared.table_id }
         requires all { worker.me.0.parts ≡ self.table.shared.key.workers }

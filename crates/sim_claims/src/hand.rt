@@ -2,13 +2,13 @@
 use atomic_table::{Join, Play, Split, TableRule};
 use std::collections::LinkedList;
 
-/// The parts of a worker's right to claim, and the numbers that it drew. No value of it is made.
+/// The parts of a worker's right to claim, and the numbers it drew. It exists only in contracts.
 pub(crate) struct Hand {
     pub(crate) parts: u64,
     pub(crate) drawn: LinkedList<u64>,
 }
 
-/// How many pieces there are, and for how many workers.
+/// The number of pieces and of workers.
 #[derive(Clone, Copy)]
 pub(crate) struct Limits {
     pub(crate) pieces: u64,
@@ -27,7 +27,7 @@ impl TableRule<(), Hand, Limits> for Law {
     ghost first = { λ l. hand l.workers [] };
 }
 
-/// The next number is drawn.
+/// Draws the next number.
 pub(crate) struct Claim;
 
 impl Play<(), Hand> for Claim {
@@ -36,7 +36,7 @@ impl Play<(), Hand> for Claim {
     ghost then = { Draws };
 }
 
-/// One worker apart from the others.
+/// Splits one worker off.
 pub(crate) struct Apart;
 
 impl Split<Hand> for Apart {
@@ -48,7 +48,7 @@ impl Split<Hand> for Apart {
     ghost right = { λ v. hand 1 [] };
 }
 
-/// Two workers' numbers together.
+/// Joins the numbers of two workers.
 pub(crate) struct Together;
 
 impl Join<Hand> for Together {

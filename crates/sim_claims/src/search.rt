@@ -11,7 +11,7 @@ use std::alloc::Global;
 use std::sync::Wait;
 use std::thread::{Threads, join};
 
-/// What stands round each piece: it is told before and after.
+/// Called before and after each piece.
 pub trait Gate {
     fn enter<R: Wait>(&self, rt: &R, piece: u64);
 
@@ -30,17 +30,17 @@ impl Gate for OpenGate {
 
 /// Pieces of work, numbered from 0, each with a finding or none.
 pub trait Pieces<M> {
-    // how many there are
+    // the number of pieces
     ghost count: { Self → ℕ };
 
     // the finding of a piece
     ghost finding: { Self → ℕ → Option ℕ };
 
-    /// How many pieces there are.
+    /// Returns the number of pieces.
     fn count(&self) -> u64
         ensures { result ≡ count self.now };
 
-    /// The finding of a piece, or none.
+    /// Returns the finding of a piece, or `None`.
     fn scan(&self, piece: u64, meter: &mut M) -> Result<Option<u32>, NoMemory>
         requires { piece < count self.now }
         ensures { IfOk result (λ r. r ≡ finding self.now piece) };
@@ -49,7 +49,7 @@ pub trait Pieces<M> {
 // A piece with its finding.
 type Found = Option<(u64, u32)>;
 
-// The finding with the lesser piece.
+// Returns the finding with the lesser piece.
 fn nearer(a: Found, b: Found) -> Found
     ensures { result ≡ nearer_of a b }
 {
@@ -60,7 +60,7 @@ fn nearer(a: Found, b: Found) -> Found
     }
 }
 
-// The finding with its piece.
+// Returns a finding with its piece.
 fn placed(piece: u64, found: Option<u32>) -> Found
     ensures { result ≡ at_piece piece found }
 {
@@ -70,7 +70,8 @@ fn placed(piece: u64, found: Option<u32>) -> Found
     }
 }
 
-// The nearer of the best so far and what a piece has. A piece past the best isn't scanned.
+// Scans a piece unless it is past the best one. Returns the nearer of `best` and the piece's
+// finding.
 fn look<M, S: Pieces<M>>(
     pieces: &S,
     piece: u64,
@@ -89,7 +90,7 @@ fn look<M, S: Pieces<M>>(
     }
 }
 
-// One piece, with the gate round it.
+// Scans one piece as `look` does, and calls the gate before and after it.
 fn visit<M, S: Pieces<M>, G: Gate, R: Wait>(
     rt: &R,
     pieces: &S,
@@ -107,7 +108,7 @@ fn visit<M, S: Pieces<M>, G: Gate, R: Wait>(
     looked
 }
 
-// One worker claims pieces and looks at them, until none is left.
+// Claims pieces and scans them until none is left. Returns the least of them with a finding.
 fn work<M, S: Pieces<M>, G: Gate, R: Wait>(
     rt: &R,
     claims: &Claims,
@@ -134,7 +135,7 @@ fn work<M, S: Pieces<M>, G: Gate, R: Wait>(
     unreachable!()
 }
 
-// The nearer of two findings, where both workers were done.
+// Returns the nearer of two findings, if both workers were done.
 fn both(a: Result<Found, NoMemory>, b: Result<Found, NoMemory>) -> Result<Found, NoMemory>
     ensures { result ≡ both_of a b }
 {
@@ -145,7 +146,7 @@ fn both(a: Result<Found, NoMemory>, b: Result<Found, NoMemory>) -> Result<Found,
     }
 }
 
-// One worker to its end.
+// Runs one worker to its end. Returns it and the least of its pieces with a finding.
 fn alone<M: Drop, S: Pieces<M>, G: Gate, R: Wait>(
     rt: &R,
     claims: &Claims,
@@ -164,8 +165,8 @@ fn alone<M: Drop, S: Pieces<M>, G: Gate, R: Wait>(
     (worker, best)
 }
 
-// A worker for each meter, each in a thread of its own where one can be made, and the last one
-// here.
+// Runs a worker for each meter, each in a thread of its own if one can be made. The last one runs
+// in this thread.
 fn share<M: Drop + Send, S: Pieces<M> + Sync, G: Gate + Sync, R: Threads + Wait + Sync>(
     rt: &R,
     claims: &Claims,
@@ -211,10 +212,11 @@ fn share<M: Drop + Send, S: Pieces<M> + Sync, G: Gate + Sync, R: Threads + Wait 
     (worker, both(b, a))
 }
 
-/// The least piece with a finding, and that finding, by as many workers as there are meters.
+/// Returns the least piece with a finding, and that finding. Uses as many workers as there are
+/// meters.
 ///
-/// Each piece is one worker's, and the gate is told of each. The answer is the same for every
-/// number of workers, and however the threads run. Where any scan that was made wanted memory, so
+/// One worker scans each piece, and the gate hears about each. The result is the same for every
+/// number of workers and every order of their threads. If any scan fails for want of memory, so
 /// does the search.
 pub fn least<M: Drop + Send, S: Pieces<M> + Sync, G: Gate + Sync, R: Threads + Wait + Sync>(
     rt: &R,

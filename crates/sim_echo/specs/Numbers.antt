@@ -6,7 +6,7 @@ use Rattle.sim_node.specs.declared.Setup.{Setup}
 abbrev pub largest : ℕ
 largest = 2 ^ 64 - 1
 
--- a counter after one more: it stays at its largest value
+-- a counter plus one; it stays at its largest value
 abbrev pub raised : ℕ → ℕ
 raised n = min (n + 1) largest
 

@@ -1,4 +1,4 @@
--- How the program's role is seen.
+-- How definitions see the program's role.
 use Rattle.sim_echo.specs.Echo.{Role}
 use Rattle.sim_echo.specs.declared.echo.Role.{Role as Stored}
 use Rattle.sim_echo.specs.declared.echo.Role.TheVariants as stored

@@ -1,4 +1,4 @@
--- What is written of a run: an input for a play.
+-- A run as an input for a play.
 use Rattle.std.specs.Prelude.{◌≡◌, ◌⊎◌, List, [], ◌++◌, codes, map, Option, Some, Result, Ok}
 use Rattle.std.specs.Prelude.{MatchResult, string_bytes}
 use Rattle.std.specs.Str.Lines.{lines}
@@ -23,9 +23,9 @@ use Rattle.sim_export.specs.declared.export.Export.{Export}
 use Rattle.sim_export.specs.declared.export.Export.TheVariants.{Input, Shown, Nowhere, BadRange}
 use Rattle.sim_export.specs.declared.export.Export.TheVariants.{BadCondition, BadScript, NoInput}
 
--- Cut as a play cuts it, the input is this text of a scenario, with an end for its last line, and a
--- script. Where each name is read as its host, the lines of the script are read as the commands
--- that make just these events.
+-- Cut as a play cuts it, the input is the text of this scenario, with a line end after its last
+-- line, and a script. If each name is read as its host, the lines of the script are read as the
+-- commands that make exactly these events.
 pub record Makes (scenario : Text) (names : Names) (events : List Event)
     (input : Text) : Type 0 where
   pub script : Text
@@ -33,7 +33,7 @@ pub record Makes (scenario : Text) (names : Names) (events : List Event)
   pub asks : AreRead names
       → map (script_line names) (lines script) ≡ map (λ e. Asked (command_of e)) events
 
--- The input makes these events in the scenario that its text says.
+-- The input makes these events in the scenario that its text describes.
 pub record IsInput (protocols : List Protocol) (said : ScenarioText) (names : Names)
     (events : List Event) (input : Text) : Type 0 where
   pub scenario : Text
@@ -58,21 +58,21 @@ export_status BadCondition = BadRequest
 export_status BadScript = BadRequest
 export_status NoInput = BadRequest
 
--- an export was written and its status given, or the writer failed and has a part from its front
+-- the export was written and its status returned, or the writer failed after a front part of it
 abbrev pub WritesExport : Option Text → Option Text → Export → Status → Type 0
 WritesExport held holds e ended =
     ((ended ≡ export_status e) × Appends held holds (export_text e))
     ⊎ ((ended ≡ WriterFailed) × AppendsPart held holds (export_text e))
 
--- this text and status tell an export that is right
+-- this text and status are those of an export that is right
 pub record IsExported (IsRight : Export → Type 0) (text : Text) (ended : Status) : Type 0 where
   pub export : Export
   pub right : IsRight export
   pub whole : text ≡ export_text export
   pub status : ended ≡ export_status export
 
--- What was written, by the status, where texts with their statuses are right: such a text, or a
--- beginning of one, or nothing.
+-- Which bytes are written with a status, if `IsRight` says which texts and statuses are right: such
+-- a text, a beginning of one, or nothing.
 module _ (IsRight : Text → Status → Type 0) where
   pub record IsBegun (written : Text) : Type 0 where
     pub more : Text
@@ -92,23 +92,23 @@ module _ (IsRight : Text → Status → Type 0) where
 abbrev pub Right : Type 1
 Right = (State Msg : Type 0) → Rules State Msg → Names → Text → Text → Export → Type 0
 
--- the scenario with this text was read, and the export for the script was written
+-- the scenario with this text was read, and a right export for the script was written
 abbrev pub WritesFor : {State Msg : Type 0} → Right → Text → Rules State Msg → Names → Ports → Ports
     → Status → Type 0
 WritesFor right text r names old new ended = (script : Text)
     → prepend_known old.ahead.bytes old.left ≡ Some script
     → Ended old.held new.held (Tells (IsExported (right _ _ r names text script)) ended)
 
--- A scenario names one of these protocols, and stands for the nodes of a run.
+-- A scenario names one of these protocols, and determines the nodes of a run.
 module _ (right : Right) (protocols : List Protocol) (nodes_of : ScenarioText → Nodes) where
-  -- this text and status are right for a scenario and a script, or tell the scenario's fault
+  -- this text and status are right for a scenario and a script, or report the scenario's fault
   abbrev pub IsRightFor : Text × Text → Result ScenarioText Fault → Text → Status → Type 0
   IsRightFor cut read text ended = MatchResult read
       (λ said. IsExported (right _ _ (nodes_of said).rules (names_of nodes_of said) cut.0 cut.1)
       text ended)
       (λ why. (text ≡ fault_line why) × (ended ≡ BadScenario))
 
-  -- what is written for an input
+  -- which bytes are written for an input
   abbrev pub Written : Text → Status → Text → Type 0
   Written given ended written =
       Tells (IsRightFor (head_of given) (read_scenario protocols (head_of given).0)) ended written

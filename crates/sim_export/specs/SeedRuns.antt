@@ -16,12 +16,12 @@ use Rattle.sim_export.specs.declared.export.Export.TheVariants.{Input, Shown, No
 use Rattle.sim_export.specs.declared.export.Export.TheVariants.{BadCondition, BadScript, NoInput}
 use Rattle.sim_export.specs.Exports.{IsInput, Right}
 
--- how a run with these numbers is planned
+-- the plan of a run with these numbers
 abbrev pub plan_with : Option ℕ → ℕ → ℕ → Bool → Plan
 plan_with faults events quiet at_end =
     record { spacing = faults; events = events; quiet = quiet; at_end = at_end }
 
--- a spacing past that of every plan
+-- the spacing is greater than that of any plan
 abbrev pub IsWide : Option ℕ → Type 0
 IsWide None = ⊥
 IsWide (Some spacing) = 2 ^ 32 ≤ spacing
@@ -34,7 +34,7 @@ module _ {State Msg : Type 0} (r : Rules State Msg) where
   abbrev pub events_of : SeedRun → List Event
   events_of run = planned_run r.node r.probes (numbered run.seed r.scenario) [] (plan_of run)
 
-  -- The export of a run is right: an input that makes its events in the scenario of its seed, where
+  -- The export of a run is right: an input that makes its events in the scenario of its seed, if
   -- the numbers are within the limits.
   abbrev pub IsExportOf : SeedRun → Names → Text → Text → Export → Type 0
   IsExportOf run names text script (Input input) = IsPlan 0 (plan_of run)

@@ -21,8 +21,8 @@ use Rattle.sim_export.specs.Exports.{IsInput, Right}
 
 module _ {State Msg : Type 0} (r : Rules State Msg) (names : Names) (scenario : Text)
     (events : List Event) where
-  -- The export is right for a condition: an input that makes the run without the faults that it
-  -- does not need, in the same scenario.
+  -- The export is right for a condition: an input that makes the run without the faults that its
+  -- failure does not need, in the same scenario.
   abbrev pub IsShrinkOf : Cond → Export → Type 0
   IsShrinkOf c (Input input) = (run : List Event) × IsShrunk r c events run
       × ((protocols : List Protocol) (said : ScenarioText) → read_scenario protocols scenario
@@ -37,12 +37,12 @@ module _ {State Msg : Type 0} (r : Rules State Msg) (names : Names) (scenario : 
   IsShrinkOf c BadScript = ⊥
   IsShrinkOf c NoInput = (run : List Event) × IsShrunk r c events run
 
-  -- the same, where no line of the script is at fault, or one is
+  -- the same if no line of the script is at fault, else a bad script
   abbrev pub IsShrinkIf : Bool → Cond → Export → Type 0
   IsShrinkIf true c e = IsShrinkOf c e
   IsShrinkIf false c e = e ≡ BadScript
 
-  -- the same, where words are read as a condition or as none
+  -- the same if the words are read as a condition, else a bad condition
   abbrev pub IsShrinkFor : Bool → Option Cond → Export → Type 0
   IsShrinkFor well None e = e ≡ BadCondition
   IsShrinkFor well (Some c) e = IsShrinkIf well c e

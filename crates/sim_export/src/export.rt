@@ -6,27 +6,27 @@ ghost use Rattle.sim_export.specs.Exports.{export_status, export_text, WritesExp
 use sim_cli::{Answered, Status, write_text};
 use std::io::Write;
 
-/// What is written of a run: an input for a play or another text, or why there is none.
+/// What is written of a run: an input for a play, another text, or why there is none.
 #[derive(Drop)]
 pub enum Export {
     Input(String),
-    /// Another text that shows the run, as a log.
+    /// Another text that shows the run, such as a log.
     Shown(Vec<u8>),
     /// The condition fails nowhere in the run.
     Nowhere,
-    /// A number of the request is not within its limits.
+    /// A number of the request is out of range.
     BadRange,
     /// The words are no condition, or the scenario has no such host or probe.
     BadCondition,
-    /// A line of the script is at fault. That is told on standard error, and nothing is written.
+    /// A line of the script is at fault. Standard error reports it, and nothing is written.
     BadScript,
     /// The run has no input: no line of a script makes one of its events, or the scenario's text
-    /// cannot stand before a script.
+    /// cannot come before a script.
     NoInput,
 }
 
 impl Export {
-    /// What is written.
+    /// Returns the text to write.
     pub fn text(&self) -> &[u8]
         ensures { result.now ≡ export_text self.now }
     {
@@ -41,7 +41,7 @@ impl Export {
         }
     }
 
-    /// The status with which the program ends once that is written.
+    /// Returns the status with which the program ends after the text is written.
     pub fn status(&self) -> Status
         ensures { result ≡ export_status self.now }
     {

@@ -4,12 +4,12 @@
 //!   scenario with that seed, a line `---`, and a line of script for each event of the run. So a
 //!   place that a sweep prints is the place in the play of that input.
 //! - [`write_shrunk`] plays a script and writes its run as an input, up to the first place at which
-//!   a condition fails, without the faults that it does not need to fail.
+//!   a condition fails, without the faults that the failure does not need.
 //!
 //! The contract (`Written` in `specs/Exports.antt`) is a round trip: cut and read as a play does
-//! it, the input says the scenario, and the lines of its script are read as the commands that make
-//! just the events of the run. Which events these are, `specs/SeedRuns.antt` and
-//! `specs/Shrinks.antt` say.
+//! it, the input has the text of the scenario, and the lines of its script are read as the commands
+//! that make exactly the events of the run. `specs/SeedRuns.antt` and `specs/Shrinks.antt` say
+//! which events these are.
 //!
 //! Why it is built this way: writing a run needs no threads, so it is a task over the nodes of the
 //! protocol that the scenario names (`sim_cli::Task`), for every list of protocols.

@@ -32,13 +32,13 @@ pub struct SeedRun {
     pub seed: u64,
     /// How many events are planned before the quiet end.
     pub events: u64,
-    /// One event in so many is a fault or a healing, on average; with none, no fault is planned.
+    /// On average, one event in `faults` is a fault or a healing; with `None`, no fault is planned.
     pub faults: Option<u64>,
-    /// How many steps the quiet end has.
+    /// The number of steps of the quiet end.
     pub quiet: u64,
 }
 
-// The spacing of faults, or none if it is past that of every plan.
+// Returns the spacing of faults, or `None` if it is greater than that of any plan.
 fn spacing_of(faults: Option<u64>) -> Option<Option<u32>>
     ensures some { IfSome result (λ spacing. spacing ≡ faults) }
     ensures none { IfNone result (IsWide faults) }
@@ -49,7 +49,7 @@ fn spacing_of(faults: Option<u64>) -> Option<Option<u32>>
     }
 }
 
-/// The plan with these numbers, or none if one of them is past those of every plan.
+/// Returns the plan with these numbers, or `None` if no plan can have one of them.
 pub fn plan_of(faults: Option<u64>, events: u64, quiet: u64, at_end: bool) -> Option<Plan>
     ensures some { IfSome result (λ plan. plan ≡ plan_with faults events quiet at_end) }
     ensures none { IfNone result ((given : ℕ) →
@@ -63,7 +63,7 @@ pub fn plan_of(faults: Option<u64>, events: u64, quiet: u64, at_end: bool) -> Op
     })
 }
 
-// The events of a run that is planned within the limits. The only error is want of memory.
+// Returns the events of a run whose plan is within the limits. Fails only for want of memory.
 fn events_of<N: Node<Meter = Tally>>(
     alloc: Global,
     opened: &Opened,
@@ -79,7 +79,7 @@ fn events_of<N: Node<Meter = Tally>>(
     run_of::<N>(alloc, &scenario, bytes, &[], plan, &mut Tally::new())
 }
 
-// The input of a run that is planned within the limits.
+// Returns the input of a run whose plan is within the limits.
 fn input_with<N: Node<Meter = Tally>>(
     alloc: Global,
     opened: &Opened,
@@ -102,7 +102,7 @@ fn input_with<N: Node<Meter = Tally>>(
     input_of(alloc, scenario.as_str(), &opened.names, events.as_slice())
 }
 
-// What is written of a run in a scenario that was read. The only error is want of memory.
+// Returns what is written of a run in a scenario that was read. Fails only for want of memory.
 fn export_of<N: Node<Meter = Tally>>(
     alloc: Global,
     opened: &Opened,
@@ -159,12 +159,12 @@ impl<'a> Task for RunWriting<'a> {
 }
 
 /// Reads a scenario and writes the run of one of its seeds as an input for a play: the scenario
-/// with that seed, a line `---`, and a line of script for each event. The reader's script is not
-/// read.
+/// with that seed, a line `---`, and a line of script for each event. Does not read the script of
+/// the input.
 ///
-/// It writes `bad range` with status 2 if the spacing of faults is not 2 to 65,536 or there are
-/// more than 65,534 events with the quiet end, and `no input` with status 2 if the run has none.
-/// There are at most 255 subjects.
+/// Writes `bad range` with status 2 if the spacing of faults is not 2 to 65,536 or there are more
+/// than 65,534 events with the quiet end, and `no input` with status 2 if the run has none. Takes
+/// at most 255 subjects.
 pub fn write_run<L: Subjects, R: Read, W: Write>(
     alloc: Global,
     run: SeedRun,

@@ -24,7 +24,7 @@ use std::alloc::Global;
 use std::fmt::Debug;
 use std::io::{Read, Write};
 
-// Reports on standard error how far the search for a smaller run has come, if it is asked to.
+// Reports the progress of the shrinking on standard error, if it is asked to.
 #[derive(Drop)]
 struct Reporter<'a, H: Eprint> {
     host: &'a H,
@@ -34,13 +34,13 @@ struct Reporter<'a, H: Eprint> {
 impl<'a, H: Eprint> Listener for Reporter<'a, H> {
     fn tried(&mut self, faults: u64, trials: u64) {
         if self.reports {
-            // If standard error takes nothing, the search goes on.
+            // If the write to standard error fails, the shrinking goes on.
             let _told = eprintln!(self.host; "{faults} faults left after {trials} trials");
         }
     }
 }
 
-// The input that makes the events in the scenario with this text.
+// Returns the input that makes the events in the scenario with this text.
 fn input_with(
     alloc: Global,
     text: &[u8],
@@ -60,8 +60,8 @@ fn input_with(
     input_of(alloc, text, names, events)
 }
 
-// What is written of the run of these events in a scenario that was read. The only error is want of
-// memory.
+// Returns what is written of the run of these events in a scenario that was read. Fails only for
+// want of memory.
 fn export_of<N: Node<Meter = Tally>, P: Listener>(
     alloc: Global,
     opened: &Opened,
@@ -94,14 +94,14 @@ fn export_of<N: Node<Meter = Tally>, P: Listener>(
     }
 }
 
-/// What is asked: the words of a condition, and whether progress is reported.
+/// A request: the words of a condition, and whether to report progress.
 #[derive(Clone, Copy)]
 pub struct Shrink<'a> {
     pub cond: &'a str,
     pub progress: bool,
 }
 
-// The task to make the run of a script smaller, in the scenario with this text.
+// The task to shrink the run of a script, in the scenario with this text.
 #[derive(Drop)]
 struct Shrinking<'a, H: Eprint> {
     alloc: Global,
@@ -158,16 +158,15 @@ impl<'a, H: Eprint> Task for Shrinking<'a, H> {
     }
 }
 
-/// Plays a script without writing its answers, and writes the kept events of its first branch as an
-/// input for a play, up to the first place at which a condition fails and without the faults that
-/// it does not need to fail.
+/// Plays a script without writing its answers. Then writes the kept events of its first branch as
+/// an input for a play, up to the first place at which a condition fails and without the faults
+/// that the failure does not need.
 ///
-/// It writes `none` if the condition fails nowhere, `bad condition` with status 2 if the words are
+/// Writes `none` if the condition fails nowhere, `bad condition` with status 2 if the words write
 /// none or the scenario has no such host or probe, and `no input` with status 2 if no line of a
 /// script makes some event of the run. If a line of the script is no command, or its command is
-/// refused or not taken, it tells that on standard error and writes nothing, with status 2. If the
-/// reader fails or memory is wanted, it writes nothing either.
-/// There are at most 255 subjects.
+/// refused or not taken, reports that on standard error and writes nothing, with status 2. If the
+/// reader fails or memory is wanted, writes nothing either. Takes at most 255 subjects.
 pub fn write_shrunk<L: Subjects, H: Eprint, R: Read, W: Write>(
     host: &H,
     alloc: Global,

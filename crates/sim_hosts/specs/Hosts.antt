@@ -8,7 +8,7 @@ use Rattle.sim_node.specs.Numbers.{numbers_from}
 use Rattle.sim_node.specs.Effects.{Effect}
 use Rattle.sim_hosts.specs.declared.set.HostSet.{HostSet}
 
--- the servers from one on: all from server 0 on, the others from server 1 on
+-- the servers from `first` on: all from server 0 on, the others from server 1 on
 abbrev pub servers_from : ℕ → Setup → List ℕ
 servers_from first setup = numbers_from first (setup.servers - first)
 
@@ -22,7 +22,7 @@ others setup = servers_from 1 setup
 abbrev pub is_other : Setup → ℕ → Bool
 is_other setup host = nat_le 1 host && nat_lt host setup.servers
 
--- A host is in a set where its bit is set.
+-- A host is in a set if its bit is set.
 abbrev pub nobody : HostSet
 nobody = record { bits = 0 }
 

@@ -7,8 +7,8 @@ use std::alloc::Global;
 use std::fmt;
 use std::marker::Model;
 
-/// The state of a role in memory of its own, so that hosts in other roles do not carry it.
-/// Contracts see the state.
+/// The state of a role on the heap, so that hosts in other roles do not carry it. Contracts see the
+/// state.
 #[derive(Drop)]
 pub struct Boxed<T> {
     inner: Box<T>,
@@ -30,7 +30,7 @@ impl<T: fmt::Debug> fmt::Debug for Boxed<T> {
 }
 
 impl<T: Copy> Boxed<T> {
-    /// The state, in memory of its own. The only error is want of memory.
+    /// Puts the state on the heap. Fails only for want of memory.
     pub fn new(alloc: Global, state: T) -> Result<Boxed<T>, NoMemory>
         ensures { IfOk result (λ boxed. boxed ≡ state) }
     {
@@ -39,7 +39,7 @@ impl<T: Copy> Boxed<T> {
         })
     }
 
-    /// The state.
+    /// Returns the state.
     #[inline]
     pub fn get(&self) -> &T
         ensures { result.now ≡ self.now }
@@ -47,7 +47,7 @@ impl<T: Copy> Boxed<T> {
         &self.inner
     }
 
-    /// The state, to be changed.
+    /// Returns the state mutably.
     #[inline]
     pub fn get_mut(&mut self) -> &mut T
         ensures value { result.now ≡ self.old }

@@ -1,7 +1,7 @@
 ghost use Rattle.std.specs.Prelude.{◌≡◌, ◌+◌, ◌<◌, ◌≤◌, ◌++◌, length, take, drop, slice_index};
 ghost use Rattle.sim_hosts.specs.Bytes.{bytes_of, number_at};
 
-/// The byte at an offset, or 0 if there is none.
+/// Returns the byte at an offset, or 0 if there is none.
 pub fn byte_at(bytes: &[u8], offset: usize) -> u8
     ensures { result ≡ slice_index bytes.now offset }
 {
@@ -12,7 +12,7 @@ pub fn byte_at(bytes: &[u8], offset: usize) -> u8
     }
 }
 
-/// The number in the 8 bytes from an offset on, low byte first. Missing bytes count as 0.
+/// Returns the number in the 8 bytes from an offset on, low byte first. Missing bytes count as 0.
 #[tactic(auto, unfolding(crate::specs::Bytes::number_at))]
 pub fn number_at(bytes: &[u8], offset: usize) -> u64
     requires { offset ≤ 4096 }

@@ -4,9 +4,8 @@
 //! - `send_to_all` and `send_to_missing`: a message to each server, or to each that is not in a
 //!   set.
 //! - `lowest_waiting`, `wait_with`, `put_back` and [`SlotBefore`]: a table of what each of 32 hosts
-//!   waits with, and the record by which a change of one slot is taken back.
-//! - [`Boxed`]: the state of a role in memory of its own, so that hosts in other roles do not carry
-//!   it.
+//!   waits with, and the record by which a change of one slot is undone.
+//! - [`Boxed`]: the state of a role on the heap, so that hosts in other roles do not carry it.
 //! - `byte_at`, `number_at` and `put_number`: numbers on a disk, low byte first. Bytes that the
 //!   disk does not have are 0, so that a server can boot from an empty disk.
 //!

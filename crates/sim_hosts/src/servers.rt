@@ -4,7 +4,7 @@ ghost use Rattle.sim_hosts.specs.Hosts.{servers_from, is_other, not_in, to_all};
 use crate::HostSet;
 use sim_node::{Effects, Setup};
 
-/// Whether the host is a server, but not server 0 (the primary or the coordinator).
+/// Returns whether the host is a server other than server 0 (the primary or the coordinator).
 pub fn is_other(setup: &Setup, host: u16) -> bool
     ensures { result ≡ is_other setup.now host }
 {

@@ -10,14 +10,14 @@ pub struct HostSet {
 }
 
 impl HostSet {
-    /// The set without hosts.
+    /// Returns the empty set.
     pub fn nobody() -> HostSet
         ensures { result ≡ nobody }
     {
         HostSet { bits: 0 }
     }
 
-    /// Whether a host is in the set.
+    /// Returns whether a host is in the set.
     pub fn contains(self, host: u16) -> bool
         requires { host < 32 }
         ensures { result ≡ is_in self host }
@@ -25,7 +25,7 @@ impl HostSet {
         (self.bits >> host) % 2 == 1
     }
 
-    /// The set with a host.
+    /// Returns the set with a host added.
     pub fn joined(self, host: u16) -> HostSet
         requires { host < 32 }
         ensures { result ≡ joined host self }
@@ -35,14 +35,14 @@ impl HostSet {
         }
     }
 
-    /// How many hosts are in the set.
+    /// Returns the number of hosts in the set.
     pub fn size(self) -> u32
         ensures { result ≡ size self }
     {
         self.bits.count_ones()
     }
 
-    /// Whether all servers from `first` on are in the set.
+    /// Returns whether all servers from `first` on are in the set.
     pub fn has_servers_from(self, first: u16, setup: &Setup) -> bool
         requires { setup.now.servers ≤ 32 }
         ensures { result ≡ all_in (servers_from first setup.now) self }

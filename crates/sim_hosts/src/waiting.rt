@@ -3,10 +3,10 @@ ghost use Rattle.sim_hosts.specs.Waiting.{lowest_waiting, restored, IsPlacedSlot
 
 use sim_node::Setup;
 
-/// What a host waited with before a reaction: the record by which its waiting is taken back.
+/// A host's slot before a reaction: the record by which a change of the table is undone.
 #[derive(Clone, Copy, Debug, PartialEq, Eq)]
 pub enum SlotBefore<A> {
-    /// The same: the reaction has changed nobody's waiting.
+    /// The reaction changed no slot.
     Same,
     /// This host did not wait.
     Empty(u16),
@@ -14,7 +14,7 @@ pub enum SlotBefore<A> {
     Waited(u16, A),
 }
 
-/// The lowest host that waits, with what it waits with.
+/// Returns the lowest host that waits, with what it waits with.
 pub fn lowest_waiting<A: Copy>(setup: &Setup, waiting: &[Option<A>; 32]) -> Option<(u16, A)>
     requires { setup.now.hosts ≤ 32 }
     ensures value { result ≡ lowest_waiting setup.now waiting.now }
@@ -28,7 +28,7 @@ pub fn lowest_waiting<A: Copy>(setup: &Setup, waiting: &[Option<A>; 32]) -> Opti
     None
 }
 
-/// Lets a host wait with this from now on. Returns what it waited with.
+/// Sets what a host waits with. Returns what it waited with before.
 pub fn wait_with<A: Copy>(
     waiting: &mut [Option<A>; 32],
     host: u16,
@@ -47,7 +47,7 @@ pub fn wait_with<A: Copy>(
     }
 }
 
-/// Lets the host of a slot wait again with what it waited with.
+/// Restores the slot of a host.
 pub fn put_back<A: Copy>(waiting: &mut [Option<A>; 32], slot: SlotBefore<A>)
     requires { IsPlacedSlot slot }
     ensures { waiting.new ≡ restored slot waiting.old }

@@ -12,15 +12,15 @@ use Rattle.sim_watch.specs.Condition.{Cond}
 use Rattle.sim_script.specs.Words.{Text, Names, is_word, probe, host_name, probe_name}
 use Rattle.sim_script.specs.Conditions.{op_word}
 
--- each name is read as its probe: it is a name, and no probe before it has the same
+-- each probe's name is read as that probe: it is a name, and no earlier probe has the same
 unfoldable pub ProbesAreRead : Names → Type 0
 ProbesAreRead names = (k : ℕ) → k < length names.probes → probe names (probe_name names k) ≡ Some k
 
--- there is a text to add, and the new text is the old one with it at the end
+-- there is a text to add, and the new text is the old one followed by it
 abbrev pub Adds : Option Text → Text → Text → Type 0
 Adds added old new = (text : Text) × (added ≡ Some text) × (new ≡ old ++ text)
 
--- two texts with a third between them, where there are both
+-- two texts with a third between them, if both exist
 abbrev pub between : Text → Option Text → Option Text → Option Text
 between mid (Some x) (Some y) = Some (x ++ (mid ++ y))
 between mid _ _ = None
@@ -32,24 +32,24 @@ spaced a b = between (codes " ") a b
 abbrev pub after : Text → Option Text → Option Text
 after word text = spaced (Some word) text
 
--- the texts of a list's elements, with another between each two; none where the list is empty, or
--- an element has no text
+-- the texts of a list's elements, with another between each two; none if the list is empty or an
+-- element has no text
 abbrev pub between_each : {A : Type 0} → Text → (A → Option Text) → List A → Option Text
 between_each mid text_of [] = None
 between_each mid text_of (x ∷ []) = text_of x
 between_each mid text_of (x ∷ y ∷ more) =
     between mid (text_of x) (between_each mid text_of (y ∷ more))
 
--- what stands before a term that begins an alternative, or goes on with one
+-- the word before a term that begins an alternative, or continues one
 abbrev pub joint_text : Bool → Text
 joint_text true = codes " or "
 joint_text false = codes " and "
 
--- a name, where there is one
+-- a name, unless it is empty
 abbrev pub name_text : Text → Option Text
 name_text name = if is_word name then Some name else None
 
--- a number of at most 19 digits, since one of 20 is not read
+-- a number of at most 19 digits; one of 20 digits cannot be read
 abbrev pub number_text : ℕ → Option Text
 number_text n = if nat_lt n (10 ^ 19) then Some (decimal n) else None
 

@@ -1,4 +1,4 @@
--- The line of a script for each event of a run, and what that line asks.
+-- The line of a script for each event of a run, and the command that the line gives.
 use Rattle.std.specs.Prelude.{◌≡◌, ◌<◌, ℕ, codes, List, [], ◌∷◌, ◌++◌, length, Option, Some, None}
 use Rattle.std.specs.Prelude.{if◌then◌else◌, ◌&&◌}
 use Rattle.sim_world.specs.declared.Event.{Event}
@@ -10,12 +10,12 @@ use Rattle.sim_book.specs.declared.Command.TheVariants as command
 use Rattle.sim_scenario.specs.Scenario.{all_some}
 use Rattle.sim_script.specs.Words.{Text, Names, is_word, host, host_name}
 
--- each name is read as its host: it is a name, and no host before it has the same
+-- each host's name is read as that host: it is a name, and no earlier host has the same
 unfoldable pub AreRead : Names → Type 0
 AreRead names = (h : ℕ) → h < length names.hosts → host names (host_name names h) ≡ Some h
 
 module _ (names : Names) where
-  -- a word and the name of a host, or of two, where they have names
+  -- a word and the names of one or two hosts, if they have names
   abbrev pub on_host : Text → ℕ → Option Text
   on_host word h =
       if is_word (host_name names h) then Some (word ++ (codes " " ++ host_name names h)) else None
@@ -36,7 +36,7 @@ module _ (names : Names) where
   fault_line (fault.CutOneway a b) = on_hosts (codes "cutoneway") a b
   fault_line (fault.RepairOneway a b) = on_hosts (codes "repaironeway") a b
 
-  -- No line of a script goes on to a time alone, so an advance has none.
+  -- An advance of the clock has no line: no command of a script makes it.
   abbrev pub event_line : Event → Option Text
   event_line event.Step = Some (codes "step")
   event_line (event.Advance time) = None
@@ -48,11 +48,11 @@ command_of event.Step = command.Step 0
 command_of (event.Advance time) = command.Tick 0
 command_of (event.Fault f) = command.Fault 0 f
 
--- the text of lines, each with its end
+-- the text of lines, each with its line end
 abbrev pub text_of : List Text → Text
 text_of [] = []
 text_of (line ∷ more) = line ++ (10 ∷ text_of more)
 
--- the lines of events, where each has one
+-- the lines of events, if each has one
 abbrev pub event_lines : Names → List Event → Option (List Text)
 event_lines names events = all_some (event_line names) events

@@ -14,7 +14,7 @@ use crate::events::LineError;
 use sim_script::Names;
 use sim_watch::{Comparison, Cond, JoinedTerm, Op, Term, Value};
 
-/// The least number of 20 digits. Such a number is not read.
+/// The least number of 20 digits. Such a number cannot be read.
 const TOO_LONG: u64 = 10_000_000_000_000_000_000;
 
 // Adds the name of a host.
@@ -70,7 +70,7 @@ fn push_number(text: &mut String, number: u64) -> Result<(), LineError>
     Ok(())
 }
 
-// Adds what a number is compared with.
+// Adds the value that a number is compared with.
 fn push_value(text: &mut String, names: &Names, value: Value) -> Result<(), LineError>
     ensures written { OnOk result (Adds (value_text names.now value)
         (string_bytes text.old) (string_bytes text.new)) }
@@ -83,7 +83,7 @@ fn push_value(text: &mut String, names: &Names, value: Value) -> Result<(), Line
     }
 }
 
-// The sign of a comparison.
+// Returns the sign of a comparison.
 fn sign_of(op: Op) -> &'static str
     ensures { result.now ≡ op_word op }
 {
@@ -97,7 +97,7 @@ fn sign_of(op: Op) -> &'static str
     }
 }
 
-// Adds a sign, and what a number is compared with.
+// Adds a sign, and the value that a number is compared with.
 fn push_comparison(text: &mut String, names: &Names, to: Comparison) -> Result<(), LineError>
     ensures written { OnOk result (Adds (comparison_text names.now to)
         (string_bytes text.old) (string_bytes text.new)) }
@@ -127,7 +127,7 @@ fn push_compared(
     push_comparison(text, names, to)
 }
 
-// Adds a word, a probe, and what its values are compared with.
+// Adds a word, a probe, and the comparison of its values.
 fn push_values(
     text: &mut String,
     names: &Names,
@@ -147,7 +147,8 @@ fn push_values(
     push_comparison(text, names, to)
 }
 
-// Adds a count: a probe, what its values are compared with, and how many of them there are to be.
+// Adds a count: a probe, the comparison of its values, and the comparison of how many values meet
+// it.
 fn push_count(
     text: &mut String,
     names: &Names,
@@ -170,7 +171,7 @@ fn push_count(
     push_comparison(text, names, many)
 }
 
-// Adds a word, a probe, and the number for which its value does not count.
+// Adds a word, a probe, and the number after `unless`.
 fn push_unless(
     text: &mut String,
     names: &Names,
@@ -190,7 +191,7 @@ fn push_unless(
     push_number(text, number)
 }
 
-// Adds an agreement of the hosts that show the same value of a second probe.
+// Adds an agreement of hosts that show the same value of a second probe.
 fn push_agree_by(
     text: &mut String,
     names: &Names,
@@ -209,7 +210,7 @@ fn push_agree_by(
     push_unless(text, names, "by", by, number)
 }
 
-// Adds what a host is to be, and its name.
+// Adds the state of a host, and its name.
 fn push_on_host(text: &mut String, names: &Names, word: &str, host: u16) -> Result<(), LineError>
     ensures written { OnOk result (Adds (after word.now (host_text names.now host))
         (string_bytes text.old) (string_bytes text.new)) }
@@ -242,7 +243,7 @@ fn push_term(text: &mut String, names: &Names, term: Term) -> Result<(), LineErr
     }
 }
 
-// What stands before a term that is not the first.
+// Returns the word before a term that is not the first.
 fn joint_of(begins: bool) -> &'static str
     ensures { result.now ≡ joint_text begins }
 {
@@ -267,15 +268,15 @@ fn push_terms(text: &mut String, names: &Names, terms: &[JoinedTerm]) -> Result<
     Ok(())
 }
 
-/// Adds the words of a condition, with a space between each two. Where each name is read as its
-/// host or its probe, they are read as this condition.
+/// Adds the words of a condition, with a space between each two. If each name is read as its host
+/// or its probe, they are read as this condition.
 ///
-/// `NoLine` if the condition has no term, or if one of its terms names a host or a probe that has
-/// no name, or a number of 20 digits, which is not read. After an error the text may end with a
-/// part of the condition.
+/// Fails with `NoLine` if the condition has no term, names a host or a probe that has no name, or
+/// has a number of 20 digits, which cannot be read. After an error the text may end with a part of
+/// the condition.
 ///
 /// A line of a script has at most 256 bytes, and a condition with long names may have more. The
-/// command line takes it nevertheless.
+/// command line still accepts it.
 pub fn push_condition(text: &mut String, names: &Names, cond: &Cond) -> Result<(), LineError>
     ensures written { OnOk result (Adds (condition_text names.now cond.now)
         (string_bytes text.old) (string_bytes text.new)) }

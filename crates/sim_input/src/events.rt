@@ -16,8 +16,8 @@ use std::alloc::{AllocError, Global};
 /// Why an event or a condition is not written.
 #[derive(Clone, Copy, Debug, PartialEq, Eq)]
 pub enum LineError {
-    /// No words are read as it: an event that moves the clock alone, a condition with no term or
-    /// with a number of 20 digits, or what names a host or a probe that has no name.
+    /// No words are read as it: an advance of the clock, a condition with no term or with a number
+    /// of 20 digits, or one that names a host or a probe that has no name.
     NoLine,
     NoMemory,
 }
@@ -95,10 +95,10 @@ fn push_fault(text: &mut String, names: &Names, fault: Fault) -> Result<(), Line
     }
 }
 
-/// Adds the line of a script that makes an event on branch 0, with its line end. Where each name
-/// is read as its host, the line is read as that command.
+/// Adds the line of a script that makes an event on branch 0, with its line end. If each name is
+/// read as its host, the line is read as that command.
 ///
-/// `NoLine` if no line makes the event, and then the text stays as it was. After `NoMemory` it
+/// Fails with `NoLine` if no line makes the event; the text is then unchanged. After `NoMemory` it
 /// may end with a part of the line.
 pub fn push_event(text: &mut String, names: &Names, event: Event) -> Result<(), LineError>
     ensures written { OnOk result ((line : Text) × (event_line names.now event ≡ Some line)
@@ -117,10 +117,10 @@ pub fn push_event(text: &mut String, names: &Names, event: Event) -> Result<(), 
     Ok(())
 }
 
-/// The script that makes the events on branch 0, a line for each. Where each name is read as its
-/// host, the lines of the script are read as these commands, in order.
+/// Returns the script that makes the events on branch 0, a line for each. If each name is read as
+/// its host, the lines are read as these commands, in order.
 ///
-/// `NoLine` if some event has no line.
+/// Fails with `NoLine` if some event has no line.
 pub fn script(alloc: Global, names: &Names, events: &[Event]) -> Result<String, LineError>
     ensures written { IfOk result (λ text. (ls : List Text)
         × (event_lines names.now events.now ≡ Some ls) × (string_bytes text ≡ text_of ls)) }

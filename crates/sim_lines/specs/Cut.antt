@@ -13,7 +13,7 @@ HasNoLineEnd bytes = All (λ b. (b == 10) ≡ false) bytes
 abbrev pub parts : List ℕ → List (List ℕ)
 parts bytes = slice_split (λ b. b == 10) bytes
 
--- the lines in the parts but for the last, which no line end follows
+-- each part but the last as a line; no line end follows the last part
 abbrev pub whole_lines_of_parts : List (List ℕ) → List (List ℕ)
 whole_lines_of_parts [] = []
 whole_lines_of_parts (part ∷ []) = []
@@ -27,7 +27,7 @@ whole_lines bytes = whole_lines_of_parts (parts bytes)
 abbrev pub is_marker : List ℕ → Bool
 is_marker line = bytes_eq line (codes "---")
 
--- the scenario's text, and what follows the marker line
+-- the scenario's text, and the bytes after the marker line
 abbrev pub head_of_parts : List (List ℕ) → List ℕ × List ℕ
 head_of_parts [] = ([], [])
 head_of_parts (part ∷ []) = if is_marker part then ([], []) else (part, [])
@@ -35,15 +35,16 @@ head_of_parts (part ∷ next ∷ more) =
     if is_marker (strip_carriage_return part) then ([], join_with_byte 10 (next ∷ more))
     else (part ++ 10 ∷ (head_of_parts (next ∷ more)).0, (head_of_parts (next ∷ more)).1)
 
--- the input up to the first line that is exactly `---`, or all of it, and what follows that line
+-- the bytes before the first line that is exactly `---`, or all of them, and the bytes after that
+-- line
 unfoldable pub head_of : List ℕ → List ℕ × List ℕ
 head_of bytes = head_of_parts (parts bytes)
 
--- the longest line of a script
+-- the greatest length of a line of a script
 abbrev pub longest_line : ℕ
 longest_line = 256
 
--- what was kept of a line: all of it, or of one that is too long a front that is too long as well
+-- what is kept of a line: all of it, or a front that is too long if the line is too long
 abbrev pub Shows : List ℕ → List ℕ → Type 0
 Shows kept line =
     (kept ≡ line) ⊎ ((256 < length kept) × (256 < length line)

@@ -1,4 +1,4 @@
--- What the next byte leaves.
+-- How the next byte changes what waits.
 use Rattle.std.specs.Prelude.{◌≡◌, ℕ, ◌+◌, ◌<◌, List, [], ◌∷◌, length, Option, ◌⊎◌}
 use Rattle.std.specs.Io.KnownBytes.{Consumes, IsAtEnd}
 use Rattle.sim_lines.specs.declared.reading.Next.{Next}
@@ -10,8 +10,8 @@ Gives old new (Byte b) = Consumes old new (b ∷ [])
 Gives old new End = Consumes old new [] × IsAtEnd new
 Gives old new Failed = Consumes old new []
 
--- A byte that waits is taken without a read. Where none waits one read is made, of at most 4,096
--- bytes, and its first byte is taken.
+-- A waiting byte is taken without a read. If none waits, one read of at most 4,096 bytes is made,
+-- and its first byte is taken.
 abbrev pub Spends : Waiting → Waiting → Next → Type 0
 Spends old new (Byte b) =
     ((old.bytes ≡ b ∷ new.bytes) × (old.reads ≡ new.reads))

@@ -12,10 +12,11 @@ use std::alloc::{AllocError, Global};
 use std::io::Read;
 use std::marker::Model;
 
-/// So many bytes without a marker line are more than a scenario may have.
+/// The most bytes that are read for a scenario's text. A text this long without a marker line is
+/// too long.
 const MAX_BYTES: usize = 65_600;
 
-/// Why there is no scenario's text.
+/// Why a scenario's text could not be read.
 #[derive(Clone, Copy)]
 pub enum HeadError {
     /// The reader failed.
@@ -23,7 +24,7 @@ pub enum HeadError {
     NoMemory,
 }
 
-/// A text in lines: whole lines, and the line that has begun.
+/// A text as whole lines and the line that has begun.
 #[derive(Drop)]
 struct Lines {
     text: Vec<u8>,
@@ -48,7 +49,7 @@ impl Lines {
         }
     }
 
-    /// The line that has begun.
+    /// Returns the line that has begun.
     fn current(&self) -> &[u8]
         ensures { result.now ≡ self.now.1 }
     {
@@ -72,7 +73,7 @@ impl Lines {
         Ok(())
     }
 
-    /// All of the text.
+    /// Returns all of the text.
     fn into_text(self) -> Vec<u8>
         ensures { result.items ≡ self.0 ++ self.1 }
     {
@@ -80,7 +81,7 @@ impl Lines {
         text
     }
 
-    /// The whole lines.
+    /// Returns the whole lines.
     fn into_lines(self) -> Vec<u8>
         ensures { result.items ≡ self.0 }
     {
@@ -107,8 +108,8 @@ fn is_marker_line(line: &[u8]) -> bool
     line == b"---".as_slice()
 }
 
-/// Reads the scenario's text and the marker line after it, or 65,600 bytes without one. What was
-/// read beyond that waits: at most 4,096 bytes.
+/// Reads the scenario's text and the marker line after it, or 65,600 bytes without one. At most
+/// 4,096 bytes that were read after it wait.
 pub fn read_head<R: Read>(
     alloc: Global,
     reader: &mut R,

@@ -8,7 +8,7 @@
 //!   65,600 bytes without one.
 //! - [`next_line`] reads the next line into a buffer that the caller reuses. It keeps at most 258
 //!   bytes of a line, so the caller sees that a line is too long without storing it.
-//! - [`next_byte`] reads one byte. Both calls above stand on it.
+//! - [`next_byte`] reads one byte. Both calls above use it.
 //! - [`Ahead`] holds the bytes that were read and not yet taken, at most 4,096, and counts the
 //!   reads that may still be made. A reader that still gives bytes after 2^40 reads counts as
 //!   failed, which gives every loop over a reader an end.

@@ -8,15 +8,16 @@ ghost use Rattle.sim_lines.specs.Waiting.{CountsReads};
 use crate::reading::{Ahead, Next, next_byte};
 use std::io::Read;
 
-/// So much is kept of a line with its carriage return, which shows whether it is too long.
+/// The most bytes kept of a line, carriage return included: two more than the limit, so that a line
+/// that is too long shows.
 const KEPT: usize = 258;
 
 /// What a reader's next line is.
 #[derive(Clone, Copy)]
 pub enum NextLine {
-    /// A line, of which the buffer has what is kept.
+    /// A line with its end. The buffer has the bytes that are kept of it.
     Line,
-    /// The same, of a last line that no line end follows.
+    /// The same for a last line without a line end.
     Last,
     /// The end of the input.
     End,
@@ -25,7 +26,7 @@ pub enum NextLine {
     NoMemory,
 }
 
-/// Takes the carriage return at the end away.
+/// Removes the carriage return at the end, if there is one.
 fn strip(line: &mut Vec<u8>)
     ensures { line.new.items ≡ strip_carriage_return line.old.items }
 {
@@ -35,7 +36,8 @@ fn strip(line: &mut Vec<u8>)
     }
 }
 
-/// Takes the next line, with its end, and keeps it, or of a longer one a front that is too long.
+/// Takes the next line with its end. `line` gets the line, or a front that is too long if the line
+/// is.
 pub fn next_line<R: Read>(reader: &mut R, ahead: &mut Ahead, line: &mut Vec<u8>) -> NextLine
     ensures takes { TakesNext (prepend_known ahead.old.bytes (R.remaining reader.old))
         (prepend_known ahead.new.bytes (R.remaining reader.new)) line.new.items result }

@@ -1,4 +1,4 @@
-//! A buffer between a reader and what takes its bytes one by one.
+//! A buffer between a reader and those who take its bytes one by one.
 ghost use Rattle.std.specs.Prelude.{◌≡◌, ℕ, ◌+◌, List, [], ◌∷◌, ◌≤◌, ◌<◌, ◌^◌, ◌==◌, length};
 ghost use Rattle.std.specs.Prelude.{slice_range, IfNone, OnOk, OnErr, option_to_list, ◌++◌};
 ghost use Rattle.sim_lines.specs.Gives.{Gives, Spends};
@@ -10,14 +10,14 @@ use std::marker::Model;
 
 const ROOM: usize = 4096;
 
-/// A reader that still gives bytes after so many reads counts as failed.
+/// The most reads. A reader that still gives bytes after them counts as failed.
 const MAX_READS: u64 = 1 << 40;
 
 /// The reader failed.
 #[derive(Debug, Drop)]
 pub struct ReaderError;
 
-/// What was read and not yet taken, at most 4,096 bytes, and how many reads may still be made.
+/// The bytes that were read and not yet taken, at most 4,096, and how many reads may still be made.
 #[derive(Drop)]
 pub struct Ahead {
     bytes: [u8; ROOM],
@@ -38,7 +38,7 @@ impl Model for Ahead {
 }
 
 impl Ahead {
-    /// Nothing was read, and 2^40 reads may be made.
+    /// Makes an empty buffer, with 2^40 reads to make.
     pub fn new() -> Ahead
         ensures { result ≡ unread }
     {
@@ -50,14 +50,14 @@ impl Ahead {
         }
     }
 
-    /// Whether no byte waits, so that the next one takes a read.
+    /// Returns whether no byte waits, so that the next one takes a read.
     pub fn is_empty(&self) -> bool
         ensures { result ≡ (length self.now.bytes == 0) }
     {
         self.start == self.end
     }
 
-    /// One read, where one is left, while no byte is waiting.
+    /// Makes one read, if one may still be made. No byte may be waiting.
     fn fill<R: Read>(&mut self, reader: &mut R) -> Result<(), ReaderError>
         requires { self.old.bytes ≡ [] }
         ensures ok { OnOk result (Consumes (R.remaining reader.old)
@@ -83,7 +83,7 @@ impl Ahead {
         }
     }
 
-    /// Takes the first byte that waits.
+    /// Takes the first waiting byte.
     fn take_first(&mut self) -> Option<u8>
         ensures front { self.old.bytes ≡ option_to_list result ++ self.new.bytes }
         ensures none { IfNone result (self.new.bytes ≡ []) }
@@ -99,7 +99,7 @@ impl Ahead {
     }
 }
 
-/// What comes next of a reader.
+/// What a reader gives next.
 #[derive(Clone, Copy)]
 pub enum Next {
     Byte(u8),
@@ -107,7 +107,7 @@ pub enum Next {
     Failed,
 }
 
-/// The next byte. At most 4,096 bytes wait after it.
+/// Takes the next byte. At most 4,096 bytes wait after it.
 pub fn next_byte<R: Read>(reader: &mut R, ahead: &mut Ahead) -> Next
     ensures gives { Gives (prepend_known ahead.old.bytes (R.remaining reader.old))
         (prepend_known ahead.new.bytes (R.remaining reader.new)) result }

@@ -1,4 +1,4 @@
-//! Whole texts to a writer, at once or gathered.
+//! Writes whole texts to a writer, at once or buffered.
 ghost use Rattle.std.specs.Prelude.{◌≡◌, ◌≤◌, ◌++◌, ℕ, List, [], length, OnOk, OnErr};
 ghost use Rattle.std.specs.Prelude.{if◌then◌else◌};
 ghost use Rattle.std.specs.Io.KnownBytes.{Appends};
@@ -8,14 +8,14 @@ use std::alloc::Global;
 use std::io::Write;
 use std::marker::Model;
 
-/// So much is gathered (bytes).
+/// The size of the buffer (bytes).
 const ROOM: usize = 8192;
 
-/// The writer failed, or took no byte of a text that wasn't empty.
+/// The writer failed, or took no byte of a text that is not empty.
 #[derive(Debug, Drop)]
 pub struct WriterError;
 
-/// Writes all of the text, or where the writer fails a part from its front.
+/// Writes all of the text. If the writer fails, it has received a front part of it.
 pub fn put<W: Write>(writer: &mut W, text: &[u8]) -> Result<(), WriterError>
     ensures ok { OnOk result (Appends (W.contents writer.old) (W.contents writer.new) text.now) }
     ensures err { OnErr result (AppendsPart (W.contents writer.old)
@@ -32,7 +32,7 @@ pub fn put<W: Write>(writer: &mut W, text: &[u8]) -> Result<(), WriterError>
     Ok(())
 }
 
-/// What was handed over for a writer and waits to be written together: at most 8,192 bytes.
+/// A buffer of at most 8,192 bytes that wait for a writer.
 #[derive(Drop)]
 pub struct Outlet {
     waiting: Vec<u8>,
@@ -47,7 +47,7 @@ impl Model for Outlet {
 }
 
 impl Outlet {
-    /// Nothing waits.
+    /// Makes an empty buffer.
     pub fn new(alloc: Global) -> Outlet
         ensures { result ≡ [] }
     {
@@ -56,12 +56,12 @@ impl Outlet {
         }
     }
 
-    /// Writes all that waits, and flushes the writer. Where the writer fails a part was written,
-    /// and the rest is not kept for it.
+    /// Writes all waiting bytes, and flushes the writer. If the writer fails, it has received a
+    /// part, and the rest is lost.
     ///
-    /// Of a flush the clause says that the writer holds what it held, which is all that std's
-    /// contract tells: that one is made where all was written, and that its failure is answered,
-    /// shows in no clause.
+    /// The clause says that the flush leaves the writer's contents unchanged, which is all that
+    /// std's contract of it says. That a flush happens after the bytes are written, and that its
+    /// failure is returned, is in no clause.
     pub fn flush<W: Write>(&mut self, writer: &mut W) -> Result<(), WriterError>
         ensures { WritesAll (W.contents writer.old) (W.contents writer.new) self.old self.new
             result }
@@ -77,16 +77,15 @@ impl Outlet {
         }
     }
 
-    /// Lets a text wait, where there is room for it and memory.
+    /// Buffers a text. Returns false if there is no room or no memory for it.
     fn keep(&mut self, text: &[u8]) -> bool
         ensures { self.new ≡ (if result then self.old ++ text.now else self.old) }
     {
         text.len() <= ROOM - self.waiting.len() && self.waiting.extend_from_slice(text).is_ok()
     }
 
-    /// Hands a text over: it waits, or what waits is written and then the text. Where there is no
-    /// memory for it to wait it is written. Where the writer fails a part was written, and the rest
-    /// is not kept for it.
+    /// Buffers `text`. If it does not fit or memory is refused, writes the buffer and then `text`.
+    /// If the writer fails, it has received a part, and the rest is lost.
     pub fn hand_over<W: Write>(&mut self, writer: &mut W, text: &[u8]) -> Result<(), WriterError>
         ensures { HandsOver (W.contents writer.old) (W.contents writer.new) self.old text.now
             self.new result }

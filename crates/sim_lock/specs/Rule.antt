@@ -1,4 +1,4 @@
--- What the sessions know of the book's history, and what the table's steps tell them.
+-- What the sessions know of the history of the book, and what each step of the table changes.
 use Rattle.std.specs.Prelude.{ℕ, zero, suc, ◌≡◌, ◌≢◌, ◌<◌, ◌≤◌, ◌+◌, ◌==◌, Bool, true, false, cond}
 use Rattle.std.specs.Prelude.{List, [], ◌∷◌, length, slice_index, Option, Some}
 use mathlib.Core.Option.{some}
@@ -7,7 +7,7 @@ use Rattle.atomic_table.specs.Table.{State, Me, Step}
 use Rattle.sim_lock.specs.declared.rule.Part.{Part}
 use Rattle.sim_lock.specs.Entries.{of_session, Begins}
 
--- f of each, added up
+-- the sum of f over a list
 abbrev pub total : {A : Type 0} → (A → ℕ) → List A → ℕ
 total f [] = 0
 total f (x ∷ xs) = f x + total f xs
@@ -17,17 +17,17 @@ Each P [] = Unit {0}
 Each P (x ∷ xs) = P x × Each P xs
 
 module _ {C E : Type 0} where
-  -- the part of a session: its number, the scenario, its own entries, what it has seen, and whether
-  -- it has the book
+  -- the part of a session: its number, the scenario, its entries, the history it has seen, and
+  -- whether it has the book
   abbrev pub part : ℕ → C → List E → List E → Bool → Part C E
   part s c m n h = record { session = s; scenario = c; mine = m; seen = n; holds = h }
 
-  -- the parts of so many sessions, from this one on, that have seen nothing
+  -- the parts of k sessions, from number `from` on, that have seen nothing
   abbrev pub fresh : C → ℕ → ℕ → List (Part C E)
   fresh c from zero = []
   fresh c from (suc k) = part from c [] [] false ∷ fresh c (suc from) k
 
-  -- 1 for the part of this session, else 0
+  -- 1 for a part of this session, else 0
   abbrev pub sits : ℕ → Part C E → ℕ
   sits s p = cond (p.session == s) 1 0
 
@@ -35,7 +35,7 @@ module _ {C E : Type 0} where
   abbrev pub has : Part C E → ℕ
   has p = cond p.holds 1 0
 
-  -- the first part's session, its entries and what it has seen, and whether it has the book
+  -- the session, the entries, the history seen and whether it has the book, of the first part
   abbrev pub session_in : List (Part C E) → ℕ
   session_in [] = 0
   session_in (p ∷ ps) = p.session
@@ -52,17 +52,17 @@ module _ {C E : Type 0} where
   holds_in [] = false
   holds_in (p ∷ ps) = p.holds
 
-  -- the first part's scenario, where there is one
+  -- the scenario of the first part, if there is one, is c
   abbrev pub ScenarioIs : C → List (Part C E) → Type 0
   ScenarioIs c [] = Unit {0}
   ScenarioIs c (p ∷ ps) = c ≡ p.scenario
 
-  -- the part once it has the book, whose history is this
+  -- the first part once it took the book, which has this history
   abbrev pub took : List (Part C E) → List E → List (Part C E)
   took [] log = []
   took (p ∷ ps) log = part p.session p.scenario p.mine log true ∷ ps
 
-  -- a seat of its own, which is cut off, and what is left
+  -- the first part alone, and the other parts
   abbrev pub first_of : List (Part C E) → List (Part C E)
   first_of [] = []
   first_of (p ∷ ps) = p ∷ []
@@ -72,23 +72,22 @@ module _ {C E : Type 0} where
   rest_of (p ∷ ps) = ps
 
 module _ {C E : Type 0} (session_of : E → ℕ) where
-  -- What the rule says of one part: its entries are all that the history has of its session, and
-  -- the history begins with what it has seen. Where it has the book the word says so, and it has
-  -- seen the whole
+  -- The rule for one part: its entries are all entries of its session, and the history begins with
+  -- what it has seen. If it has the book, the word names its session and it has seen the whole
+  -- history
   abbrev pub Fits : C → List E → ℕ → Part C E → Type 0
   Fits c log word p =
       (p.scenario ≡ c) × (of_session session_of p.session log ≡ p.mine) × Begins p.seen log
       × (p.holds ≡ true → (word ≡ suc p.session) × (p.seen ≡ log))
 
-  -- the part once the book went home with this history
+  -- the first part once it gave the book back with this history
   abbrev pub gave : List (Part C E) → List E → List (Part C E)
   gave [] log = []
   gave (p ∷ ps) log = part p.session p.scenario (of_session session_of p.session log) log false ∷ ps
 
   module _ {B : Type 0} (scenario : B → C) (entries : B → List E) where
-    -- The history fits each part, each session has one part, and no other session has an entry. The
-    -- book is at home with that history where the word is 0, and else it is with the part that has
-    -- it
+    -- The history fits each part, each session has one part, and no other session has an entry. If
+    -- the word is 0, the book is at home with that history; else a part has it
     pub record Keeps (c : C) (sessions : ℕ) (s : State (Option B) (List (Part C E))) : Type 0 where
       pub log : List E
       pub word : length s.words ≡ 1
@@ -102,19 +101,19 @@ module _ {C E : Type 0} (session_of : E → ℕ) where
           × (of_session session_of k log ≡ [])
       pub all : total length s.views ≡ sessions
 
-    -- the book was found: the seat has it, and has seen its history
+    -- the seat found the book: it has it now, and has seen its history
     abbrev pub Found : Me (Option B) (List (Part C E)) → Me (Option B) (List (Part C E)) → Type 0
     Found m n =
         (b : B) × (n ≡ (took m.0 (entries b), (0, Some b) ∷ m.1))
         × ScenarioIs (scenario b) m.0 × (of_session session_of (session_in m.0) (entries b)
         ≡ mine_in m.0) × Begins (seen_in m.0) (entries b)
 
-    -- a take answers the word that it found: the book was there at 0, and else nothing changed
+    -- a take returns the old word: if it was 0 the seat found the book, else nothing changed
     abbrev pub Takes : Step (Option B) → Me (Option B) (List (Part C E)) → ℕ
         → Me (Option B) (List (Part C E)) → Type 0
     Takes st m r n = (r ≡ 0 → Found m n) × (r ≢ 0 → n ≡ m)
 
-    -- a give leaves the book at home
+    -- a give puts the book back home
     abbrev pub Gives : Step (Option B) → Me (Option B) (List (Part C E)) → ℕ
         → Me (Option B) (List (Part C E)) → Type 0
     Gives st m r n = (b : B) → m.1 ≡ (0, Some b) ∷ [] → n ≡ (gave m.0 (entries b), [])

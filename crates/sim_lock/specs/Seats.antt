@@ -1,4 +1,4 @@
--- What a seat knows, and whose it is.
+-- What a seat knows, and to which lock it belongs.
 use Rattle.std.specs.Prelude.{ℕ, ◌≡◌, ◌<◌, ◌-◌, List, [], ◌∷◌, ◌++◌, Some, length, slice_get}
 use Rattle.std.specs.Prelude.{slice_index_or}
 use Rattle.sim_lock.specs.declared.kept.Kept.{Ghosts}
@@ -8,7 +8,7 @@ use Rattle.sim_lock.specs.declared.rule.Part.{Part}
 use Rattle.sim_lock.specs.Rule.{session_in, mine_in, seen_in, ScenarioIs}
 
 module _ {B C D E F : Type 0} where
-  -- how many sessions share it
+  -- the number of sessions that share the lock
   abbrev pub sessions_of : Lock B C D E F → ℕ
   sessions_of lock = lock.sessions
 
@@ -17,7 +17,7 @@ module _ {B C D E F : Type 0} where
   told scenario lock = scenario lock.table.shared.key.book.value
 
 module _ {B C D E F : Type 0} {K : Ghosts B C D E F} where
-  -- the seat came with this lock
+  -- the seat belongs to this lock
   abbrev pub IsOf : Seat B C D E F K → Lock B C D E F → Type 0
   IsOf seat lock = seat.raw.table_id ≡ lock.table.shared.table_id
 
@@ -31,7 +31,7 @@ module _ {B C D E F : Type 0} {K : Ghosts B C D E F} where
   abbrev pub mine : Seat B C D E F K → List E
   mine seat = mine_in seat.raw.me.0
 
-  -- the history as far as the session has seen it
+  -- the history that the session has seen
   abbrev pub seen : Seat B C D E F K → List E
   seen seat = seen_in seat.raw.me.0
 
@@ -40,12 +40,12 @@ module _ {B C D E F : Type 0} {K : Ghosts B C D E F} where
   IsReceipt seat r =
       (K.session_of r ≡ session seat) × (slice_get (mine seat) (K.number_of r - 1) ≡ Some r)
 
-  -- a seat of this session that has seen nothing
+  -- the seat is this session's, and has seen nothing
   abbrev pub IsNew : Lock B C D E F → C → ℕ → Seat B C D E F K → Type 0
   IsNew lock c k seat =
       IsOf seat lock × HasScenario seat c × (session seat ≡ k) × (mine seat ≡ []) × (seen seat ≡ [])
 
-  -- the seats of the sessions from 0 on
+  -- the seats of the sessions from 0 on, in order
   abbrev pub AreNew : Lock B C D E F → C → List (Seat B C D E F K) → Type 0
   AreNew lock c seats =
       (k : ℕ) (d : Seat B C D E F K) → k < length seats → IsNew lock c k (slice_index_or seats k d)

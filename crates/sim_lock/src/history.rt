@@ -1,10 +1,10 @@
-//! The history once all sessions ended.
+//! The history after all sessions ended.
 ghost use Rattle.std.specs.Prelude.{◌≡◌};
 ghost use Rattle.sim_lock.specs.Entries.{HasEntry};
 
 use crate::kept::Kept;
 
-/// The entries of all sessions, in the order in which their commands were carried out.
+/// The entries of all sessions, in the order in which their commands ran.
 pub struct History<B: Kept> {
     pub entries: Vec<B::Entry>,
 }
@@ -16,7 +16,7 @@ impl<B: Kept> Drop for History<B> {
 }
 
 impl<B: Kept> History<B> {
-    /// The entry of a receipt: the session's entry of that number.
+    /// Returns the entry of a receipt: the session's entry of that number.
     pub fn entry(&self, receipt: &B::Entry) -> &B::Entry
         requires { HasEntry B.session_of B.number_of self.now.entries.items receipt.now }
         ensures { result.now ≡ receipt.now }

@@ -1,16 +1,15 @@
-//! What lies under the lock.
+//! The value that a lock guards.
 ghost use Rattle.std.specs.Prelude.{◌≡◌, ℕ, ◌+◌, List, [], ◌∷◌, ◌++◌, Option, length, IfOk, IfErr};
 ghost use Rattle.sim_lock.specs.Entries.{of_session};
 
-/// A value with a scenario, which never changes, and a history, to which each turn adds one entry
-/// at the end.
+/// A value with a scenario that never changes, and a history to which each turn adds one entry.
 pub trait Kept {
-    /// What never changes.
+    /// The part that never changes.
     type Scenario;
-    /// What a session asks.
+    /// What a session asks for.
     type Command;
-    /// What the history keeps of a command: whose it is, its number among the session's, the
-    /// command, and what it was answered.
+    /// What the history keeps of a command: its session, its number in that session, the command,
+    /// and the reply.
     type Entry: Drop;
     /// Why a command is not taken.
     type NotTaken;
@@ -26,18 +25,18 @@ pub trait Kept {
 
     ghost command_of: { Self.Entry → Self.Command };
 
-    // what a reason for which a command is not taken says of the history
+    // what a `NotTaken` says about the history
     ghost tells: { Self.NotTaken → List Self.Entry → Type 0 };
 
-    /// The session of an entry.
+    /// Returns the session of an entry.
     fn session(entry: &Self::Entry) -> u8
         ensures { result ≡ session_of entry.now };
 
-    /// The number of an entry among those of its session, from 1.
+    /// Returns the number of an entry in its session, from 1.
     fn number(entry: &Self::Entry) -> u32
         ensures { result ≡ number_of entry.now };
 
-    /// Carries out a session's command, and gives its entry.
+    /// Carries out a session's command and returns its entry.
     fn turn(&mut self, session: u8, command: Self::Command) -> Result<Self::Entry, Self::NotTaken>
         ensures scenario { scenario self.new ≡ scenario self.old }
         ensures asked { IfOk result (λ e. (session_of e ≡ session) × (command_of e ≡ command)) }
@@ -48,7 +47,7 @@ pub trait Kept {
             × tells why (entries self.old)) };
 }
 
-/// A kept value that can also give a frozen copy of one of its branches.
+/// A kept value that can also return a frozen copy of one of its branches.
 pub trait Freezes: Kept {
     /// A frozen copy.
     type Frozen;
@@ -56,11 +55,11 @@ pub trait Freezes: Kept {
     // the command that freezes a branch
     ghost freezing: { ℕ → Self.Command };
 
-    // what is given beside an entry, by the scenario
+    // which frozen copy comes with an entry, by the scenario
     ghost gives: { Self.Scenario → Self.Entry → Option Self.Frozen → Type 0 };
 
-    /// Carries out a session's command to freeze a branch, and gives the frozen copy beside the
-    /// entry.
+    /// Carries out a session's command to freeze a branch, and returns the entry and the frozen
+    /// copy.
     fn freeze(
         &mut self,
         session: u8,

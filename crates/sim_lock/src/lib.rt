@@ -19,12 +19,12 @@
 //! - The crate knows no simulator, so its proofs name no world, its checks take seconds, and its
 //!   tests use a plain list.
 //! - The proofs rest on what each seat knows: its session's entries, and the history as far as it
-//!   has seen it. One rule of the table (`specs/Rule.antt`) says that the history holds just these
-//!   entries of each session and begins with what each seat has seen.
-//! - All sessions exist from the start. The first seat stands for all of them, and the others are
-//!   cut off it. So "each session has one part" is one equation from the beginning.
-//! - Commands and answers are types that the lock knows nothing about. It cannot invent a command,
-//!   take a turn twice or drop an answer: such a body does not compile.
+//!   has seen it. One rule of the table (`specs/Rule.antt`) says that the history holds exactly
+//!   these entries of each session and begins with what each seat has seen.
+//! - All sessions exist from the start. The first seat has the parts of all of them, and the other
+//!   seats are cut off it. So "each session has one part" is one equation from the beginning.
+//! - Commands and replies are types that the lock knows nothing about. It cannot invent a command,
+//!   take a turn twice or drop a reply: such a body does not compile.
 #![tactic(auto)]
 
 mod history;

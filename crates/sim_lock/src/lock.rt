@@ -1,4 +1,4 @@
-//! Taking the book out, and giving it back.
+//! The calls of a lock: they take the book out and give it back.
 ghost use Rattle.std.specs.Prelude.{◌≡◌, ◌+◌, ℕ, true, false, None, [], ◌∷◌, length};
 ghost use Rattle.sim_lock.specs.Entries.{of_session, Begins, Grows};
 ghost use Rattle.sim_lock.specs.Rule.{session_in, mine_in, seen_in, holds_in, ScenarioIs, took};
@@ -63,7 +63,7 @@ impl<B: Kept> Lock<B> {
         self.table.shared.store::<Give>(raw, 0, 0);
     }
 
-    /// Carries out a command in this seat's session, and gives its entry as a receipt.
+    /// Carries out a command in this seat's session, and returns its entry as a receipt.
     pub fn call<R: Wait>(
         &self,
         rt: &R,
@@ -96,7 +96,7 @@ impl<B: Freezes> Lock<B> {
     ghost use Rattle.sim_lock.specs.Entries.{EndsWith};
     ghost use Rattle.sim_lock.specs.Seats.{IsOf, IsReceipt, session, HasScenario, mine, seen};
 
-    /// A call that freezes a branch, and also gives the frozen copy.
+    /// Freezes a branch in this seat's session. Returns the receipt and the frozen copy.
     pub fn freeze<R: Wait>(
         &self,
         rt: &R,
@@ -131,7 +131,7 @@ impl<B: Kept> Lock<B> {
     ghost use Rattle.sim_lock.specs.Rule.{fresh};
     ghost use Rattle.sim_lock.specs.Seats.{IsNew, sessions_of, told};
 
-    // The seat of the next session.
+    // Cuts the seat of the next session off `rest`.
     fn cut(&self, rest: &mut RawSeat<B>, session: u8) -> Seat<B>
         requires table { rest.old.table_id ≡ self.now.table.shared.table_id }
         requires next { (session < sessions_of self.now)
@@ -156,7 +156,7 @@ impl<B: Kept + Drop> Lock<B> {
     ghost use Rattle.sim_lock.specs.Rule.{fresh};
     ghost use Rattle.sim_lock.specs.Seats.{AreNew, sessions_of, told};
 
-    // The lock, and a seat that has all sessions.
+    // Makes the lock, and a seat that has the parts of all sessions.
     fn open(alloc: Global, book: B, sessions: u8) -> Result<(Lock<B>, RawSeat<B>), AllocError>
         requires empty { B.entries book ≡ [] }
         requires some { 0 < sessions }
@@ -177,7 +177,7 @@ impl<B: Kept + Drop> Lock<B> {
         }
     }
 
-    /// A lock round a book with no history, and a seat for each session.
+    /// Makes a lock around a book with an empty history, and a seat for each session.
     pub fn new(alloc: Global, book: B, sessions: u8) -> Result<(Lock<B>, Vec<Seat<B>>), AllocError>
         requires empty { B.entries book ≡ [] }
         requires some { 0 < sessions }
@@ -202,7 +202,7 @@ impl<B: Kept> Lock<B> {
     ghost use Rattle.sim_lock.specs.Seats.{IsOf, IsReceipt, session, mine, seen, sessions_of, told};
     ghost use Rattle.sim_lock.specs.Seats.{gathered};
 
-    // One seat that knows what these know.
+    // Joins seats to one that knows what all of them know.
     fn fold(&self, mut seats: Vec<Seat<B>>) -> RawSeat<B>
         requires some { 0 < vec_len seats }
         requires own { All (λ s. IsOf s self.now) seats.items }
@@ -227,7 +227,7 @@ impl<B: Kept> Lock<B> {
         raw
     }
 
-    /// Ends the lock, with all its seats, and gives the book back.
+    /// Ends the lock with all its seats, and returns the book.
     pub fn close(self, seats: Vec<Seat<B>>) -> B
         requires all { vec_len seats ≡ sessions_of self }
         requires own { All (λ s. IsOf s self) seats.items }

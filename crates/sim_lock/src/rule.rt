@@ -5,8 +5,8 @@ use std::collections::LinkedList;
 use std::marker::PhantomData;
 use std::snapshot::Snapshot;
 
-/// What one session knows: its number, the scenario, its own entries, what it has seen of the
-/// history, and whether it has the book. No value of it is made.
+/// What one session knows: its number, the scenario, its own entries, the history it has seen, and
+/// whether it has the book. It exists only in contracts.
 pub(crate) struct Part<C, E> {
     pub(crate) session: u8,
     pub(crate) scenario: C,
@@ -15,7 +15,7 @@ pub(crate) struct Part<C, E> {
     pub(crate) holds: bool,
 }
 
-/// What the table is told when it is made: the book, and for how many sessions it is.
+/// What the table is made with: the book, and the number of sessions.
 #[derive(Drop)]
 pub(crate) struct About<B> {
     pub(crate) book: Snapshot<B>,
@@ -39,7 +39,7 @@ impl<B: Kept> TableRule<Option<B>, LinkedList<Part<B::Scenario, B::Entry>>, Abou
     ghost first = { λ about. fresh (B.scenario about.book.value) 0 about.sessions };
 }
 
-/// The book is taken out, where it is at home.
+/// Takes the book out, if it is at home.
 pub(crate) struct Take;
 
 impl<B: Kept> Play<Option<B>, LinkedList<Part<B::Scenario, B::Entry>>> for Take {
@@ -48,7 +48,7 @@ impl<B: Kept> Play<Option<B>, LinkedList<Part<B::Scenario, B::Entry>>> for Take 
     ghost then = { Takes B.session_of B.scenario B.entries };
 }
 
-/// The book goes home.
+/// Puts the book back home.
 pub(crate) struct Give;
 
 impl<B: Kept> Play<Option<B>, LinkedList<Part<B::Scenario, B::Entry>>> for Give {
@@ -68,7 +68,7 @@ impl<C, E> Split<LinkedList<Part<C, E>>> for Cut {
     ghost right = { first_of };
 }
 
-/// Takes the sessions of a seat into another.
+/// Joins the sessions of a seat to another seat.
 pub(crate) struct Fold;
 
 impl<C, E> Join<LinkedList<Part<C, E>>> for Fold {

@@ -1,4 +1,4 @@
-//! The lock, and the seats from which the sessions call.
+//! The lock, and the seats that sessions call from.
 ghost use Rattle.std.specs.Prelude.{◌≡◌, ◌<◌, [], length, false};
 ghost use Rattle.sim_lock.specs.Rule.{session_in, holds_in};
 
@@ -38,7 +38,7 @@ pub struct Seat<B: Kept> {
 impl<B: Kept> Seat<B> {
     ghost use Rattle.sim_lock.specs.Seats.{session};
 
-    /// The number of the seat's session, from 0.
+    /// Returns the number of the seat's session, from 0.
     pub fn session(&self) -> u8
         ensures { result ≡ session self.now }
     {

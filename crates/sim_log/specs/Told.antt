@@ -1,4 +1,4 @@
--- What is gathered of an event before it happens.
+-- What is known of an event before it happens.
 use Rattle.std.specs.Prelude.{ℕ, nat_lt, ◌&&◌, List, [], Option, None, Some, if◌then◌else◌, length}
 use Rattle.sim_world.specs.declared.Event.{Event}
 use Rattle.sim_world.specs.declared.Event.TheVariants as event
@@ -8,7 +8,7 @@ use Rattle.sim_world.specs.Events.{Rules}
 use Rattle.sim_world.specs.Account.{tears}
 
 module _ {State Msg : Type 0} where
-  -- a host, if it is there and runs
+  -- the host, if it exists and runs
   abbrev pub running : ℕ → World State Msg → Option ℕ
   running h w = if nat_lt h (length w.hosts) && runs h w then Some h else None
 
@@ -19,7 +19,7 @@ module _ {State Msg : Type 0} where
   crashed_by _ w = None
 
 module _ {State Msg : Type 0} (r : Rules State Msg) where
-  -- how many bytes the crash of a host keeps of each of its writes that are not stable
+  -- how many bytes of each unstable write of a host its crash keeps
   abbrev pub tears_of : Option ℕ → World State Msg → List ℕ
   tears_of None w = []
   tears_of (Some h) w = tears r h w

@@ -1,21 +1,21 @@
-//! Tells what each event of a run does: in words, and as rows of JSON.
+//! Describes what each event of a run does: in words, and as rows of JSON.
 //!
 //! - [`Told`] gathers what an event will do, in the world before it: the reaction of a step, what a
 //!   crash takes out of the queue and keeps of each write.
 //! - [`Places`] knows where in a run each occurrence was queued, and where it happened.
 //! - [`Line`] shows an event in words, for people and for `grep`.
-//! - [`first_rows`], [`rows_of`] and [`rows_after`] list what was there at the start and what an
-//!   event brings about, as rows of JSON; the page of a run reads them.
+//! - [`first_rows`], [`rows_of`] and [`rows_after`] list the hosts at the start and what an event
+//!   changes, as rows of JSON; the page of a run reads them.
 //!
 //! ```text
 //! let told = Told::new(alloc, world, event, meter)?;
 //! format!(in alloc; "{}", Line { names, places: &places, told: &told })?
 //! ```
 //!
-//! What is told is what happens. By its contract [`Told`] has the reaction that the next step will
-//! be and the bytes that a crash will keep; everything else is lent by the world before the event.
-//! How it is worded is tested and not proved: messages and states are shown by `Debug`, whose texts
-//! no contract can name.
+//! The contract of [`Told`] says that it has the reaction that the next step will be and the bytes
+//! that a crash will keep. Everything else is borrowed from the world before the event. The words
+//! are tested and not proved: `Debug` shows messages and states, and no contract can name its
+//! texts.
 #![tactic(auto)]
 
 mod line;

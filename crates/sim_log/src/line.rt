@@ -8,7 +8,7 @@ use sim_script::Names;
 use sim_world::{Event, Fate, Fault, Occurrence, Reaction};
 use std::fmt;
 
-/// What an event does, in words: what happened, and what was asked for. docs/LOG.md has every form.
+/// Shows an event in words: what happened, and which effects it had. docs/LOG.md has every form.
 #[derive(Drop)]
 pub struct Line<'a, N: Node> {
     pub names: &'a Names,
@@ -16,7 +16,7 @@ pub struct Line<'a, N: Node> {
     pub told: &'a Told<'a, N>,
 }
 
-// The event of a place, in brackets behind a word, if there is one.
+// Shows the event of a place in brackets after a word, if there is one.
 #[derive(Drop)]
 struct At<'a>(&'a str, Option<u32>);
 
@@ -29,7 +29,7 @@ impl fmt::Display for At<'_> {
     }
 }
 
-// Parts of a line: the first stands behind a colon, the others behind semicolons.
+// Separates the parts of a line: a colon before the first, semicolons before the others.
 #[derive(Drop)]
 struct Parts {
     count: u32,
@@ -51,7 +51,7 @@ where
         self.names.host_name(host)
     }
 
-    // What is pending happens to its host.
+    // Writes the first pending occurrence, which a step makes happen.
     fn write_step<W: fmt::Write>(&self, f: &mut fmt::Formatter<W>) -> fmt::Result {
         let Some((_due, serial, occurrence)) = self.told.world.first() else {
             return Ok(());
@@ -124,7 +124,7 @@ where
         }
     }
 
-    // What becomes of a message.
+    // Writes what becomes of a message.
     fn write_fate<W: fmt::Write>(&self, f: &mut fmt::Formatter<W>, fate: Fate) -> fmt::Result {
         match fate {
             Fate::Pending { due, serial } => {
@@ -171,7 +171,7 @@ where
         Ok(())
     }
 
-    // What a crash keeps of each write that is not stable.
+    // Writes how much a crash keeps of each unstable write.
     fn write_tears<W: fmt::Write>(
         &self,
         f: &mut fmt::Formatter<W>,
@@ -228,7 +228,7 @@ where
     }
 }
 
-// When what was asked for is due (ms); 0 for a fate that waits for nothing.
+// Returns when an effect is due (ms), or 0 for a fate that waits for nothing.
 fn due_of(fate: Fate) -> u64 {
     match fate {
         Fate::Pending { due, .. } | Fate::Asked { due, .. } => due,
@@ -236,7 +236,7 @@ fn due_of(fate: Fate) -> u64 {
     }
 }
 
-// What is pending, in a word.
+// Returns the kind of an occurrence in a word.
 fn kind_of<M>(occurrence: &Occurrence<M>) -> &'static str {
     match occurrence.input() {
         Input::Start => "start",

@@ -15,12 +15,12 @@ pub struct Places {
     serials: Vec<u64>,
     // For each event, whether it is a step.
     are_steps: Vec<bool>,
-    // The steps, by the serial of what happened.
+    // The steps, by the serial of the occurrence that happened.
     steps: HashMap<u64, u32>,
 }
 
 impl Places {
-    /// Walks a run from its start. The only error is want of memory.
+    /// Walks a run from its start. Fails only for want of memory.
     pub fn new<N: Node>(
         alloc: Global,
         run: &Frozen<N>,
@@ -65,20 +65,22 @@ impl Places {
         Ok(())
     }
 
-    /// The event that queued an occurrence, or none if it was pending from the start.
+    /// Returns the event that queued an occurrence, or `None` if it was pending from the start.
     pub fn queued_by(&self, serial: u64) -> Option<u32> {
         // Serials rise along a run: the last event before which the occurrence had no serial yet.
         let before = self.serials.partition_point(|next| *next <= serial);
         u32::try_from(before).ok().filter(|place| *place > 0)
     }
 
-    /// Whether an event is a step. A message that another event queued was held before, and let go.
+    /// Returns whether an event is a step. If a message was queued by another event, it was held
+    /// before and then released.
     pub fn is_step(&self, place: u32) -> bool {
         let before = place.saturating_sub(1) as usize;
         self.are_steps.get(before).copied().unwrap_or(false)
     }
 
-    /// The step at which an occurrence happens, or none if it does not in this run.
+    /// Returns the step at which an occurrence happens, or `None` if it does not happen in this
+    /// run.
     pub fn step_of(&self, serial: u64) -> Option<u32> {
         self.steps.get(&serial).copied()
     }

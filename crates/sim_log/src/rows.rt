@@ -1,4 +1,4 @@
-//! What an event brings about, as rows of JSON.
+//! What an event changes, as rows of JSON.
 use crate::told::{LinkFault, Told};
 use serde_json::{Number, Value};
 use sim_links::LinkState;
@@ -7,7 +7,7 @@ use sim_world::{Event, Fate, Fault, ToldEffect, World};
 use std::alloc::Global;
 use std::fmt;
 
-// A row as it is made: a word, and then numbers and texts. docs/PAGE.md has every row.
+// A row that is being made: a word, and then numbers and texts. docs/PAGE.md has every row.
 #[derive(Drop)]
 struct Row {
     cells: Vec<Value>,
@@ -32,7 +32,7 @@ impl Row {
     }
 }
 
-// Rows as they are gathered.
+// A list of rows that is being made.
 #[derive(Drop)]
 struct Rows {
     alloc: Global,
@@ -53,7 +53,7 @@ impl Rows {
         Ok(())
     }
 
-    // A row of a word and numbers.
+    // Adds a row of a word and numbers.
     fn add(&mut self, word: &str, numbers: &[u64]) -> Result<(), NoMemory> {
         let mut row = Row::new(self.alloc, word)?;
         for number in numbers {
@@ -67,7 +67,7 @@ impl Rows {
         rows
     }
 
-    // The node of a host, with the values of its probes.
+    // Adds the row of a host's node, with the values of its probes.
     fn node<N: Node + fmt::Debug>(&mut self, host: u16, node: &N) -> Result<(), NoMemory> {
         let alloc = self.alloc;
         let mut row = Row::new(alloc, "node")?.number(u64::from(host))?;
@@ -78,7 +78,7 @@ impl Rows {
         self.push(row)
     }
 
-    // What becomes of a message that was sent.
+    // Adds the row of a message that was sent, with what becomes of it.
     fn message(&mut self, to: u16, text: String, fate: Fate) -> Result<(), NoMemory> {
         let row = Row::new(self.alloc, sent_word(fate))?
             .number(u64::from(to))?
@@ -89,7 +89,7 @@ impl Rows {
         }
     }
 
-    // A write, with its bytes in hexadecimal.
+    // Adds the row of a write, with its bytes in hexadecimal.
     fn write(&mut self, offset: u32, bytes: &[u8], fate: Fate) -> Result<(), NoMemory> {
         let word = match fate {
             Fate::Skipped => "nowrite",
@@ -120,7 +120,7 @@ impl Rows {
         }
     }
 
-    // A step: what happened, and what the reaction brings about.
+    // Adds the rows of a step: what happened, and the effects of the reaction.
     fn step<N: Node + fmt::Debug>(&mut self, told: &Told<'_, N>) -> Result<(), NoMemory>
     where
         N::Msg: fmt::Debug,
@@ -140,7 +140,7 @@ impl Rows {
         Ok(())
     }
 
-    // What a crash keeps of each write that is not stable.
+    // Adds a row with what a crash keeps of each unstable write.
     fn crash<N: Node>(
         &mut self,
         told: &Told<'_, N>,
@@ -154,7 +154,7 @@ impl Rows {
         Ok(())
     }
 
-    // The directions that a fault names, with the messages that a release lets go.
+    // Adds the rows of the directions that a fault names, with the messages that a release lets go.
     fn links<N: Node>(&mut self, world: &World<N>, fault: LinkFault) -> Result<(), NoMemory> {
         let ends = [world.clock(), u64::from(fault.from), u64::from(fault.to)];
         self.add(fault.word, &ends)?;
@@ -172,7 +172,7 @@ impl Rows {
         Ok(())
     }
 
-    // The state of a direction from now on.
+    // Adds the row of a direction's new state.
     fn direction(&mut self, from: u16, to: u16, state: LinkState) -> Result<(), NoMemory> {
         let word = String::from_str(self.alloc, state_word(state))?;
         let row = Row::new(self.alloc, "link")?
@@ -182,8 +182,8 @@ impl Rows {
         self.push(row)
     }
 
-    // The messages of a direction that are let go: they take the serials from this one on. Returns
-    // the serial after theirs.
+    // Adds the rows of the messages of a direction that are released, with serials from `serial`
+    // on. Returns the serial after theirs.
     fn freed(&mut self, serial: u64, count: usize, clock: u64) -> Result<u64, NoMemory> {
         let mut serial = serial;
         for _ in 0..count {
@@ -194,7 +194,7 @@ impl Rows {
     }
 }
 
-// The word of a message's row.
+// Returns the word of a message's row.
 fn sent_word(fate: Fate) -> &'static str {
     match fate {
         Fate::Pending { .. } => "sent",
@@ -205,7 +205,7 @@ fn sent_word(fate: Fate) -> &'static str {
     }
 }
 
-// The state of a direction in a word.
+// Returns the state of a direction in a word.
 fn state_word(state: LinkState) -> &'static str {
     match state {
         LinkState::Through => "open",
@@ -214,8 +214,8 @@ fn state_word(state: LinkState) -> &'static str {
     }
 }
 
-/// The rows of an event: the event itself, and then what it brings about, in order, but for those
-/// that [`rows_after`] adds. The only error is want of memory.
+/// Returns the rows of an event: the event itself, and then its changes in order, without those
+/// that [`rows_after`] adds. Fails only for want of memory.
 pub fn rows_of<N: Node + fmt::Debug>(
     alloc: Global,
     told: &Told<'_, N>,
@@ -238,8 +238,8 @@ where
     Ok(rows.into_vec())
 }
 
-/// The rows that the world after an event adds: those of a bounce are the node that booted, and its
-/// start. The only error is want of memory.
+/// Returns the rows that the world after an event adds: for a bounce, the node that booted and its
+/// start. Fails only for want of memory.
 pub fn rows_after<N: Node + fmt::Debug>(
     alloc: Global,
     event: Event,
@@ -258,8 +258,8 @@ pub fn rows_after<N: Node + fmt::Debug>(
     Ok(rows.into_vec())
 }
 
-/// The rows before the first event: the node and the start of each host. The only error is want of
-/// memory.
+/// Returns the rows before the first event: the node and the start of each host. Fails only for
+/// want of memory.
 pub fn first_rows<N: Node + fmt::Debug>(
     alloc: Global,
     world: &World<N>,

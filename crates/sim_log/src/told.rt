@@ -10,26 +10,25 @@ use sim_node::{Input, NoMemory, Node};
 use sim_world::{Event, Fault, Reaction, World};
 use std::alloc::Global;
 
-/// What an event does, gathered in the world before it.
+/// What an event will do, gathered in the world before it.
 #[derive(Drop)]
 pub struct Told<'a, N: Node> {
     /// The world before the event.
     pub world: &'a World<N>,
     pub event: Event,
-    /// Of a step whose host runs, the reaction.
+    /// The reaction of a step whose host runs.
     pub reaction: Option<Reaction<N>>,
-    /// Of the crash of a running host, how many bytes are kept of each of its writes that are not
-    /// stable.
+    /// For the crash of a running host, how many bytes it keeps of each unstable write.
     pub tears: Vec<u32>,
-    /// Of the crash of a running host, the serials of what it takes out: the timer, the start, the
-    /// syncs.
+    /// For the crash of a running host, the serials of the occurrences that it takes out: the
+    /// timer, the start, the syncs.
     pub lost: Vec<u64>,
 }
 
 impl<'a, N: Node> Told<'a, N> {
-    /// Gathers what the event will do. Of a step in a world of age 65,536, to which no event can be
-    /// added, it gathers nothing. One copy of a node and one turn are counted where a node reacts.
-    /// The only error is want of memory.
+    /// Gathers what the event will do. For a step in a world of age 65,536, which can have no
+    /// further event, it gathers nothing. If a node reacts, counts one copy of a node and one turn.
+    /// Fails only for want of memory.
     pub fn new(
         alloc: Global,
         world: &'a World<N>,
@@ -62,7 +61,7 @@ impl<'a, N: Node> Told<'a, N> {
     }
 }
 
-// The running host that an event crashes.
+// Returns the running host that an event crashes, if it crashes one.
 fn crashed_host<N: Node>(world: &World<N>, event: Event) -> Option<u16>
     ensures there { IfSome result (λ h. h < world.now.scenario.setup.hosts) }
     ensures host { result ≡ crashed_by event world.now.world }
@@ -74,11 +73,11 @@ fn crashed_host<N: Node>(world: &World<N>, event: Event) -> Option<u16>
     }
 }
 
-// The serials of what a crash of a host takes out: whatever is pending for it, but for messages.
+// Returns the serials that a crash of a host takes out: all that is pending for it, but messages.
 fn lost_by<N: Node>(alloc: Global, world: &World<N>, host: u16) -> Result<Vec<u64>, NoMemory> {
     let mut lost = Vec::new(alloc);
     let mut from = 0;
-    // Each turn passes a serial.
+    // Each iteration passes a serial.
     for _ in 0..world.next_serial() {
         let Some(serial) = world.next_pending(from) else {
             break;
@@ -94,8 +93,8 @@ fn lost_by<N: Node>(alloc: Global, world: &World<N>, host: u16) -> Result<Vec<u6
     Ok(lost)
 }
 
-/// How a fault changes the links: a change of the direction from the first host to the second and,
-/// if it goes both ways, then of the other one.
+/// How a fault changes the links: the direction from the first host to the second and, if the fault
+/// goes both ways, then the opposite one.
 #[derive(Clone, Copy, Debug, PartialEq, Eq)]
 pub struct LinkFault {
     pub word: &'static str,
@@ -106,7 +105,7 @@ pub struct LinkFault {
 }
 
 impl LinkFault {
-    /// How a fault changes the links, or none if it is the fault of a host.
+    /// Returns how a fault changes the links, or `None` if it is a fault of a host.
     pub fn of(fault: Fault) -> Option<LinkFault> {
         let (word, change, (from, to), is_both) = match fault {
             Fault::Crash(_) | Fault::Bounce(_) => return None,
@@ -126,7 +125,7 @@ impl LinkFault {
         })
     }
 
-    /// The directions that it changes, in order.
+    /// Returns the directions that it changes, in order.
     pub fn directions(self) -> [Option<(u16, u16)>; 2] {
         let back = if self.is_both {
             Some((self.to, self.from))

@@ -2,7 +2,7 @@
 use Rattle.std.specs.Prelude.{◌≡◌, ◌≢◌, ℕ, List, ◌++◌, All}
 use Rattle.sim_script.specs.Script.{Text}
 
--- Between the two texts is one in which no `<` is.
+-- The text between the two has no `<`.
 abbrev pub IsBetween : Text → Text → Text → Type 0
 IsBetween before after text =
     (middle : Text) × (text ≡ before ++ middle ++ after) × All (λ (b : ℕ). b ≢ 60) middle

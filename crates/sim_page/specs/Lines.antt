@@ -13,19 +13,19 @@ abbrev pub word_line : ℕ → ℕ → Text → Text
 word_line place clock words =
     decimal place ++ codes " clock " ++ decimal clock ++ codes ": " ++ words ++ codes "\n"
 
--- No contract names what is told: messages and states are shown by `Debug`.
+-- No contract names the words: `Debug` shows messages and states.
 abbrev pub IsWordLine : ℕ → ℕ → Text → Type 0
 IsWordLine place clock line = (words : Text) × (line ≡ word_line place clock words)
 
 abbrev pub IsObjectLine : Text → Type 0
 IsObjectLine line = (object : Text) × (line ≡ object ++ codes "\n")
 
--- how an event is told, as JSON or in words
+-- the line of an event, as JSON or in words
 abbrev pub IsTold : Bool → ℕ → ℕ → Text → Type 0
 IsTold true place clock line = IsObjectLine line
 IsTold false place clock line = IsWordLine place clock line
 
--- a warm tape was walked past its next event
+-- the tape went past its next event and is warm
 abbrev pub IsPast : Tape → Tape → Type 0
 IsPast old new = new ≡ with_world true new.reach (at (old.place + 1) old)
 
@@ -37,11 +37,11 @@ module _ {State Msg : Type 0} (r : Rules State Msg) (events : List Event) (json 
     pub led : run r (take place events) ≡ Some world
     pub told : IsTold json place world.clock line
 
-  -- a line was added
+  -- adds the line of a place to a text
   abbrev pub AddsLine : ℕ → Text → Text → Type 0
   AddsLine place old new = (line : Text) × (new ≡ old ++ line) × IsLine place line
 
-  -- the lines of so many events, from the one on that leads to a place
+  -- the lines of `count` events, from the one that leads to place `first` on
   abbrev pub AreLines : ℕ → ℕ → Text → Type 0
   AreLines first zero text = text ≡ []
   AreLines first (suc count) text =

@@ -22,7 +22,7 @@ module _ {State Msg : Type 0} (r : Rules State Msg) (events : List Event) (range
   abbrev pub last : ℕ
   last = unwrap_or range.to (length events)
 
-  -- The lines of the events that are asked for, if the run has them.
+  -- The log has the lines of the requested events, or reports a bad range if the run lacks one.
   abbrev pub IsLogOf : Export → Type 0
   IsLogOf (Shown log) = IsRange first last (length events)
       × AreLines r events range.json first (last + 1 - first) log.items
@@ -33,12 +33,12 @@ module _ {State Msg : Type 0} (r : Rules State Msg) (events : List Event) (range
   IsLogOf BadScript = ⊥
   IsLogOf NoInput = ⊥
 
-  -- the same, where no line of the script is at fault, or one is
+  -- the same if no line of the script is at fault, else a bad script
   abbrev pub IsLogIf : Bool → Export → Type 0
   IsLogIf true e = IsLogOf e
   IsLogIf false e = e ≡ BadScript
 
--- what is written for a script, if these events are asked for
+-- the log that is right for a script and a range of events
 abbrev pub log_right : LogRange → Right
 log_right range State Msg r names scenario script e =
     IsLogIf r (first_events r names script) range (are_well r names beginning (lines script)) e

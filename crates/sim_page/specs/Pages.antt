@@ -10,8 +10,8 @@ use Rattle.sim_export.specs.declared.export.Export.TheVariants.{BadCondition, Ba
 use Rattle.sim_export.specs.Exports.{Right}
 use Rattle.sim_page.specs.declared.paging.PageRequest.{PageRequest}
 
--- Whether a page is written: where no line of the script is at fault, and no condition that is
--- asked for is refused.
+-- A page is written only if no line of the script is at fault. A bad condition is reported only if
+-- conditions were given
 abbrev pub IsPageIf : Bool → Option (Bor (List ℕ)) → Export → Type 0
 IsPageIf well watch (Shown page) = well ≡ true
 IsPageIf well watch BadCondition = IsSome watch
@@ -21,7 +21,7 @@ IsPageIf well watch Nowhere = ⊥
 IsPageIf well watch BadRange = ⊥
 IsPageIf well watch NoInput = ⊥
 
--- what is written for a script
+-- the page that is right for a script
 abbrev pub page_right : PageRequest → Right
 page_right asked State Msg r names scenario script e =
     IsPageIf (are_well r names beginning (lines script)) asked.watch e

@@ -1,4 +1,4 @@
-//! The data of a page: one JSON object in which no `<` is left.
+//! The data of a page: one JSON object without any `<`.
 ghost use Rattle.std.specs.List.{list_all};
 ghost use Rattle.std.specs.Prelude.{◌≢◌, ◌==◌, not, All, IfOk, IsTrue};
 ghost use Rattle.sim_page.specs.Between.{IsBetween};
@@ -7,8 +7,8 @@ use serde_json::{Number, Value};
 use sim_node::NoMemory;
 use std::alloc::Global;
 
-/// A text as JSON has it, in which no `<` is left: each is written `\\u003c`, which says the same
-/// within a string, and a `<` stands nowhere else in JSON. The only error is want of memory.
+/// Writes each `<` of a JSON text as `\\u003c`. Within a string both mean the same, and elsewhere
+/// JSON has no `<`. Fails only for want of memory.
 fn escaped(alloc: Global, json: &[u8]) -> Result<Vec<u8>, NoMemory>
     ensures { IfOk result (λ text. All (λ b. b ≢ 60) text.items) }
 {
@@ -23,7 +23,7 @@ fn escaped(alloc: Global, json: &[u8]) -> Result<Vec<u8>, NoMemory>
     Ok(text)
 }
 
-/// JSON as it is gathered. No `<` is in it.
+/// JSON that is being made. It has no `<`.
 #[derive(Drop)]
 pub(crate) struct Data {
     alloc: Global,
@@ -39,7 +39,7 @@ impl Data {
         }
     }
 
-    /// Adds a text of the page's own.
+    /// Adds a fixed text.
     pub(crate) fn put(&mut self, text: &str) -> Result<(), NoMemory>
         requires { IsTrue (list_all (λ b. not (b == 60)) text.now) }
     {
@@ -53,7 +53,7 @@ impl Data {
         self.bytes.extend_from_slice(text.as_slice())
     }
 
-    /// Adds a member of the object, behind a comma.
+    /// Adds a member to the object, after a comma.
     pub(crate) fn member(&mut self, name: &str, value: &Value) -> Result<(), NoMemory>
         requires { IsTrue (list_all (λ b. not (b == 60)) name.now) }
     {
@@ -63,7 +63,7 @@ impl Data {
         self.value(value)
     }
 
-    /// Adds rows that follow others: each on a line, behind a comma.
+    /// Adds rows after others: each on a line of its own, after a comma.
     pub(crate) fn more_rows(&mut self, rows: &[Value]) -> Result<(), NoMemory> {
         for row in rows {
             self.put(",\n")?;
@@ -72,7 +72,7 @@ impl Data {
         Ok(())
     }
 
-    /// The data between two texts. No `<` of it is between them.
+    /// Puts the data between two texts. The data has no `<`.
     pub(crate) fn between(&self, before: &str, after: &str) -> Result<Vec<u8>, NoMemory>
         ensures { IfOk result (λ text. IsBetween before.now after.now text.items) }
     {
@@ -84,12 +84,12 @@ impl Data {
     }
 }
 
-/// A text as a value.
+/// Makes a text a value.
 pub(crate) fn string(alloc: Global, text: &str) -> Result<Value, NoMemory> {
     Ok(Value::String(String::from_str(alloc, text)?))
 }
 
-/// A number as a value.
+/// Makes a number a value.
 pub(crate) fn number(number: u64) -> Value {
     Value::Number(Number::from(number))
 }

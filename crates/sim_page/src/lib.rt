@@ -3,21 +3,21 @@
 //! - [`write_log`] plays a script and writes a line for each event of its run, in words or as JSON.
 //! - [`write_page`] plays a script and writes one HTML file with the whole run in it.
 //!
-//! Both are tasks over a list of subjects, as a play is ([`Task`](sim_cli::Task)). A script is
-//! played strictly: the first line at fault is told on standard error, and nothing is written.
+//! Both are tasks over a list of subjects, as a play is ([`Task`](sim_cli::Task)). They play a
+//! script strictly: they report the first line at fault on standard error, and write nothing.
 //!
 //! Why it is built this way:
 //!
-//! - What is shown comes from `sim_log`, and the run is walked on a tape of the frozen run, one
-//!   event after the other.
-//! - A log or a page is gathered and then written, so that want of memory leaves nothing behind.
-//!   The contract of [`write_log`] says that there is a line for each event that was asked for,
-//!   with its place and the clock of the world there; what else is told of an event no contract can
-//!   name, since messages and states are shown by `Debug`.
+//! - `sim_log` describes the events. The run is walked on a tape of the frozen run, one event after
+//!   the other.
+//! - A log or a page is completed in memory before it is written, so that want of memory leaves
+//!   nothing behind. The contract of [`write_log`] says that there is a line for each requested
+//!   event, with its place and the clock of the world there. No contract can name the rest of a
+//!   line, since `Debug` shows messages and states.
 //! - The page's text is a constant on both sides of the data (`template.rt`). page/embed.py writes
-//!   it from page/template.html, which is edited in place of it.
-//! - The data stands in the page as JSON within a script element that no browser runs. No `<` is in
-//!   it (`Data`): so no title, name or message can end that element, whatever its bytes are.
+//!   it from page/template.html; edit that file instead.
+//! - The data is JSON within a script element that no browser runs. It has no `<` (`Data`), so no
+//!   title, name or message can end that element, whatever its bytes are.
 #![tactic(auto)]
 
 mod data;

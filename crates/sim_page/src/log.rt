@@ -17,19 +17,20 @@ use sim_world::{Event, World};
 use std::alloc::Global;
 use std::fmt::Debug;
 
-/// Which events are told, and how.
+/// Which events are shown, and how.
 #[derive(Clone, Copy, Debug, PartialEq, Eq)]
 pub struct LogRange {
-    /// The first event, from 1 on; with none, 1.
+    /// The first event, from 1 on; 1 by default.
     pub from: Option<u64>,
-    /// The last event; with none, the last of the run.
+    /// The last event; by default the last of the run.
     pub to: Option<u64>,
-    /// Whether each event is written as a JSON object, and not in words.
+    /// Whether each event is a JSON object, and not a line of words.
     pub json: bool,
 }
 
 impl LogRange {
-    // The first and the last event of so many, or none if there is no such event.
+    // Returns the first and the last event to show in a run of `count` events, or `None` if it
+    // lacks one of them.
     fn within(self, count: u32) -> Option<(u32, u32)>
         ensures range { IfSome result (λ r. IsRange r.0 r.1 count
             × (r.0 ≡ unwrap_or self.from 1) × (r.1 ≡ unwrap_or self.to count)) }
@@ -45,14 +46,15 @@ impl LogRange {
     }
 }
 
-// The line of an event in words: the place after it, the clock there (ms), and what happened.
+// Returns the line of an event in words: the place after it, the clock there (ms), and what
+// happened.
 fn word_line(alloc: Global, place: u32, clock: u64, words: &str) -> Result<String, NoMemory>
     ensures { IfOk result (λ line. string_bytes line ≡ word_line place clock words.now) }
 {
     format!(in alloc; "{place} clock {clock}: {words}\n")
 }
 
-// The line of an event as a JSON object.
+// Returns the line of an event as a JSON object.
 fn object_line(alloc: Global, place: u32, clock: u64, rows: Vec<Value>) -> Result<String, NoMemory>
     ensures { IfOk result (λ line. IsObjectLine (string_bytes line)) }
 {
@@ -61,7 +63,7 @@ fn object_line(alloc: Global, place: u32, clock: u64, rows: Vec<Value>) -> Resul
     format!(in alloc; "{object}\n")
 }
 
-// What an event does, in words.
+// Returns what an event does, in words.
 fn words_of<'a, N: Node>(
     alloc: Global,
     names: &'a Names,
@@ -79,7 +81,7 @@ where
     format!(in alloc; "{line}")
 }
 
-// What does not change along a log.
+// What all lines of a log share.
 #[derive(Clone, Copy)]
 struct Teller<'a> {
     alloc: Global,
@@ -88,7 +90,7 @@ struct Teller<'a> {
 }
 
 impl Teller<'_> {
-    // What happens at an event, in words. It is told in the world before it.
+    // Returns what happens at an event, in words. `world` is the world before it.
     fn words<N: Node<Meter = Tally>>(
         self,
         world: &World<N>,
@@ -101,7 +103,7 @@ impl Teller<'_> {
         words_of(self.alloc, self.names, self.places, &told)
     }
 
-    // Adds the line in words of the next event of a tape, and walks the tape past it.
+    // Adds the line of the tape's next event in words, and walks the tape past it.
     fn add_words<N: Node<Meter = Tally>>(
         self,
         tape: &mut Tape<N>,
@@ -127,7 +129,7 @@ impl Teller<'_> {
         Ok(())
     }
 
-    // Adds the line as JSON of the next event of a tape, and walks the tape past it.
+    // Adds the line of the tape's next event as JSON, and walks the tape past it.
     fn add_object<N: Node<Meter = Tally> + Debug>(
         self,
         tape: &mut Tape<N>,
@@ -155,7 +157,7 @@ impl Teller<'_> {
     }
 }
 
-/// The rows of an event that are told in the world before it.
+/// Returns the rows of an event that the world before it gives.
 pub(crate) fn rows_before<N: Node<Meter = Tally> + Debug>(
     alloc: Global,
     world: &World<N>,
@@ -168,7 +170,7 @@ where
     rows_of(alloc, &told)
 }
 
-// Rows, and then others.
+// Joins two lists of rows.
 fn joined(rows: Vec<Value>, more: Vec<Value>) -> Result<Vec<Value>, NoMemory> {
     let mut rows = rows;
     for row in more {
@@ -177,7 +179,7 @@ fn joined(rows: Vec<Value>, more: Vec<Value>) -> Result<Vec<Value>, NoMemory> {
     Ok(rows)
 }
 
-// The lines of the events from one to another.
+// Returns the lines of the events from `first` to `last`.
 fn lines_of<N: Node<Meter = Tally> + Debug>(
     teller: Teller<'_>,
     run: &Frozen<N>,
@@ -206,7 +208,8 @@ where
     Ok(log)
 }
 
-/// The log of a run, or that it has no such event. The only error is want of memory.
+/// Returns the log of a run, or a bad range if the run has no such event. Fails only for want of
+/// memory.
 pub(crate) fn log_of<N: Node<Meter = Tally> + Debug>(
     alloc: Global,
     names: &Names,

@@ -15,7 +15,7 @@ use std::alloc::Global;
 use std::fmt::Debug;
 use std::io::{Read, Write};
 
-// The task to write the log of the run that a script leaves, in the scenario with this text.
+// The task to write the log of a script's run, in the scenario with this text.
 #[derive(Drop)]
 struct Logging<'a, H: Eprint> {
     alloc: Global,
@@ -57,14 +57,14 @@ impl<'a, H: Eprint> Task for Logging<'a, H> {
     }
 }
 
-/// Plays a script without writing its answers, and writes a line for each kept event of its first
-/// branch in a range: in words, or as a JSON object with its place, the clock after it, and its
-/// rows.
+/// Plays a script without writing its answers. Then writes a line for each kept event of its first
+/// branch that is in the range: in words, or as a JSON object with its place, the clock after it,
+/// and its rows.
 ///
-/// It writes `bad range` with status 2 if the run has no such event. If a line of the script is no
-/// command, or its command is refused or not taken, it tells that on standard error and writes
-/// nothing, with status 2. If the reader fails or memory is wanted, it writes nothing either. There
-/// are at most 255 subjects.
+/// Writes `bad range` with status 2 if the run has no such event. If a line of the script is no
+/// command, or its command is refused or not taken, reports that on standard error and writes
+/// nothing, with status 2. If the reader fails or memory is wanted, writes nothing either. Takes at
+/// most 255 subjects.
 pub fn write_log<L: Subjects, H: Eprint, R: Read, W: Write>(
     host: &H,
     alloc: Global,

@@ -1,4 +1,4 @@
-//! A page as it is written, event by event.
+//! Writes a page, event by event.
 use crate::data::{Data, number, string};
 use crate::log::rows_before;
 use crate::template::{AFTER, BEFORE};
@@ -20,11 +20,11 @@ pub(crate) struct Watched<'a> {
     /// Its words, as they were given.
     pub words: &'a str,
     pub cond: Cond,
-    /// For each place so far 1 where it holds, and else 0.
+    /// For each place so far, 1 if it holds there, else 0.
     pub holding: Vec<Value>,
 }
 
-/// What a page is made of beside the run.
+/// What a page shows beside the run.
 #[derive(Drop)]
 pub(crate) struct Frame<'a> {
     pub alloc: Global,
@@ -42,7 +42,8 @@ impl Frame<'_> {
         Ok(Value::Array(about))
     }
 
-    // The input that makes the events of the run, or no text where no line of a script makes one.
+    // Returns the input that makes the events of the run, or an empty text if no line of a script
+    // makes one of them.
     fn input(&self, events: &EventList) -> Result<Value, NoMemory> {
         let mut listed = Vec::new(self.alloc);
         for place in 0..events.len() {
@@ -76,7 +77,7 @@ impl Frame<'_> {
         Ok(Value::Array(names))
     }
 
-    // The members before the rows.
+    // Writes the members before the rows.
     fn head(&self, data: &mut Data, events: &EventList, probes: u8) -> Result<(), NoMemory> {
         data.put("{\"format\":1")?;
         data.member("title", &string(self.alloc, self.title)?)?;
@@ -90,12 +91,12 @@ impl Frame<'_> {
     }
 }
 
-/// The rows of a run and what its conditions say, as the run is walked.
+/// The rows of a run, and whether each condition holds, collected as the run is walked.
 #[derive(Drop)]
 struct Rows<'a, N: Node> {
     alloc: Global,
     data: Data,
-    // It stands before the event whose rows come next.
+    // It is at the place before the event whose rows come next.
     tape: Tape<N>,
     watched: Vec<Watched<'a>>,
 }
@@ -104,7 +105,7 @@ impl<N: Node<Meter = Tally> + Debug> Rows<'_, N>
 where
     N::Msg: Debug,
 {
-    // The rows before the first event. There is a host, so there is a first row.
+    // Adds the rows before the first event. There is a host, so there is a first row.
     fn start(&mut self) -> Result<(), NoMemory> {
         self.tape.make_warm(self.alloc, &mut Tally::new())?;
         let rows = first_rows(self.alloc, self.tape.here())?;
@@ -115,7 +116,7 @@ where
         self.note_holding()
     }
 
-    // The rows of the next event. The tape is walked past it.
+    // Adds the rows of the next event, and walks the tape past it.
     fn event(&mut self, event: Event) -> Result<(), NoMemory> {
         let alloc = self.alloc;
         self.tape.make_warm(alloc, &mut Tally::new())?;
@@ -130,7 +131,7 @@ where
         self.note_holding()
     }
 
-    // Notes for each condition whether it holds of the world of the tape.
+    // Notes for each condition whether it holds in the tape's world.
     fn note_holding(&mut self) -> Result<(), NoMemory> {
         self.tape.make_warm(self.alloc, &mut Tally::new())?;
         let world = self.tape.here();
@@ -141,7 +142,7 @@ where
         Ok(())
     }
 
-    // The members after the rows.
+    // Writes the members after the rows.
     fn end(self) -> Result<Data, NoMemory> {
         let Rows {
             alloc,
@@ -164,8 +165,8 @@ where
     }
 }
 
-// Whether a condition holds of a world. One that names a host or a probe that is not there does
-// not.
+// Returns whether a condition holds in a world. If it names a host or a probe that does not exist,
+// it does not hold.
 fn is_held<N: Node>(cond: &Cond, world: &World<N>) -> bool {
     match cond.check(world.hosts(), N::PROBES) {
         Ok(()) => holds(cond, world),
@@ -173,7 +174,7 @@ fn is_held<N: Node>(cond: &Cond, world: &World<N>) -> bool {
     }
 }
 
-/// The page of a run. The only error is want of memory.
+/// Returns the page of a run. Fails only for want of memory.
 pub(crate) fn page_of<N: Node<Meter = Tally> + Debug>(
     frame: &Frame<'_>,
     run: &Frozen<N>,

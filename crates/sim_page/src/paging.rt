@@ -22,11 +22,11 @@ use std::io::{Read, Write};
 pub struct PageRequest<'a> {
     /// The heading.
     pub title: Option<&'a str>,
-    /// The words of conditions, with `;` between them: the page shows where each fails.
+    /// The words of conditions, separated by `;`. The page shows where each fails.
     pub watch: Option<&'a str>,
 }
 
-// The task to write the page of the run that a script leaves, in the scenario with this text.
+// The task to write the page of a script's run, in the scenario with this text.
 #[derive(Drop)]
 struct Paging<'a, H: Eprint> {
     alloc: Global,
@@ -80,7 +80,7 @@ impl<'a, H: Eprint> Task for Paging<'a, H> {
     }
 }
 
-// Why there are no conditions to watch.
+// Why the conditions to watch could not be read.
 #[derive(Clone, Copy, Debug, PartialEq, Eq)]
 enum WatchError {
     BadCondition,
@@ -95,7 +95,7 @@ impl From<AllocError> for WatchError {
     }
 }
 
-// The conditions that these words are, with `;` between them.
+// Reads the conditions that these words write, separated by `;`.
 fn watched_by<'a>(
     alloc: Global,
     opened: &Opened,
@@ -121,7 +121,7 @@ fn watched_by<'a>(
     Ok(watched)
 }
 
-// The condition that these words are, if the scenario has its hosts and probes.
+// Reads the condition that these words write, if the scenario has its hosts and probes.
 fn usable(opened: &Opened, words: &str, probes: u8) -> Option<Cond> {
     let cond = condition_of(&opened.names, words.as_bytes())?;
     match cond.check(opened.scenario.hosts(), probes) {
@@ -131,12 +131,12 @@ fn usable(opened: &Opened, words: &str, probes: u8) -> Option<Cond> {
 }
 
 /// Plays a script without writing its answers, and writes the run of its first branch as a page:
-/// one HTML file that loads nothing. docs/PAGE.md says what it shows, and what its data is.
+/// one HTML file that loads nothing. docs/PAGE.md describes the page and its data.
 ///
-/// It writes `bad condition` with status 2 if the words of a condition are none, or if the scenario
-/// has no such host or probe. If a line of the script is no command, or its command is refused or
-/// not taken, it tells that on standard error and writes nothing, with status 2. If the reader
-/// fails or memory is wanted, it writes nothing either. There are at most 255 subjects.
+/// Writes `bad condition` with status 2 if the words write no condition, or if the scenario has no
+/// such host or probe. If a line of the script is no command, or its command is refused or not
+/// taken, reports that on standard error and writes nothing, with status 2. If the reader fails or
+/// memory is wanted, writes nothing either. Takes at most 255 subjects.
 pub fn write_page<L: Subjects, H: Eprint, R: Read, W: Write>(
     host: &H,
     alloc: Global,

@@ -1,6 +1,6 @@
--- Primary-backup: clients put values into cells at the primary, which is server 0, and it answers
--- when all backups have them. A server speaks of what it has applied only when its disk has told
--- that it is stable.
+-- Primary-backup: clients put values into cells at the primary, which is server 0. It answers when
+-- all backups have them. A server reports what it has applied only after its disk reports that it
+-- is stable.
 use Rattle.std.specs.Prelude.{ℕ, ◌+◌, ◌*◌, ◌%◌, ◌==◌, nat_lt, nat_le, Bool, true, not, ◌&&◌, List}
 use Rattle.std.specs.Prelude.{[], ◌∷◌, ◌++◌, map, replicate, slice_index, slice_set, Option, None}
 use Rattle.std.specs.Prelude.{Some, if◌then◌else◌}
@@ -24,8 +24,8 @@ use Rattle.sim_hosts.specs.Bytes.{bytes_of, number_at}
 use Rattle.sim_hosts.specs.Hosts.{nobody, others, is_other, joined, all_in, not_in, to_all}
 use Rattle.sim_hosts.specs.Waiting.{lowest_waiting}
 
--- What a server keeps. Cell c stands at 8 c, how many puts it has applied at 128, the cell of the
--- last in one byte at 136.
+-- A server's disk: cell c at 8 c, the number of puts applied at 128, the cell of the last put in
+-- one byte at 136.
 
 abbrev pub cells_on : List ℕ → List ℕ
 cells_on bytes = map (λ c. number_at bytes (8 * c)) (numbers_from 0 16)
@@ -37,26 +37,26 @@ store_on bytes = record {
       record { applied = number_at bytes 128; last = slice_index bytes 136 % 16; unsure = 0 };
 }
 
--- with a value in a cell, as put number n
+-- the store after put number n, of a value into a cell
 abbrev pub with_put : ℕ → ℕ → ℕ → Store → Store
 with_put n cell val store = record {
   cells = slice_set store.cells cell val;
   progress = record { applied = n; last = cell; unsure = raised store.progress.unsure };
 }
 
--- the last cell, the number and the last cell's place are written, and a sync is asked for
+-- writes the last cell, the number of puts and the last cell's place, and asks for a sync
 abbrev pub saved : Store → List (Effect BackupMsg)
 saved store =
     Effect.Write (8 * store.progress.last) (bytes_of (slice_index store.cells store.progress.last))
     ∷ Effect.Write 128 (bytes_of store.progress.applied ++ store.progress.last ∷ [])
     ∷ Effect.Sync ∷ []
 
--- the last put, for the backups
+-- the message that gives the last put to the backups
 abbrev pub apply_of : Store → BackupMsg
 apply_of store =
     Apply store.progress.last store.progress.applied (slice_index store.cells store.progress.last)
 
--- a sync has come
+-- the store after a sync
 abbrev pub after_sync : Store → Store
 after_sync store =
     record store { progress = record store.progress { unsure = lowered store.progress.unsure } }
@@ -67,7 +67,7 @@ abbrev pub primary_at_boot : List ℕ → Primary
 primary_at_boot bytes =
     record { store = store_on bytes; current = None; waiting = replicate 32 None }
 
--- it starts with what it had applied: that may have got lost on the way
+-- it starts: it spreads the last applied put again, since that put may have been lost
 abbrev pub started : Setup → Primary → Reaction Primary BackupMsg
 started setup p =
     if nat_lt 0 p.store.progress.applied then (
@@ -76,7 +76,7 @@ started setup p =
     )
     else (p, [])
 
--- it begins a put of a client
+-- it begins a client's put
 abbrev pub begun : ℕ → ℕ → ℕ → Primary → Reaction Primary BackupMsg
 begun client number val p =
     let new = with_put (raised p.store.progress.applied) (number % 16) val p.store in (
@@ -91,14 +91,14 @@ begun client number val p =
       saved new ++ Effect.Timer 100 ∷ [],
     )
 
--- it begins the put of the lowest host that waits, who waits no more
+-- it begins the put of the lowest waiting host, which then no longer waits
 abbrev pub begun_lowest : Setup → Primary → Reaction Primary BackupMsg
 begun_lowest setup p = elim (lowest_waiting setup p.waiting) [
   | None ↦ (record p { current = None }, [])
   | Some w ↦ begun w.0 w.1.number w.1.val (record p { waiting = slice_set p.waiting w.0 None })
 ]
 
--- the put is that of another
+-- the put is not this host's
 abbrev pub is_of_another : ℕ → Request → Bool
 is_of_another host r = elim r.client [ None ↦ true | Some client ↦ not (client == host) ]
 
@@ -114,14 +114,14 @@ put_by from i val (Some r) p =
     )
     else (p, [])
 
--- the put ends: its client is told
+-- the put ends: its client gets the answer
 abbrev pub fin_of : Request → List (Effect BackupMsg)
 fin_of r = elim r.client [ None ↦ [] | Some client ↦ Effect.Send client (Fin r.number) ∷ [] ]
 
 abbrev pub finished : Request → Setup → Primary → Reaction Primary BackupMsg
 finished r setup p = let next = begun_lowest setup p in (next.0, fin_of r ++ next.1)
 
--- a backup has the put; after the last the put ends
+-- a backup has the put; after the last backup the put ends
 abbrev pub acknowledged : ℕ → Request → Setup → Primary → Reaction Primary BackupMsg
 acknowledged from r setup p =
     if all_in (others setup) (joined from r.answers) then finished r setup p
@@ -133,7 +133,7 @@ acked from m (Some r) setup p =
     if is_other setup from && (m == p.store.progress.applied) then acknowledged from r setup p
     else (p, [])
 
--- the put goes to the backups that have not answered
+-- sends the put to the backups that have not answered
 abbrev pub spread : Request → Setup → Primary → List (Effect BackupMsg)
 spread r setup p = to_all (not_in (others setup) r.answers) (apply_of p.store)
 
@@ -166,7 +166,7 @@ react_primary setup p _ = (p, [])
 abbrev pub applied_by : ℕ → ℕ → ℕ → Store → Reaction Store BackupMsg
 applied_by m cell val store = let new = with_put m (cell % 16) val store in (new, saved new)
 
--- the next put is applied; an old one is acknowledged again, where it is stable
+-- applies the next put; acknowledges an old one again if it is stable
 abbrev pub told : ℕ → ℕ → ℕ → ℕ → Store → Reaction Store BackupMsg
 told from m cell val store =
     if m == store.progress.applied + 1 then applied_by m cell val store
@@ -189,13 +189,13 @@ react_backup store input.Synced = backup_synced store
 react_backup store (input.Message from (Apply cell m val)) = told from m cell val store
 react_backup store _ = (store, [])
 
--- A client: what it counts from 1 is the put that it waits for.
+-- A client: its counter is the number of the put that it waits for, from 1.
 
 abbrev pub client_puts : ℕ → ℕ → Reaction ℕ BackupMsg
 client_puts me next =
     (next, Effect.Send 0 (Put next (plus (times 1000 me) next)) ∷ Effect.Timer 200 ∷ [])
 
--- its put has ended; after the last it is done
+-- its put has ended; after the last one it is done
 abbrev pub client_answered : ℕ → ℕ → ℕ → Reaction ℕ BackupMsg
 client_answered me ops next =
     if next == ops then (raised next, Effect.Done ∷ []) else client_puts me (raised next)
@@ -229,7 +229,7 @@ react_as (role.Client next) i state =
 react_as (role.Primary p) i state = in_role role.Primary (react_primary state.setup p i) state
 react_as (role.Backup store) i state = in_role role.Backup (react_backup store i) state
 
--- probe 0 is `next` of a client, probe 1 is how many puts a server has applied
+-- probe 0 is `next` of a client, probe 1 the number of puts that a server has applied
 abbrev pub probe_as : Role → ℕ → ℕ
 probe_as (role.Client next) k = if k == 0 then next else 0
 probe_as (role.Primary p) k = if k == 1 then p.store.progress.applied else 0

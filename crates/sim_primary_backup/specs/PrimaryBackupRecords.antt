@@ -1,4 +1,4 @@
--- The records of primary-backup: what a role was before a reaction.
+-- The records of primary-backup: a role before a reaction.
 use Rattle.std.specs.Prelude.{ℕ, ◌<◌, List, Option, slice_set, IfSome}
 use Rattle.sim_node.specs.Node.{NodeRecords}
 use Rattle.sim_hosts.specs.Waiting.{restored, IsPlacedSlot}
@@ -32,7 +32,7 @@ IsPlaced hosts (role.Client next) = Unit {0}
 IsPlaced hosts (role.Primary p) = IsPlacedPrimary hosts p.store.progress p.current
 IsPlaced hosts (role.Backup store) = IsPlacedStore store.progress
 
--- a cell has its value again
+-- the cells with the changed one restored
 abbrev pub restored_cell : CellBefore → List ℕ → List ℕ
 restored_cell cell.Same cells = cells
 restored_cell (cell.Held place val) cells = slice_set cells place val
@@ -48,7 +48,7 @@ primary_before progress current changes p = record {
   waiting = restored changes.slot p.waiting;
 }
 
--- What has changed is one of the 16 cells, and what one of the 32 hosts waits with.
+-- A changed cell is one of the 16, and a changed slot that of one of the 32 hosts.
 abbrev pub IsPlacedCell : CellBefore → Type 0
 IsPlacedCell cell.Same = Unit {0}
 IsPlacedCell (cell.Held place val) = place < 16
@@ -56,7 +56,7 @@ IsPlacedCell (cell.Held place val) = place < 16
 abbrev pub IsPlacedChanges : Changes → Type 0
 IsPlacedChanges changes = IsPlacedCell changes.cell × IsPlacedSlot changes.slot
 
--- a record fits a host of its kind
+-- a record fits a host with the same role
 abbrev pub fits_role : ℕ → BackupUndo → Role → Type 0
 fits_role hosts (undo.Client next) (role.Client now) = Unit {0}
 fits_role hosts (undo.Primary progress current changes) (role.Primary p) =

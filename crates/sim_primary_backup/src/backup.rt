@@ -1,4 +1,4 @@
-//! The rows of a backup, which applies the puts of the primary in their order.
+//! The rows of a backup, which applies the puts of the primary in order.
 ghost use Rattle.std.specs.Prelude.{◌≡◌, ◌+◌, ◌<◌, []};
 ghost use Rattle.sim_node.specs.Node.{IsFrom};
 ghost use Rattle.sim_hosts.specs.Reactions.{asked_for};
@@ -10,7 +10,7 @@ use crate::{BackupMsg, CellBefore, Store};
 use sim_node::{Effects, Input, Setup};
 
 impl Store {
-    /// The primary tells of a put: the answer is what the cell held, where the put is applied.
+    /// Handles a put from the primary. If the put is applied, returns what the cell held.
     fn told(
         &mut self,
         from: u16,
@@ -38,7 +38,7 @@ impl Store {
         CellBefore::Same
     }
 
-    /// A sync has come: where it is settled, it acknowledges what it has applied.
+    /// Handles a sync. If the backup is settled, it acknowledges what it has applied.
     fn backup_synced(&mut self, setup: &Setup, effects: &mut Effects<BackupMsg>)
         requires hosts { 0 < setup.now.hosts }
         requires empty { effects.old ≡ asked_for setup.now [] }
@@ -50,7 +50,7 @@ impl Store {
         }
     }
 
-    /// A backup reacts to an input: the answer is what a cell held, where it has changed.
+    /// Reacts to an input as a backup. Returns what a cell held, if it has changed.
     pub fn react_as_backup(
         &mut self,
         setup: &Setup,

@@ -7,10 +7,10 @@ ghost use Rattle.sim_primary_backup.specs.PrimaryBackup.{react_client};
 use crate::BackupMsg;
 use sim_node::{Effects, Input, Setup};
 
-/// How long a client waits for the end of its put before it asks again, in milliseconds.
+/// How long a client waits for the end of its put before it sends it again (ms).
 const PATIENCE: u32 = 200;
 
-/// The client sends its put of this number, for which it then waits.
+/// Sends the client's put number `next`, and returns that number.
 fn put(setup: &Setup, me: u16, next: u64, effects: &mut Effects<BackupMsg>) -> u64
     requires hosts { 0 < setup.now.hosts }
     requires empty { effects.old ≡ asked_for setup.now [] }
@@ -23,7 +23,7 @@ fn put(setup: &Setup, me: u16, next: u64, effects: &mut Effects<BackupMsg>) -> u
     next
 }
 
-/// The put has ended.
+/// Handles the end of a put. Returns the number of the put that the client then waits for.
 fn answered(setup: &Setup, me: u16, ops: u64, next: u64, effects: &mut Effects<BackupMsg>) -> u64
     requires hosts { 0 < setup.now.hosts }
     requires empty { effects.old ≡ asked_for setup.now [] }
@@ -39,8 +39,8 @@ fn answered(setup: &Setup, me: u16, ops: u64, next: u64, effects: &mut Effects<B
     }
 }
 
-/// A client with this many operations, which waits for its put number `next`, reacts: the put that
-/// it waits for then.
+/// Reacts as a client with `ops` operations that waits for its put number `next`. Returns the
+/// number of the put that it then waits for.
 pub fn react(
     setup: &Setup,
     me: u16,

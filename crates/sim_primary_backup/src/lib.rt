@@ -7,8 +7,8 @@
 //!
 //! [`PrimaryBackup`] implements the trait `Node` of `sim_node` for every meter. So it is proved
 //! that the node does what its tables say (`specs/PrimaryBackup.antt`, a definition for each row)
-//! and that each reaction can be taken back. Agreement, durability and progress of the protocol are
-//! not proved; that is what the simulator is there to look at.
+//! and that each reaction can be undone. Agreement, durability and progress of the protocol are not
+//! proved; the simulator is there to examine them.
 //!
 //! Where to find what: `roles.rt` has the messages, the roles, the state and the records;
 //! `client.rt`, `primary.rt`, `backup.rt` and `store.rt` have the rows; `node.rt` is the node.
@@ -17,11 +17,11 @@
 //!
 //! - The record of a reaction ([`BackupUndo`]) keeps what that reaction can change: the progress,
 //!   the current put, one cell and one waiting host. It is plain data of fixed size.
-//! - The primary lies in a box, so that a client or a backup does not carry its table of waiting
+//! - The primary is in a box, so that a client or a backup does not carry its table of waiting
 //!   hosts. `sim_hosts::Boxed` is a type whose value is what the box holds, so that definitions see
 //!   no box.
 //! - The hosts in a state (whose put it is, who waits) are below the number of hosts by the node's
-//!   invariant, because `send` asks for it.
+//!   invariant, because `send` requires it.
 #![tactic(auto)]
 
 mod backup;

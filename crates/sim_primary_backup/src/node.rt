@@ -1,4 +1,4 @@
-//! A host of primary-backup as a node, and how its reactions are taken back.
+//! A host of primary-backup as a node, and how its reactions are undone.
 use crate::{BackupMsg, BackupUndo, Primary, Role, State, Store, client};
 use sim_hosts::Boxed;
 use sim_node::{Effects, Input, Meter, NoMemory, Node, Setup};
@@ -27,7 +27,7 @@ impl<T> Model for PrimaryBackup<T> {
         × IsPlaced node.state.setup.hosts node.state.role };
 }
 
-/// Shows what the host is. Its setup and its number never change, and are left out.
+/// Shows the role of the host, without its setup and its number, which never change.
 impl<T> fmt::Debug for PrimaryBackup<T> {
     fn fmt<W: fmt::Write>(&self, f: &mut fmt::Formatter<W>) -> fmt::Result {
         fmt::Debug::fmt(&self.state.role, f)

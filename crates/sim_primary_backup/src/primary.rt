@@ -1,4 +1,4 @@
-//! The rows of the primary, which begins puts, spreads them and tells their clients.
+//! The rows of the primary, which begins puts, sends them to the backups and answers their clients.
 ghost use Rattle.std.specs.Prelude.{ℕ, List, Option, ◌≡◌, ◌+◌, ◌<◌, ◌≤◌, ◌++◌, [], length, Some};
 ghost use Rattle.std.specs.Prelude.{IfSome, slice_set};
 ghost use Rattle.sim_node.specs.Node.{IsSetup, IsFrom};
@@ -20,17 +20,17 @@ use sim_hosts::{
 };
 use sim_node::{Effects, Input, Setup};
 
-/// How long the primary waits for the backups before it sends again, in milliseconds.
+/// How long the primary waits for the backups before it sends again (ms).
 const PATIENCE: u32 = 100;
 
-/// Nothing has changed.
+/// A reaction that changed no cell and no slot.
 const UNCHANGED: Changes = Changes {
     cell: CellBefore::Same,
     slot: SlotBefore::Same,
 };
 
 impl Request {
-    /// Whether the put is that of another host.
+    /// Returns whether the put is not this host's.
     fn is_of_another(&self, host: u16) -> bool
         ensures { result ≡ is_of_another host self.now }
     {
@@ -40,7 +40,7 @@ impl Request {
         }
     }
 
-    /// Tells its client, if it is somebody's, that it has ended.
+    /// Sends the put's client, if it has one, the answer that the put has ended.
     fn tell(&self, setup: &Setup, effects: &mut Effects<BackupMsg>)
         requires client { IfSome self.now.client (λ client. client < setup.now.hosts) }
         requires empty { effects.old ≡ asked_for setup.now [] }
@@ -53,7 +53,7 @@ impl Request {
 }
 
 impl Primary {
-    /// The primary that starts from these bytes of its disk.
+    /// Returns the primary that boots from these bytes of its disk.
     pub fn at_boot(disk: &[u8]) -> Primary
         ensures state { result ≡ primary_at_boot disk.now }
         ensures placed { (hosts : ℕ) → IsPlacedPrimary hosts result.store.progress result.current }
@@ -65,7 +65,7 @@ impl Primary {
         }
     }
 
-    /// It starts: where it has applied a put, it spreads the last again.
+    /// Handles the start: if a put was applied, sends the last one to the backups again.
     fn start(&mut self, setup: &Setup, effects: &mut Effects<BackupMsg>)
         requires setup { IsSetup setup.now }
         requires placed { IsPlacedPrimary setup.now.hosts self.old.store.progress self.old.current }
@@ -85,7 +85,7 @@ impl Primary {
         }
     }
 
-    /// Begins a put of a client: the answer is what the cell held.
+    /// Begins a client's put. Returns what the cell held.
     fn begin(
         &mut self,
         client: u16,
@@ -116,7 +116,7 @@ impl Primary {
         before
     }
 
-    /// A host waits with this from now on; the answer is what it waited with.
+    /// Sets what a host waits with. Returns what it waited with before.
     fn put_waiter(&mut self, host: u16, waiter: Option<Waiter>) -> SlotBefore<Waiter>
         requires { host < 32 }
         ensures state { self.new ≡ record self.old {
@@ -128,7 +128,7 @@ impl Primary {
         wait_with(&mut self.waiting, host, waiter)
     }
 
-    /// Begins the put of the lowest host that waits, or rests.
+    /// Begins the put of the lowest waiting host, or rests if none waits.
     fn begin_lowest(&mut self, setup: &Setup, effects: &mut Effects<BackupMsg>) -> Changes
         requires setup { IsSetup setup.now }
         requires placed { IsPlacedPrimary setup.now.hosts self.old.store.progress self.old.current }
@@ -155,7 +155,7 @@ impl Primary {
         }
     }
 
-    /// A host asks for a put.
+    /// Handles a put that a host asks for.
     fn put_by(
         &mut self,
         from: u16,
@@ -192,7 +192,7 @@ impl Primary {
         }
     }
 
-    /// A backup has the current put.
+    /// Notes that a backup has the current put.
     fn acknowledge(
         &mut self,
         from: u16,
@@ -222,7 +222,7 @@ impl Primary {
         UNCHANGED
     }
 
-    /// A host says that it has put number m.
+    /// Handles an acknowledgement of put number `m`.
     fn acked(
         &mut self,
         from: u16,
@@ -263,7 +263,7 @@ impl Primary {
         send_to_missing(1, setup, current.answers, put, effects);
     }
 
-    /// The timer.
+    /// Handles the timer.
     fn timed_out(&self, setup: &Setup, effects: &mut Effects<BackupMsg>)
         requires setup { IsSetup setup.now }
         requires placed { IsPlacedPrimary setup.now.hosts self.now.store.progress self.now.current }
@@ -279,7 +279,7 @@ impl Primary {
         }
     }
 
-    /// A sync has come: where it is settled, it spreads its put.
+    /// Handles a sync. If the primary is settled, it sends its put to the backups.
     fn synced(&mut self, setup: &Setup, effects: &mut Effects<BackupMsg>)
         requires setup { IsSetup setup.now }
         requires placed { IsPlacedPrimary setup.now.hosts self.old.store.progress self.old.current }
@@ -297,8 +297,8 @@ impl Primary {
         }
     }
 
-    /// It reacts to an input: the answer is what a cell held and what a host waited with, where
-    /// that has changed.
+    /// Reacts to an input. Returns what a cell held and what a host waited with, if these have
+    /// changed.
     pub fn react(
         &mut self,
         setup: &Setup,
@@ -337,7 +337,7 @@ impl Primary {
         changes
     }
 
-    /// Takes a reaction back.
+    /// Undoes a reaction.
     pub fn take_back(&mut self, progress: Progress, current: Option<Request>, changes: Changes)
         requires { IsPlacedChanges changes }
         ensures { self.new ≡ primary_before progress current changes self.old }

@@ -2,44 +2,43 @@
 use sim_hosts::{Boxed, HostSet, SlotBefore};
 use sim_node::Setup;
 
-/// A message. A put of a client is counted from 1 by the client, and by the primary when it applies
-/// it.
+/// A message. A client counts its puts from 1; the primary counts all puts as it applies them.
 #[derive(Clone, Copy, Debug, PartialEq, Eq)]
 pub enum BackupMsg {
     /// A client asks to put this value into a cell, as its put of this number.
     Put(u64, u64),
-    /// The primary asks to apply to this cell put number n: the value. The cell stands first,
-    /// beside the tag, to save bytes.
+    /// The primary sends a put to the backups: the cell, its number, the value. The cell comes
+    /// first, next to the tag, to save bytes.
     Apply(u8, u64, u64),
     /// A backup has applied all puts up to this one, and they are stable.
     Ack(u64),
-    /// The put of the client of this number has ended.
+    /// The client's put of this number has ended.
     Fin(u64),
 }
 
-/// How far a server has come.
+/// The progress of a server.
 #[derive(Clone, Copy, Debug, PartialEq, Eq)]
 pub struct Progress {
-    /// How many puts it has applied.
+    /// The number of puts that it has applied.
     pub applied: u64,
-    /// The cell of the last.
+    /// The cell of the last put.
     pub last: u8,
-    /// How many syncs it waits for.
+    /// The number of syncs that it waits for.
     pub unsure: u64,
 }
 
-/// What a server keeps.
+/// The cells and the progress of a server.
 #[derive(Clone, Copy, Debug, PartialEq, Eq)]
 pub struct Store {
     pub cells: [u64; 16],
     pub progress: Progress,
 }
 
-/// The put that the primary spreads. It is nobody's after a restart.
+/// The put that the primary sends to the backups. After a restart it has no client.
 #[derive(Clone, Copy, Debug, PartialEq, Eq)]
 pub struct Request {
     pub client: Option<u16>,
-    /// The backups that have it.
+    /// The backups that have the put.
     pub answers: HostSet,
     pub number: u64,
 }
@@ -51,7 +50,7 @@ pub struct Waiter {
     pub val: u64,
 }
 
-/// The primary: what it keeps, the put that it spreads, and with which put each host waits.
+/// The primary: its store, its current put, and the put that each host waits with.
 #[derive(Clone, Copy, Debug)]
 pub struct Primary {
     pub store: Store,
@@ -59,10 +58,10 @@ pub struct Primary {
     pub waiting: [Option<Waiter>; 32],
 }
 
-/// What a host is.
+/// The role of a host.
 #[derive(Debug, Drop)]
 pub enum Role {
-    /// A client waits for the end of this put, counted from 1.
+    /// A client waits for the end of its put of this number, from 1.
     Client { next: u64 },
     Primary(Boxed<Primary>),
     Backup(Store),
@@ -76,36 +75,36 @@ pub struct State {
     pub role: Role,
 }
 
-/// What a cell held before a reaction.
+/// The value of a cell before a reaction.
 #[derive(Clone, Copy, Debug, PartialEq, Eq)]
 pub enum CellBefore {
-    /// The same: the reaction has changed no cell.
+    /// The reaction changed no cell.
     Same,
-    /// This cell held this value.
+    /// This cell had this value.
     Held(u8, u64),
 }
 
-/// What a cell held and what a host waited with before a reaction of the primary.
+/// The cell and the slot that a reaction of the primary changed, as they were before.
 #[derive(Clone, Copy, Debug, PartialEq, Eq)]
 pub struct Changes {
     pub cell: CellBefore,
     pub slot: SlotBefore<Waiter>,
 }
 
-/// The record of a reaction: what the host was before it, as far as that may have changed.
+/// The record of a reaction: the parts of the state before it that may have changed.
 #[derive(Clone, Copy, Debug, PartialEq, Eq)]
 pub enum BackupUndo {
-    /// A client waited for the end of this put.
+    /// A client that waited for the end of this put.
     Client {
         next: u64,
     },
-    /// The primary had come so far, and spread this put.
+    /// A primary with this progress and this put.
     Primary {
         progress: Progress,
         current: Option<Request>,
         changes: Changes,
     },
-    /// A backup had come so far, and a cell held this.
+    /// A backup with this progress, and a cell that it changed.
     Backup {
         progress: Progress,
         cell: CellBefore,

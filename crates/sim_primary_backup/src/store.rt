@@ -1,4 +1,4 @@
-//! The cells of a server, how far it has come, and both on its disk.
+//! The cells and the progress of a server, and both on its disk.
 ghost use Rattle.std.specs.Prelude.{◌≡◌, ◌+◌, ◌<◌, ◌++◌, [], ◌∷◌, length, slice_index};
 ghost use Rattle.sim_hosts.specs.Bytes.{bytes_of};
 ghost use Rattle.sim_hosts.specs.Numbers.{is_settled};
@@ -12,7 +12,7 @@ use crate::{BackupMsg, CellBefore, Progress, Store};
 use sim_hosts::{byte_at, number_at, put_number};
 use sim_node::Effects;
 
-/// The cells that a disk holds.
+/// Reads the cells from a disk.
 fn cells_on(disk: &[u8]) -> [u64; 16]
     ensures { result ≡ cells_on disk.now }
 {
@@ -37,7 +37,7 @@ fn cells_on(disk: &[u8]) -> [u64; 16]
 }
 
 impl Progress {
-    /// Its 9 bytes: how many puts are applied, and the last cell.
+    /// Returns 9 bytes: the number of puts applied, and the last cell.
     fn bytes(&self) -> [u8; 9]
         ensures { result ≡ bytes_of self.now.applied ++ self.now.last ∷ [] }
     {
@@ -49,7 +49,7 @@ impl Progress {
 }
 
 impl Store {
-    /// What a disk holds.
+    /// Reads the store from a disk.
     pub fn on(disk: &[u8]) -> Store
         ensures store { result ≡ store_on disk.now }
         ensures placed { IsPlacedStore result.progress }
@@ -64,7 +64,7 @@ impl Store {
         }
     }
 
-    /// Puts a value into a cell, as put number n; the answer is what the cell held.
+    /// Puts a value into a cell, as put number `n`. Returns what the cell held.
     fn put(&mut self, n: u64, place: u8, val: u64) -> CellBefore
         requires { place < 16 }
         ensures state { self.new ≡ with_put n place val self.old }
@@ -95,7 +95,7 @@ impl Store {
         effects.sync();
     }
 
-    /// Puts a value into a cell, and writes that to the disk; the answer is what the cell held.
+    /// Puts a value into a cell, and writes it to the disk. Returns what the cell held.
     pub fn apply(
         &mut self,
         n: u64,
@@ -119,7 +119,7 @@ impl Store {
         before
     }
 
-    /// The last put, for the backups.
+    /// Returns the message that gives the last put to the backups.
     pub fn last_put(&self) -> BackupMsg
         requires { IsPlacedStore self.now.progress }
         ensures { result ≡ apply_of self.now }
@@ -132,7 +132,7 @@ impl Store {
         )
     }
 
-    /// A sync has come. The answer is whether it is settled.
+    /// Counts a sync. Returns whether the store is settled.
     pub fn synced(&mut self) -> bool
         ensures state { self.new ≡ after_sync self.old }
         ensures settled { result ≡ is_settled self.new.progress.unsure }
@@ -141,7 +141,7 @@ impl Store {
         self.progress.unsure == 0
     }
 
-    /// Takes a reaction back.
+    /// Undoes a reaction.
     pub fn take_back(&mut self, progress: Progress, cell: CellBefore)
         requires { IsPlacedCell cell }
         ensures { self.new ≡ store_before progress cell self.old }

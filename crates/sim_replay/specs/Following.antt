@@ -1,4 +1,4 @@
--- What a script leaves of which the answers are not told.
+-- What a script leaves when its answers are not written.
 use Rattle.std.specs.Prelude.{◌≡◌, ◌++◌, ◌-◌, ◌^◌, ℕ, Bool, true, List, Option, Some, Result, Ok}
 use Rattle.std.specs.Prelude.{Err, ⊤, length, min}
 use Rattle.std.specs.Str.Lines.{lines}
@@ -29,7 +29,7 @@ abbrev pub StopsScript : ScriptStop → Type 0
 StopsScript (whole.Ended ended) = Stops ended
 StopsScript (whole.Fault fault) = ⊤
 
--- a line with this number, of which this text is kept, ends its script
+-- a line with this number ends its script; `text` is what is kept of it
 abbrev pub StopsAt : LineStop → ℕ → Text → ScriptStop → Type 0
 StopsAt (line.Fault why) number text (whole.Fault f) =
     (f.number ≡ number) × (f.text.items ≡ text) × (f.why ≡ why)
@@ -38,7 +38,8 @@ StopsAt line.MemoryWanted number text (whole.Fault f) = ⊥
 StopsAt line.MemoryWanted number text (whole.Ended ended) = ended ≡ status.MemoryWanted
 
 module _ {State Msg : Type 0} (r : Rules State Msg) (names : Names) (strict : Bool) where
-  -- What following a line leaves, and that it is not at fault where that is asked; or that it is.
+  -- The course after a line, which is not at fault if the script is strict; or why the line is at
+  -- fault.
   abbrev pub FollowsLine : {T : Type 0} → Course → Course → ScriptLine → Result T LineStop → Type 0
   FollowsLine old new asked (Ok _) = (new ≡ plain_next r names old asked)
       × (strict ≡ true → is_well r names old asked ≡ true)
@@ -46,16 +47,16 @@ module _ {State Msg : Type 0} (r : Rules State Msg) (names : Names) (strict : Bo
       (strict ≡ true) × Explains r names old asked why
   FollowsLine old new asked (Err line.MemoryWanted) = ⊤
 
-  -- What following the lines of a script leaves, and that none is at fault where that is asked; or
-  -- the first that is.
+  -- The course after the lines of a script, none of which is at fault if the script is strict; or
+  -- the first line at fault.
   abbrev pub Follows : {T : Type 0} → Course → Course → List Text → Result T ScriptStop → Type 0
   Follows old new ls (Ok _) = (new ≡ end_from r names old ls)
       × (strict ≡ true → are_well r names old ls ≡ true)
   Follows old new ls (Err (whole.Fault f)) = (strict ≡ true) × IsFirstFault r names old ls f
   Follows old new ls (Err (whole.Ended ended)) = ⊤
 
--- The lines of a script up to here were followed from one course to another, and so many were
--- counted. None is at fault where that is asked, and the rest of the script is left to be read.
+-- The lines of a script up to here lead from one course to another, and were counted. None is at
+-- fault if the script is strict. The rest of the script is still to be read.
 pub record Followed {State Msg : Type 0} (r : Rules State Msg) (names : Names) (strict : Bool)
     (start : Course) (script : Text)
     (here : Course) (left : Option Text) (number : ℕ) : Type 0 where

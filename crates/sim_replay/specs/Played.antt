@@ -16,16 +16,17 @@ module _ {State Msg : Type 0} (r : Rules State Msg) where
   abbrev pub first_events : Names → Text → List Event
   first_events names script = (branch 0 (end_from r names beginning (lines script)).branches).events
 
-  -- the events that begin each planned run: those that the script leaves, if it is asked for
+  -- the events that begin each planned run: those that the script leaves if `with_script`, else
+  -- none
   abbrev pub given_events : Bool → Names → Text → List Event
   given_events with_script names script = if with_script then first_events names script else []
 
-  -- no line of a script is at fault, where that is asked
+  -- no line of a script is at fault, if the script is strict
   abbrev pub IsWellIf : Bool → Names → Text → Type 0
   IsWellIf strict names script =
       strict ≡ true → are_well r names beginning (lines script) ≡ true
 
-  -- where that is asked, this line is the first at fault, or nothing is told of the script's lines
+  -- in a strict script this line is the first at fault, or the run ended for another reason
   abbrev pub IsFault : Bool → Names → Text → ScriptStop → Type 0
   IsFault strict names script (Ended ended) = ⊤
   IsFault strict names script (Fault fault) =

@@ -1,4 +1,4 @@
-//! A script is carried out, and its answers are not written.
+//! Carries out a script without writing its answers.
 ghost use Rattle.std.specs.Prelude.{◌≡◌, ◌<◌, ℕ, List, Some, IfErr, length};
 ghost use Rattle.std.specs.Io.KnownBytes.{prepend_known};
 ghost use Rattle.std.specs.Str.Lines.{lines};

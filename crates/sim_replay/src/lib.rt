@@ -1,13 +1,13 @@
-//! Carries out a script whose answers nobody reads, and gives the run that it leaves.
+//! Carries out a script whose answers nobody reads, and returns the run that it leaves.
 //!
 //! - [`follow`] carries out the commands of a script on a book and writes nothing.
-//! - [`played`] does it on a new book, and gives all kept events of its first branch.
-//! - [`given_events`] gives these events as a list if they are asked for, and else none.
+//! - [`played`] does it on a new book, and returns all kept events of its first branch.
+//! - [`given_events`] returns these events as a list, or no events if no script is to be played.
 //!
-//! What it leaves is the course that the definitions of a play give for the script's lines
-//! (`end_from` in `sim_cli`). Commands that are refused and lines that are no command are skipped,
-//! as a play skips them. Strictly, the first of them ends the script with an error, a
-//! [`ScriptStop`] that has the line, its number and why it is at fault.
+//! The result is the course that the definitions of a play give for the script's lines (`end_from`
+//! in `sim_cli`). Commands that are refused and lines that are no command are skipped, as a play
+//! skips them. Strictly, the first of them ends the script with an error, a [`ScriptStop`] that has
+//! the line, its number and why it is at fault.
 //!
 //! Why it is built this way: if a command wants memory, the script ends with an error. With the
 //! loop of a play and a writer that drops its text, a search would go on over a run that the script

@@ -21,8 +21,8 @@ use sim_world::{Event, Scenario};
 use std::alloc::Global;
 use std::io::Read;
 
-/// All kept events of the first branch, once a script was carried out. Strictly, no line of the
-/// script may be at fault.
+/// Carries out a script, and returns all kept events of the first branch. Strictly, fails if a line
+/// of the script is at fault.
 pub fn played<N: Node<Meter = Tally>, R: Read>(
     alloc: Global,
     scenario: &Scenario,
@@ -53,7 +53,7 @@ pub fn played<N: Node<Meter = Tally>, R: Read>(
     }
 }
 
-// All kept events of the first branch.
+// Returns all kept events of the first branch.
 fn first_run<N: Node>(alloc: Global, book: &Book<N>) -> Result<Frozen<N>, Status>
     requires { 0 < length book.now.kept }
     ensures run { IfOk result (λ f. (f.scenario ≡ book.now.scenario)
@@ -66,7 +66,7 @@ fn first_run<N: Node>(alloc: Global, book: &Book<N>) -> Result<Frozen<N>, Status
     }
 }
 
-// The events of a list. The only error is want of memory.
+// Copies an event list to a vector. Fails only for want of memory.
 fn listed(alloc: Global, list: &EventList) -> Result<Vec<Event>, NoMemory>
     ensures { IfOk result (λ v. v.items ≡ list.now) }
 {
@@ -79,8 +79,9 @@ fn listed(alloc: Global, list: &EventList) -> Result<Vec<Event>, NoMemory>
     Ok(events)
 }
 
-/// The events that begin each run of a sweep: those that the script leaves if it is asked for, and
-/// else none. Without a script nothing is read. Strictly, no line of the script may be at fault.
+/// Returns the events that begin each run of a sweep: those that the script leaves if
+/// `with_script`, and else none. Reads nothing without a script. Strictly, fails if a line of the
+/// script is at fault.
 pub fn given_events<N: Node<Meter = Tally>, R: Read>(
     alloc: Global,
     opened: &Opened,

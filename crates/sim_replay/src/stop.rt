@@ -1,4 +1,4 @@
-//! Why a script is not carried out to its end.
+//! Why a script ends early.
 ghost use Rattle.sim_replay.specs.Following.{StopsAt};
 
 use crate::Status;
@@ -11,17 +11,17 @@ pub(crate) enum LineStop {
     MemoryWanted,
 }
 
-/// Why a script was not carried out to its end.
+/// Why a script ends early.
 #[derive(Debug, Drop)]
 pub enum ScriptStop {
     /// The reader failed, or memory was wanted.
     Ended(Status),
-    /// This line is the first that is at fault, in a script that is carried out strictly.
+    /// This line is the first at fault, in a strict script.
     Fault(ScriptFault),
 }
 
 impl LineStop {
-    /// The end of the script at the line with this number and text.
+    /// Returns the end of the script at the line with this number and text.
     pub(crate) fn at(self, number: u64, text: Vec<u8>) -> ScriptStop
         ensures { StopsAt self number text.items result }
     {

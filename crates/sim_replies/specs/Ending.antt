@@ -1,8 +1,8 @@
--- The end of a line, which grows to the front.
+-- The end of a line, to which text is added at the front.
 use Rattle.std.specs.Prelude.{ℕ}
 use Rattle.sim_script.specs.Words.{Text}
 
 pub record Ending : Type 0 where
   pub text : Text
-  -- how many bytes may still stand before the text
+  -- the number of bytes that may still be added before the text
   pub room : ℕ

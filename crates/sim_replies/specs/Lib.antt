@@ -1,4 +1,4 @@
--- The lines that tell replies.
+-- The lines that answer turns.
 pub mod Spacing
 pub mod Ending
 pub mod Trace

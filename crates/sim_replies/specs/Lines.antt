@@ -1,4 +1,4 @@
--- The lines that tell replies. Places, clocks (ms) and numbers are written in decimal digits.
+-- The lines that answer turns. Places, clocks (ms) and numbers are in decimal digits.
 use Rattle.std.specs.Prelude.{ℕ, Bool, true, false, codes, List, [], ◌∷◌, Option, Some, None}
 use Rattle.std.specs.Prelude.{Result, Ok, Err}
 use Rattle.std.specs.Fmt.{decimal}
@@ -38,7 +38,7 @@ refusal_words refusal.UnknownWatch = codes "10 UnknownWatch"
 refusal_words refusal.BadCondition = codes "11 BadCondition"
 refusal_words refusal.NoMemory = codes "12 NoMemory"
 
--- what follows the place and the clock, by the stop
+-- the words after the place and the clock, by the stop
 abbrev pub stop_words : Stop → List Text
 stop_words stop.Asked = []
 stop_words stop.AllDone = codes "all done" ∷ []
@@ -85,7 +85,7 @@ module _ (names : Names) where
       (field (codes "due") x.due ∷ field (codes "serial") x.serial ∷ codes "host"
       ∷ host_name names x.host ∷ kind_word x.kind ∷ [])
 
-  -- what is seen at a place
+  -- the words of a view at a place
   abbrev pub view_words : ℕ → View → Text
   view_words place (view.Summary clock serial net torn pending held) = spaced
       (field (codes "place") place ∷ field (codes "clock") clock ∷ field (codes "serial") serial
@@ -116,6 +116,6 @@ module _ (names : Names) where
   turn_words (Ok e) = reply_words (branch_of e.command) e.reply
   turn_words (Err why) = not_taken_words why
 
-  -- the line that tells a turn
+  -- the line that answers a turn
   abbrev pub turn_line : Result Entry NotTaken → Text
   turn_line turn = line (turn_words turn)

@@ -1,4 +1,4 @@
--- How words stand in a line.
+-- How words are joined to a line.
 use Rattle.std.specs.Prelude.{ℕ, codes, List, [], ◌∷◌, ◌++◌}
 use Rattle.std.specs.Fmt.{decimal}
 use Rattle.sim_script.specs.Words.{Text}

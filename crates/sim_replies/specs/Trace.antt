@@ -1,5 +1,4 @@
--- The words that tell a branch's kept events: compact JSON with the keys `branch` and `events`, in
--- this order.
+-- The kept events of a branch: compact JSON with the keys `branch` and `events`, in this order.
 use Rattle.std.specs.Prelude.{ℕ, codes, List, [], ◌∷◌, map}
 use Rattle.serde_json.specs.Data.{Data, array, number, string, object, member, no_members, unsigned}
 use Rattle.serde_json.specs.View.{items_of}

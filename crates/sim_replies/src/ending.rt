@@ -1,14 +1,14 @@
-//! Text that is written from its end to its front, as the digits of a number are found.
+//! A text that is written from its end to its front, since digits are computed from the last on.
 ghost use Rattle.std.specs.Prelude.{◌≡◌, ◌+◌, ◌≤◌, ◌++◌, length, decimal};
 
 use itoa::write_digits;
 use std::marker::Model;
 use std::str;
 
-/// How many bytes a text may have: seven numbers of up to 20 digits, and their words.
+/// The greatest length of the text (bytes): seven numbers of up to 20 digits, and their words.
 const ROOM: usize = 192;
 
-/// The end of a line, before which words and numbers are put.
+/// The end of a line. Words and numbers are put before it.
 #[derive(Drop)]
 pub struct Ending {
     bytes: [u8; ROOM],
@@ -27,7 +27,7 @@ impl Model for Ending {
 }
 
 impl Ending {
-    /// These words.
+    /// Makes an end of these words.
     #[inline(always)]
     pub fn of(words: &str) -> Ending
         requires { length words.now ≤ 192 }
@@ -73,7 +73,7 @@ impl Ending {
         self.put(words);
     }
 
-    /// The text.
+    /// Returns the text.
     #[inline(always)]
     pub fn as_str(&self) -> &str
         ensures { result.now ≡ self.now.text }

@@ -9,7 +9,7 @@ use sim_world::{Event, Fault};
 use std::alloc::{AllocError, Global};
 use std::fmt;
 
-/// An event, with the names of the hosts.
+/// Shows an event, with the names of the hosts.
 #[derive(Clone, Copy)]
 struct ShownEvent<'a> {
     names: &'a Names,
@@ -34,7 +34,7 @@ impl fmt::Display for ShownEvent<'_> {
     }
 }
 
-/// A fault, with the names of the hosts.
+/// Shows a fault, with the names of the hosts.
 #[derive(Clone, Copy)]
 struct ShownFault<'a> {
     names: &'a Names,
@@ -67,7 +67,7 @@ impl fmt::Display for ShownFault<'_> {
     }
 }
 
-/// An event as a JSON string.
+/// Returns an event as a JSON string.
 pub fn event_value(alloc: Global, names: &Names, event: Event) -> Result<Value, AllocError>
     ensures { IfOk result (λ v. view v ≡ value_of names.now event) }
 {

@@ -1,4 +1,4 @@
-//! The lines that tell replies.
+//! The lines that answer turns.
 ghost use Rattle.std.specs.Prelude.{◌≡◌, ℕ, ◌+◌, ◌≤◌, List, ◌∷◌, ◌++◌, OnOk, string_bytes};
 ghost use Rattle.sim_replies.specs.Lines.{line, move_words, reply_words, spaced, stop_words};
 ghost use Rattle.sim_replies.specs.Lines.{turn_line};
@@ -11,7 +11,7 @@ use sim_book::{Entry, NotTaken, Reply, Stop};
 use sim_script::Names;
 use std::alloc::{AllocError, Global};
 
-/// Puts, before the end of a line, why a branch stopped.
+/// Puts the reason why a branch stopped before the end of a line.
 fn put_stop(end: &mut Ending, stop: Stop)
     requires { 40 ≤ end.old.room }
     ensures text { (word : List ℕ) → word ++ end.new.text ≡ spaced (word ∷ stop_words stop)
@@ -28,8 +28,8 @@ fn put_stop(end: &mut Ending, stop: Stop)
     }
 }
 
-/// Puts, before the end of a line, the place and the clock after a command, and why it stopped
-/// there.
+/// Puts the place and the clock after a command, and why it stopped there, before the end of a
+/// line.
 fn put_move(end: &mut Ending, place: u32, clock: u64, stop: Stop)
     requires { 100 ≤ end.old.room }
     ensures { end.new.text ≡ move_words place clock stop ++ end.old.text }
@@ -39,7 +39,7 @@ fn put_move(end: &mut Ending, place: u32, clock: u64, stop: Stop)
     end.put_field("place ", u64::from(place));
 }
 
-/// Adds the line of a reply to a command on a branch.
+/// Adds the line that answers a command on a branch.
 fn tell_reply(
     alloc: Global,
     text: &mut String,
@@ -65,9 +65,9 @@ fn tell_reply(
     text.push_str(end.as_str())
 }
 
-/// Writes the line that tells a turn in place of the text. Memory is taken where the text has no
-/// room for the line, and for the line of a branch's kept events; where it is refused, nothing is
-/// said of the text.
+/// Writes the line that answers a turn, in place of `text`. Takes memory only if `text` has too
+/// little room for the line, and for the line of a branch's kept events. If memory is refused, the
+/// content of `text` is unspecified.
 pub fn tell_turn(
     alloc: Global,
     text: &mut String,

@@ -8,7 +8,7 @@ use sim_book::{Command, NotTaken, Refusal};
 use sim_links::LinkState;
 use sim_world::Kind;
 
-/// The branch that a command speaks of.
+/// Returns the branch that a command names.
 pub fn branch_of(command: &Command) -> u32
     ensures { result ≡ number_of command.now }
 {
@@ -30,7 +30,7 @@ pub fn branch_of(command: &Command) -> u32
     }
 }
 
-/// A refusal's number and name.
+/// Returns the number and name of a refusal.
 pub fn refusal_name(refusal: Refusal) -> &'static str
     ensures { result.now ≡ refusal_words refusal }
 {
@@ -50,7 +50,7 @@ pub fn refusal_name(refusal: Refusal) -> &'static str
     }
 }
 
-/// Why a command was not taken.
+/// Returns why a command was not taken, in words.
 pub fn not_taken_name(why: NotTaken) -> &'static str
     ensures { result.now ≡ not_taken_words why }
 {
@@ -60,7 +60,7 @@ pub fn not_taken_name(why: NotTaken) -> &'static str
     }
 }
 
-/// The word of a link's state.
+/// Returns the word of a link's state.
 pub fn state_name(state: LinkState) -> &'static str
     ensures { result.now ≡ state_word state }
 {
@@ -71,7 +71,7 @@ pub fn state_name(state: LinkState) -> &'static str
     }
 }
 
-/// The word of an occurrence's kind.
+/// Returns the word of an occurrence's kind.
 pub fn kind_name(kind: Kind) -> &'static str
     ensures { result.now ≡ kind_word kind }
 {

@@ -10,7 +10,7 @@ use sim_script::Names;
 use sim_tape::EventList;
 use std::alloc::{AllocError, Global};
 
-/// The events as JSON strings, in their order.
+/// Returns the events as JSON strings, in order.
 fn event_values(alloc: Global, names: &Names, events: &EventList) -> Result<Vec<Value>, AllocError>
     ensures { IfOk result (λ v. map view v.items ≡ map (value_of names.now) events.now) }
 {
@@ -23,7 +23,7 @@ fn event_values(alloc: Global, names: &Names, events: &EventList) -> Result<Vec<
     Ok(values)
 }
 
-/// The kept events of a branch as one JSON value.
+/// Returns the kept events of a branch as one JSON value.
 fn trace_value(
     alloc: Global,
     names: &Names,
@@ -36,7 +36,7 @@ fn trace_value(
     json!(in alloc; {"branch": branch, "events": values})
 }
 
-/// Adds the words that tell the kept events of a branch to the text.
+/// Adds the kept events of a branch to the text, as JSON.
 #[tactic(auto, unfolding(crate::specs::Trace::trace_words))]
 pub fn tell_trace(
     alloc: Global,

@@ -1,4 +1,4 @@
-//! What is seen at a place, in words.
+//! A view of a place, in words.
 ghost use Rattle.std.specs.Prelude.{◌≡◌, ℕ, ◌+◌, ◌≤◌, List, [], ◌∷◌, ◌++◌, codes, OnOk};
 ghost use Rattle.std.specs.Prelude.{string_bytes};
 ghost use Rattle.sim_replies.specs.Lines.{field, next_words, spaced, up_word, value_word};
@@ -10,8 +10,8 @@ use sim_script::Names;
 use sim_world::{Coming, View};
 use std::alloc::AllocError;
 
-/// Tells the first pending occurrence, or none: names are added to the text, and what follows them
-/// is put before the end.
+/// Writes the first pending occurrence, or that there is none: adds names to `text`, and puts the
+/// words after them before `end`.
 fn tell_next(
     text: &mut String,
     end: &mut Ending,
@@ -39,7 +39,7 @@ fn tell_next(
     }
 }
 
-/// Puts, before the end, the value of a probe, or that its host is down.
+/// Puts the value of a probe before the end, or that its host is down.
 fn put_value(end: &mut Ending, value: Option<u64>)
     requires { 20 ≤ end.old.room }
     ensures text { end.new.text ≡ value_word value ++ end.old.text }
@@ -51,7 +51,7 @@ fn put_value(end: &mut Ending, value: Option<u64>)
     }
 }
 
-/// Puts, before the end, the place and what is counted there.
+/// Puts the place and its counts before the end.
 fn put_summary(
     end: &mut Ending,
     place: u32,
@@ -77,7 +77,7 @@ fn put_summary(
     end.put_field("place ", u64::from(place));
 }
 
-/// Puts, before the end, what is seen of a host: all that follows its name.
+/// Puts the view of a host before the end, without its name.
 fn put_host(end: &mut Ending, up: bool, done: bool, draws: u64, stable: u32, unsynced: u32)
     requires { 191 ≤ end.old.room }
     ensures { (name : List ℕ) → name ++ end.new.text ≡ spaced
@@ -103,8 +103,7 @@ fn add_names(text: &mut String, first: &str, second: &str) -> Result<(), AllocEr
     text.push_str(second)
 }
 
-/// Tells what is seen at a place: names are added to the text, and what follows them is put before
-/// the end.
+/// Writes the view of a place: adds names to `text`, and puts the words after them before `end`.
 pub fn tell_view(
     text: &mut String,
     end: &mut Ending,

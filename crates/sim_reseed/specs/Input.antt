@@ -4,13 +4,13 @@ use Rattle.std.specs.List.{list_any}
 use Rattle.std.specs.Str.Lines.{lines}
 use Rattle.sim_lines.specs.Cut.{is_marker}
 
--- nothing, or lines of which the last one has its end too
+-- the text is empty or ends with a line end
 abbrev pub ends_its_lines : List ℕ → Bool
 ends_its_lines [] = true
 ends_its_lines (b ∷ []) = b == 10
 ends_its_lines (b ∷ c ∷ more) = ends_its_lines (c ∷ more)
 
--- the text with an end for its last line
+-- the text with a line end after its last line
 abbrev pub with_line_end : List ℕ → List ℕ
 with_line_end text = if ends_its_lines text then text else text ++ 10 ∷ []
 

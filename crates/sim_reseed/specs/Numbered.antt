@@ -6,7 +6,7 @@ use Rattle.hex.specs.Hex.{decode_of, encode_lower}
 use Rattle.toml.specs.Data.{Data, Members, no_members, member, same_key, get_member, string}
 use Rattle.sim_scenario.specs.Scenario.{ScenarioText, Fault, is_seed}
 
--- The number stands in the last eight of the seed's 32 bytes, low byte first.
+-- The number is in the last eight of the seed's 32 bytes, low byte first.
 abbrev pub numbered_seed : ℕ → List ℕ → List ℕ
 numbered_seed i seed = take 24 seed ++ to_le_bytes w64 i
 
@@ -14,12 +14,12 @@ numbered_seed i seed = take 24 seed ++ to_le_bytes w64 i
 abbrev pub numbered : ℕ → ScenarioText → ScenarioText
 numbered i s = record s { seed = numbered_seed i s.seed }
 
--- the same of what a text is read as; a fault stays
+-- the result of reading the scenario with that seed; a fault is unchanged
 abbrev pub numbered_reading : ℕ → Result ScenarioText Fault → Result ScenarioText Fault
 numbered_reading i (Ok s) = Ok (numbered i s)
 numbered_reading i (Err fault) = Err fault
 
--- the members with another value at a key
+-- the members with another value for a key
 abbrev pub with_value : List ℕ → Data → Members → Members
 with_value key d no_members = no_members
 with_value key d (member k e rest) =
@@ -29,7 +29,7 @@ with_value key d (member k e rest) =
 abbrev pub with_seed : List ℕ → Members → Members
 with_seed seed doc = with_value (codes "seed") (string (encode_lower seed)) doc
 
--- the document's seed is 64 hexadecimal digits, which are these bytes
+-- the document's seed is 64 hexadecimal digits, which encode these bytes
 pub record HasSeed (doc : Members) (seed : List ℕ) : Type 0 where
   pub digits : List ℕ
   pub stands : get_member (codes "seed") doc ≡ Some (string digits)

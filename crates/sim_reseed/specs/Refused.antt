@@ -1,4 +1,4 @@
--- What the text of a numbered run writes, and why there is none.
+-- The text of a numbered run, and why there is none.
 use Rattle.std.specs.Prelude.{◌≡◌, ℕ, ◌<◌, List, length, Some, IsErr, false, true}
 use Rattle.toml.specs.Data.{Members}
 use Rattle.toml.specs.Parse.{parse_document}
@@ -10,7 +10,7 @@ use Rattle.sim_reseed.specs.declared.error.ReseedError.{ReseedError}
 use Rattle.sim_reseed.specs.declared.error.ReseedError.TheVariants.{NoScenario, TooLong, HasMarker}
 use Rattle.sim_reseed.specs.declared.error.ReseedError.TheVariants.{NoMemory}
 
--- for no list of protocols the text is a scenario
+-- the text is no scenario, for any list of protocols
 abbrev pub IsNoScenario : List ℕ → Type 0
 IsNoScenario text = (protocols : List Protocol) → IsErr (read protocols text)
 
@@ -19,27 +19,27 @@ pub record IsSeeded (text : List ℕ) (doc : Members) (seed : List ℕ) : Type 0
   pub parsed : parse_document text ≡ Some doc
   pub had : HasSeed doc seed
 
--- these bytes write the text's document with the seed of run number i
+-- `printed` is the text's document with the seed of run number i
 pub record IsWritten (i : ℕ) (text printed : List ℕ) : Type 0 where
   pub doc : Members
   pub seed : List ℕ
   pub own : IsSeeded text doc seed
   pub written : IsDocumentText false (with_seed (numbered_seed i seed) doc) printed
 
--- the document is written in more than 65,536 bytes
+-- the document has more than 65,536 bytes when printed
 pub record IsLong (doc : Members) : Type 0 where
   pub printed : List ℕ
   pub written : IsDocumentText false doc printed
   pub long : 65536 < length printed
 
--- there is no text of run number i
+-- why there is no text of run number i
 abbrev pub Refuses : ℕ → List ℕ → ReseedError → Type 0
 Refuses i text NoScenario = IsNoScenario text
 Refuses i text TooLong = (printed : List ℕ) × IsWritten i text printed × (65536 < length printed)
 Refuses i text HasMarker = ⊥
 Refuses i text NoMemory = Unit {0}
 
--- nor an input that begins with it
+-- why there is no input that begins with that text
 abbrev pub RefusesInput : ℕ → List ℕ → ReseedError → Type 0
 RefusesInput i text HasMarker =
     (printed : List ℕ) × IsWritten i text printed × (has_marker printed ≡ true)

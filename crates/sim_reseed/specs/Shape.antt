@@ -28,9 +28,9 @@ abbrev pub is_shallow : Members → Bool
 is_shallow no_members = true
 is_shallow (member key d rest) = is_value d && is_shallow rest
 
--- ---- what is found where a table has another shape
+-- ---- a table of another shape
 
--- a look-up finds a value that is not plain
+-- some key has a value that is not plain
 pub record HasOther (members : Members) : Type 0 where
   pub key : List ℕ
   pub at : Data
@@ -49,7 +49,7 @@ pub record IsOtherValue (d : Data) : Type 0 where
   pub other : is_value d ≡ false
   pub inside : (items : Items) → as_array d ≡ Some items → HasOtherElement (data_of items)
 
--- a look-up finds a value of another shape
+-- some key has a value of another shape
 pub record HasOtherValue (doc : Members) : Type 0 where
   pub key : List ℕ
   pub at : Data

@@ -1,11 +1,11 @@
-//! Why there is no numbered text and no input.
+//! Why a scenario has no numbered text, or begins no input.
 use std::alloc::AllocError;
 use thiserror::Error;
 
 /// Why a scenario has no numbered text, or begins no input.
 #[derive(Clone, Copy, Debug, PartialEq, Eq, Error)]
 pub enum ReseedError {
-    /// No list of protocols makes the text a scenario.
+    /// The text is no scenario, for any list of protocols.
     #[error("the text is no scenario")]
     NoScenario,
     /// The text with the other seed has more than 65,536 bytes.

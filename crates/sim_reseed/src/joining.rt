@@ -17,14 +17,14 @@ fn is_marker(line: &str) -> bool
     line == "---"
 }
 
-// Whether some line of a text is the marker.
+// Returns whether some line of a text is the marker.
 fn has_marker(text: &str) -> bool
     ensures { result ≡ texts.has_marker text.now }
 {
     text.lines().any(is_marker)
 }
 
-/// Whether a text is empty or ends with a line end.
+/// Returns whether a text is empty or ends with a line end.
 pub fn ends_its_lines(text: &str) -> bool
     ensures { result ≡ texts.ends_its_lines text.now }
 {
@@ -34,7 +34,7 @@ pub fn ends_its_lines(text: &str) -> bool
     }
 }
 
-// A copy of a text, with an end for its last line.
+// Copies a text, with a line end after its last line.
 fn with_line_end(alloc: Global, text: &str) -> Result<String, AllocError>
     ensures { IfOk result (λ whole. string_bytes whole ≡ texts.with_line_end text.now) }
 {
@@ -45,10 +45,10 @@ fn with_line_end(alloc: Global, text: &str) -> Result<String, AllocError>
     Ok(whole)
 }
 
-/// The input of a play: the text of a scenario, a line `---` and a script. A last line of the
-/// scenario without an end gets one.
+/// Returns the input of a play: the text of a scenario, a line `---` and a script. Adds a line end
+/// to the scenario if its last line has none.
 ///
-/// `HasMarker` if a line of the scenario is `---`, which would end it there.
+/// Fails with `HasMarker` if a line of the scenario is `---`, which would end it there.
 pub fn join_input(alloc: Global, scenario: &str, script: &str) -> Result<String, ReseedError>
     ensures cut { IfOk result (λ input.
         head_of (string_bytes input) ≡ (texts.with_line_end scenario.now, script.now)) }
@@ -66,10 +66,10 @@ pub fn join_input(alloc: Global, scenario: &str, script: &str) -> Result<String,
     Ok(text)
 }
 
-/// The input of a play of run number `number` of a sweep: the text of the scenario with that run's
-/// seed, a line `---` and a script.
+/// Returns the input of a play of run number `number` of a sweep: the text of the scenario with
+/// that run's seed, a line `---` and a script.
 ///
-/// Errors are those of [`numbered_text`], and `HasMarker` if a line of its text is `---`.
+/// Fails as [`numbered_text`] does, and with `HasMarker` if a line of its text is `---`.
 pub fn numbered_input(
     alloc: Global,
     text: &str,

@@ -12,20 +12,19 @@
 //! let input = sim_reseed::numbered_input(alloc, scenario, 654, script)?;
 //! ```
 //!
-//! The contract of `numbered_text` speaks of what the definition of a scenario reads, for every
-//! list of protocols at once: the text that was written is read as the scenario of the text that
-//! was given, with the seed of the number and all else as it was, or with the same fault. That of
-//! `join_input` speaks of where a play cuts its input: the two parts are cut apart again, byte by
-//! byte.
+//! The contract of `numbered_text` is about reading, for every list of protocols at once: the
+//! written text is read as the scenario of the given text, with the seed of the number and all else
+//! unchanged, or with the same fault. The contract of `join_input` is about where a play cuts its
+//! input: the play gets the same two parts back, byte for byte.
 //!
 //! Why it is built this way:
 //!
-//! - The text is printed from the table that was read, with another value at `seed`. So no rule of
-//!   the format stands here, and the crate knows no protocol. Comments are lost, and the keys come
-//!   in the order of their bytes.
+//! - The text is printed from the table that was read, with another value for `seed`. So this crate
+//!   repeats no rule of the format, and knows no protocol. Comments are lost, and the keys come in
+//!   the order of their bytes.
 //! - The library's printer says that its text reads back if the table is not too deep. A scenario
 //!   never is: its values are strings, whole numbers, and arrays of these and of tables of these.
-//!   `shape` looks for that, and a proof shows that it refuses no scenario.
+//!   `shape` checks for that, and a proof shows that it refuses no scenario.
 //! - A printed string of several lines can have a line `---`. So the marker is looked for.
 #![tactic(auto)]
 

@@ -16,7 +16,7 @@ use crate::shape::is_shallow;
 use std::alloc::Global;
 use toml::{Table, Value};
 
-/// The longest text of a scenario, in bytes.
+/// The greatest length of the text of a scenario (bytes).
 const MAX_TEXT: usize = 65_536;
 
 // The bytes of a seed.
@@ -25,7 +25,7 @@ struct Seed {
     bytes: [u8; 32],
 }
 
-// The seed of run number `i` of a sweep: bytes 24 to 31 are those of `i`, low byte first.
+// Returns the seed of run number `i` of a sweep: bytes 24 to 31 are those of `i`, low byte first.
 fn numbered_seed(seed: [u8; 32], i: u64) -> [u8; 32]
     ensures { result ≡ numbered.numbered_seed i seed }
 {
@@ -34,7 +34,7 @@ fn numbered_seed(seed: [u8; 32], i: u64) -> [u8; 32]
     numbered.bytes
 }
 
-// The table of a text that may be a scenario.
+// Reads the table of a text that may be a scenario.
 fn read_table(alloc: Global, text: &str) -> Result<Table, ReseedError>
     ensures short { OnOk result (length text.now ≤ 65536) }
     ensures parsed { IfOk result (λ table. parse_document text.now ≡ Some (table_view table)) }
@@ -57,7 +57,7 @@ fn read_table(alloc: Global, text: &str) -> Result<Table, ReseedError>
     }
 }
 
-// The seed of a table, if it is 64 hexadecimal digits.
+// Returns the seed of a table, if it is 64 hexadecimal digits.
 fn seed_of(table: &Table) -> Option<[u8; 32]>
     ensures found { IfSome result (λ seed. numbered.HasSeed (table_view table.now) seed) }
     ensures none { result ≡ None →
@@ -72,7 +72,7 @@ fn seed_of(table: &Table) -> Option<[u8; 32]>
     }
 }
 
-// Puts a seed in the place of a table's own.
+// Replaces the seed of a table.
 fn set_seed(alloc: Global, table: &mut Table, seed: [u8; 32]) -> Result<(), ReseedError>
     ensures set { OnOk result (
         table_view table.new ≡ numbered.with_seed seed (table_view table.old)) }
@@ -85,7 +85,7 @@ fn set_seed(alloc: Global, table: &mut Table, seed: [u8; 32]) -> Result<(), Rese
     Ok(())
 }
 
-// The text of a table, unless it is too long for a scenario.
+// Returns the text of a table, unless it is too long for a scenario.
 fn print(alloc: Global, table: &Table) -> Result<String, ReseedError>
     requires { shape.is_shallow (table_view table.now) ≡ true }
     ensures short { IfOk result (λ text. length (string_bytes text) ≤ 65536) }
@@ -96,7 +96,7 @@ fn print(alloc: Global, table: &Table) -> Result<String, ReseedError>
     ensures refused { IfErr result (λ e. e ≢ ReseedError.NoMemory →
         (e ≡ ReseedError.TooLong) × IsLong (table_view table.now)) }
 {
-    // A table of this shape has no dates, so memory alone can be missing.
+    // A table of this shape has no dates, so the only error is want of memory.
     let Ok(text) = toml::table_to_string(alloc, table) else {
         return Err(ReseedError::NoMemory);
     };
@@ -106,14 +106,14 @@ fn print(alloc: Global, table: &Table) -> Result<String, ReseedError>
     Ok(text)
 }
 
-/// The text of a scenario with the seed of run number `number` of a sweep.
+/// Returns the text of a scenario with the seed of run number `number` of a sweep.
 ///
-/// It is printed anew from the table that was read: the keys are in the order of their bytes, and
-/// comments are gone. For every list of protocols it is read as the scenario of `text` with the
+/// The text is printed from the table that was read: the keys are in the order of their bytes, and
+/// comments are lost. For every list of protocols it is read as the scenario of `text` with the
 /// other seed, or with the fault of `text`.
 ///
-/// `NoScenario` only if no list of protocols makes `text` a scenario, and `TooLong` only if the
-/// text with the other seed has more than 65,536 bytes.
+/// Fails with `NoScenario` only if no list of protocols makes `text` a scenario, and with `TooLong`
+/// only if the text with the other seed has more than 65,536 bytes.
 pub fn numbered_text(alloc: Global, text: &str, number: u64) -> Result<String, ReseedError>
     ensures reads { IfOk result (λ t. (protocols : List Protocol) →
         read protocols (string_bytes t)

@@ -1,4 +1,4 @@
-//! Whether a table has the shape of a scenario's.
+//! Checks that a table has the shape of a scenario's.
 ghost use Rattle.std.specs.Prelude.{◌≡◌, false};
 ghost use Rattle.std.specs.List.{list_all};
 ghost use Rattle.toml.specs.View.{view, items_view, table_view};
@@ -57,7 +57,8 @@ fn is_value(value: &Value) -> bool
     }
 }
 
-/// Whether each value is a string, a whole number, or an array of these and of tables of these.
+/// Returns whether each value is a string, a whole number, or an array of these and of tables of
+/// these.
 pub fn is_shallow(table: &Table) -> bool
     ensures value { result ≡ shape.is_shallow (table_view table.now) }
     ensures other { result ≡ false → shape.HasOtherValue (table_view table.now) }

@@ -4,7 +4,7 @@ use Rattle.sim_book.specs.declared.Command.TheVariants as command
 use Rattle.sim_script.specs.declared.ask.Form.{Form}
 use Rattle.sim_script.specs.declared.ask.Form.TheVariants.{Plain, Watch}
 
--- the condition of a watch stands in the line
+-- the line itself holds the condition of a watch
 abbrev pub command_in : Form → Command
 command_in (Plain c) = c
 command_in (Watch b c) = command.Watch b c

@@ -118,21 +118,20 @@ op_of word =
 abbrev pub is_dot : ℕ → Bool
 is_dot byte = byte == 46
 
--- whether the term after a word begins an alternative: `or` begins one, `and` begins none, and no
--- other word joins terms
+-- `or` starts a new alternative, `and` continues the current one; no other word joins terms
 unfoldable pub begins_after : Text → Option Bool
 begins_after word =
     if bytes_eq word (codes "and") then Some false
     else (if bytes_eq word (codes "or") then Some true
     else None)
 
--- a condition after a term, which is in its first alternative or in one of its own
+-- puts a term before a condition: in its first alternative, or in a new one
 abbrev pub put_before : Bool → Term → Cond → Cond
 put_before true t c = (t ∷ []) ∷ c
 put_before false t [] = (t ∷ []) ∷ []
 put_before false t (ts ∷ c) = (t ∷ ts) ∷ c
 
--- something that was read, and the words after it
+-- a value that was read, and the words after it
 abbrev pub Read : Type 0 → Type 0
 Read A = Option (A × List Text)
 
@@ -171,7 +170,7 @@ module _ (names : Names) where
   on_host make (h ∷ rest) = before rest (option_map make (host names h))
   on_host make _ = None
 
-  -- what stands after `not`
+  -- the term after `not`
   abbrev pub negation : List Text → Read Term
   negation (word ∷ given) =
       if bytes_eq word (codes "up") then on_host NotUp given
@@ -206,7 +205,7 @@ module _ (names : Names) where
       option_and_then (λ p. unless_number (make p) given) (probe names k)
   on_probe_unless make _ = None
 
-  -- what stands after `agree`: PROBE, and `unless` N or `by` PROBE `unless` N
+  -- the term after `agree`: PROBE, then `unless` N or `by` PROBE `unless` N
   abbrev pub agreement : List Text → Read Term
   agreement (k ∷ word ∷ given) = option_and_then (λ p.
       if bytes_eq word (codes "by") then on_probe_unless (AgreeBy p) given
@@ -232,7 +231,7 @@ module _ (names : Names) where
       else (if bytes_eq word (codes "count") then counting given
       else compared word given)))))))
 
-  -- a term is the last, or a word that joins it and more terms follow
+  -- a term is the last one, or a joining word and more terms follow it
   abbrev pub joined : (List Text → Option Cond) → Term × List Text → Option Cond
   joined more (t, []) = Some ((t ∷ []) ∷ [])
   joined more (t, word ∷ rest) =
@@ -246,6 +245,6 @@ module _ (names : Names) where
   unfoldable pub condition : List Text → Option Cond
   condition given = terms 8 given
 
-  -- what was read is what the words write: a condition exactly where they write it
+  -- reading agrees with writing: the words read as a condition exactly if they write it
   unfoldable pub IsWritten : List Text → Option Cond → Type 0
   IsWritten given read = (c : Cond) → (read ≡ Some c) ↔ Writes names given c

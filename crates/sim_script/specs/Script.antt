@@ -14,8 +14,7 @@ use Rattle.sim_script.specs.declared.script.ScriptLine.TheVariants.{Nothing, Bad
 pub use Rattle.sim_script.specs.Words.{Text, words, number, Names, host, probe}
 use Rattle.sim_script.specs.Conditions.{condition}
 
--- the words that follow the first of a line: nothing, a number, a host, two hosts, a host and a
--- probe
+-- the words after the first: nothing, a number, a host, two hosts, a host and a probe
 abbrev pub nothing : {A : Type 0} → A → List Text → Option A
 nothing a [] = Some a
 nothing a (_ ∷ _) = None
@@ -79,7 +78,7 @@ module _ (names : Names) where
       (λ p. fault.RepairOneway p.0 p.1) (two_hosts given)
       else None)))))))
 
-  -- what is looked at, by the words after `look`
+  -- the query, by the words after `look`
   unfoldable pub query_of : List Text → Option Query
   query_of [] = Some query.Summary
   query_of (word ∷ given) =
@@ -108,7 +107,7 @@ module _ (names : Names) where
   command_on b [] = None
   command_on b (word ∷ given) = command_by b word given
 
-  -- a first word `@B` names the branch, and without it the branch is 0
+  -- a first word `@B` names the branch; without it the branch is 0
   unfoldable pub command_of : List Text → Option Command
   command_of [] = None
   command_of (word ∷ given) =

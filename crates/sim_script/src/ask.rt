@@ -7,8 +7,8 @@ use sim_watch::{Cond, SharedCond};
 use std::alloc::Global;
 use std::marker::Model;
 
-/// What a line that is a command asks. The condition of a watch stands in it, since a line is read
-/// without memory.
+/// What a command line asks. The condition of a watch is inline, since reading a line takes no
+/// memory.
 #[derive(Drop)]
 pub(crate) enum Form {
     /// Any command but a watch.
@@ -17,7 +17,7 @@ pub(crate) enum Form {
     Watch(u32, Cond),
 }
 
-/// A command as a line gives it, whose condition is not in memory of its own yet. Contracts see the
+/// A command as a line gives it; its condition has no memory of its own yet. Contracts see the
 /// command.
 #[derive(Drop)]
 pub struct Ask {
@@ -35,7 +35,7 @@ impl Model for Ask {
 }
 
 impl Ask {
-    /// The command. The only error is want of memory for a condition.
+    /// Returns the command. Fails only for want of memory for a condition.
     #[inline]
     pub fn into_command(self, alloc: Global) -> Result<Command, NoMemory>
         ensures { IfOk result (λ c. c ≡ self) }

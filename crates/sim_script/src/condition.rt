@@ -13,13 +13,13 @@ use crate::names::Names;
 use crate::words::{next_word, parse_number};
 use sim_watch::{Comparison, Cond, Op, Term, Value};
 
-/// The most digits of the number in a term.
+/// The greatest number of digits of the number in a term.
 pub(crate) const MAX_DIGITS: usize = 19;
 
-/// The most terms of a condition.
+/// The greatest number of terms of a condition.
 pub(crate) const MAX_TERMS: usize = 8;
 
-/// How a number is compared.
+/// Reads a comparison's sign.
 #[tactic(auto, unfolding(crate::specs::Conditions::op_of))]
 pub(crate) fn parse_op(word: &[u8]) -> Option<Op>
     ensures { result ≡ op_of word.now }
@@ -41,14 +41,14 @@ pub(crate) fn parse_op(word: &[u8]) -> Option<Op>
     }
 }
 
-/// The number of a term.
+/// Reads the number of a term.
 fn parse_bound(word: &[u8]) -> Option<u64>
     ensures { result ≡ bound word.now }
 {
     parse_number(word, MAX_DIGITS)
 }
 
-/// Where the first dot stands.
+/// Returns the position of the first dot.
 fn first_dot(word: &[u8]) -> Option<usize>
     ensures is { result ≡ position is_dot word.now }
     ensures within { IfSome result (λ dot. dot < length word.now) }
@@ -56,7 +56,7 @@ fn first_dot(word: &[u8]) -> Option<usize>
     word.iter().position(|byte| *byte == b'.')
 }
 
-/// A host and a probe, joined by a dot.
+/// Reads a host and a probe, joined by a dot.
 pub(crate) fn parse_probe(names: &Names, word: &[u8]) -> Option<(u16, u8)>
     ensures { result ≡ host_and_probe names.now word.now }
 {
@@ -66,7 +66,7 @@ pub(crate) fn parse_probe(names: &Names, word: &[u8]) -> Option<(u16, u8)>
     Some((host, probe))
 }
 
-/// A number, or the probe of a host whose value it is.
+/// Reads a value: a number, or the probe of a host.
 pub(crate) fn parse_value(names: &Names, word: &[u8]) -> Option<Value>
     ensures { result ≡ value names.now word.now }
 {
@@ -77,7 +77,7 @@ pub(crate) fn parse_value(names: &Names, word: &[u8]) -> Option<Value>
     Some(Value::Shown(host, probe))
 }
 
-/// A host, and what follows it.
+/// Reads a host, and returns the text after it too.
 fn next_host<'a>(names: &Names, text: &'a [u8]) -> Option<(u16, &'a [u8])>
     ensures { MatchOption result ((make : _) → on_host names.now make (words text.now) ≡ None)
         (λ r. (make : _) → on_host names.now make (words text.now)
@@ -88,7 +88,7 @@ fn next_host<'a>(names: &Names, text: &'a [u8]) -> Option<(u16, &'a [u8])>
     Some((host, rest))
 }
 
-/// What stands after `not`, and what follows it.
+/// Reads the term after `not`, and returns the text after it too.
 fn next_negation<'a>(names: &Names, text: &'a [u8]) -> Option<(Term, &'a [u8])>
     ensures { MatchOption result (negation names.now (words text.now) ≡ None)
         (λ r. negation names.now (words text.now) ≡ Some (r.0, words r.1.now)) }
@@ -105,7 +105,7 @@ fn next_negation<'a>(names: &Names, text: &'a [u8]) -> Option<(Term, &'a [u8])>
     }
 }
 
-/// `unless` and a number, and what follows them.
+/// Reads `unless` and a number, and returns the text after them too.
 fn next_unless(text: &[u8]) -> Option<(u64, &[u8])>
     ensures { MatchOption result ((make : _) → unless_number make (words text.now) ≡ None)
         (λ r. (make : _) → unless_number make (words text.now) ≡ Some (make r.0, words r.1.now)) }
@@ -119,7 +119,7 @@ fn next_unless(text: &[u8]) -> Option<(u64, &[u8])>
     Some((number, rest))
 }
 
-/// A probe, `unless` and a number, and what follows them.
+/// Reads a probe, `unless` and a number, and returns the text after them too.
 fn next_probe_unless<'a>(names: &Names, text: &'a [u8]) -> Option<(u8, u64, &'a [u8])>
     ensures { MatchOption result ((make : _) → on_probe_unless names.now make (words text.now)
         ≡ None)
@@ -132,7 +132,7 @@ fn next_probe_unless<'a>(names: &Names, text: &'a [u8]) -> Option<(u8, u64, &'a 
     Some((probe, number, rest))
 }
 
-/// What stands after `agree`, and what follows it.
+/// Reads the term after `agree`, and returns the text after it too.
 fn next_agreement<'a>(names: &Names, text: &'a [u8]) -> Option<(Term, &'a [u8])>
     ensures { MatchOption result (agreement names.now (words text.now) ≡ None)
         (λ r. agreement names.now (words text.now) ≡ Some (r.0, words r.1.now)) }
@@ -149,7 +149,7 @@ fn next_agreement<'a>(names: &Names, text: &'a [u8]) -> Option<(Term, &'a [u8])>
     }
 }
 
-/// An operator and a value, and what follows them.
+/// Reads an operator and a value, and returns the text after them too.
 fn next_comparison<'a>(names: &Names, text: &'a [u8]) -> Option<(Comparison, &'a [u8])>
     ensures { MatchOption result (comparison names.now (words text.now) ≡ None)
         (λ r. comparison names.now (words text.now) ≡ Some (r.0, words r.1.now)) }
@@ -161,7 +161,7 @@ fn next_comparison<'a>(names: &Names, text: &'a [u8]) -> Option<(Comparison, &'a
     Some((Comparison { op, value }, rest))
 }
 
-/// A probe, an operator and a value, and what follows them.
+/// Reads a probe, an operator and a value, and returns the text after them too.
 fn next_values<'a>(names: &Names, text: &'a [u8]) -> Option<(u8, Comparison, &'a [u8])>
     ensures { MatchOption result ((make : _) → on_values names.now make (words text.now) ≡ None)
         (λ r. (make : _) → on_values names.now make (words text.now)
@@ -173,7 +173,7 @@ fn next_values<'a>(names: &Names, text: &'a [u8]) -> Option<(u8, Comparison, &'a
     Some((probe, to, rest))
 }
 
-/// What stands after the comparison of a count, and what follows it.
+/// Reads the end of a `count` term, after its comparison, and returns the text after it too.
 fn next_counted(probe: u8, to: Comparison, text: &[u8]) -> Option<(Term, &[u8])>
     ensures { MatchOption result (counted probe to (words text.now) ≡ None)
         (λ r. counted probe to (words text.now) ≡ Some (r.0, words r.1.now)) }
@@ -185,7 +185,7 @@ fn next_counted(probe: u8, to: Comparison, text: &[u8]) -> Option<(Term, &[u8])>
     Some((Term::Count(probe, to, op, number), rest))
 }
 
-/// What stands after `count`, and what follows it.
+/// Reads the term after `count`, and returns the text after it too.
 fn next_count<'a>(names: &Names, text: &'a [u8]) -> Option<(Term, &'a [u8])>
     ensures { MatchOption result (counting names.now (words text.now) ≡ None)
         (λ r. counting names.now (words text.now) ≡ Some (r.0, words r.1.now)) }
@@ -196,7 +196,7 @@ fn next_count<'a>(names: &Names, text: &'a [u8]) -> Option<(Term, &'a [u8])>
     next_counted(probe, to, rest)
 }
 
-/// What stands after the first word of a comparison of one probe, and what follows it.
+/// Reads a comparison of one probe after its first word, and returns the text after it too.
 fn next_compared<'a>(names: &Names, word: &[u8], text: &'a [u8]) -> Option<(Term, &'a [u8])>
     ensures { MatchOption result (compared names.now word.now (words text.now) ≡ None)
         (λ r. compared names.now word.now (words text.now) ≡ Some (r.0, words r.1.now)) }
@@ -206,7 +206,7 @@ fn next_compared<'a>(names: &Names, word: &[u8], text: &'a [u8]) -> Option<(Term
     Some((Term::Cmp(host, probe, to), rest))
 }
 
-/// A term, and what follows it.
+/// Reads a term, and returns the text after it too.
 #[tactic(auto, unfolding(crate::specs::Conditions::term))]
 fn next_term<'a>(names: &Names, text: &'a [u8]) -> Option<(Term, &'a [u8])>
     ensures { MatchOption result (term names.now (words text.now) ≡ None)
@@ -239,7 +239,8 @@ fn next_term<'a>(names: &Names, text: &'a [u8]) -> Option<(Term, &'a [u8])>
     }
 }
 
-/// Whether the term after a word begins an alternative; none where the word joins no terms.
+/// Returns whether the term after a word starts a new alternative, or `None` if the word joins no
+/// terms.
 #[tactic(auto, unfolding(crate::specs::Conditions::begins_after))]
 fn begins_after(word: &[u8]) -> Option<bool>
     ensures { result ≡ begins_after word.now }
@@ -253,8 +254,8 @@ fn begins_after(word: &[u8]) -> Option<bool>
     }
 }
 
-/// The condition with a term more, which begins an alternative or is joined to the last one; none
-/// where it has 8 terms.
+/// Adds a term to the condition, in a new alternative if `begins`, else in the last one. Returns
+/// `None` if the condition has 8 terms already.
 fn with_term(cond: Cond, begins: bool, term: Term) -> Option<Cond>
     ensures { MatchOption result (length (all_terms cond) ≡ 8)
         (λ c. c ≡ join_term cond (record { begins = begins; term = term })) }
@@ -266,8 +267,8 @@ fn with_term(cond: Cond, begins: bool, term: Term) -> Option<Cond>
     }
 }
 
-/// The condition that a text writes: 1 to 8 terms, joined by `and` and `or`; none where it writes
-/// none. It takes no memory.
+/// Reads a condition: 1 to 8 terms, joined by `and` and `or`. Returns `None` if `text` writes none.
+/// Takes no memory.
 pub fn condition_of(names: &Names, text: &[u8]) -> Option<Cond>
     ensures is { result ≡ condition names.now (words text.now) }
     ensures written { IsWritten names.now (words text.now) result }

@@ -4,7 +4,7 @@
 //! bad line, or an [`Ask`]. `Ask::into_command` turns that into a command of a book.
 //! [`condition_of`] reads the words of a condition, also those of a command line. [`Names`] has the
 //! names of hosts and probes with their numbers. [`mistake_of`] says which word makes a line bad,
-//! and what should stand there.
+//! and what was expected in its place.
 //!
 //! ```text
 //! match line_of(&names, b"@1 crash a") {
@@ -30,8 +30,8 @@
 //!   refuses it, in its own order of refusals.
 //! - A line is read in one walk. UTF-8 is never tested: a word that is no keyword, no number and no
 //!   name makes a line bad, and each of these is ASCII.
-//! - The crate needs the book's plain types alone, so an edit of the play does not check it again,
-//!   and a search's condition is read by the same function as a watch's.
+//! - The crate uses only the book's plain types, so an edit of `play` does not check it again, and
+//!   a search reads its condition with the same function as a watch.
 #![tactic(auto)]
 
 mod ask;

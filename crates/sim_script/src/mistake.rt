@@ -12,7 +12,7 @@ use crate::script::{MAX_DIGITS, MAX_LINE, ScriptLine, line_of};
 use crate::words::{next_word, parse_number};
 use std::fmt;
 
-/// What should stand in a line.
+/// What was expected at a word of a line.
 #[derive(Clone, Copy, Debug, PartialEq, Eq)]
 pub enum Expected {
     /// `@` and the number of a branch.
@@ -25,7 +25,7 @@ pub enum Expected {
     Host,
     /// The name of a probe.
     Probe,
-    /// What is looked at: `next`, `host`, `link` or `probe`.
+    /// A query: `next`, `host`, `link` or `probe`.
     View,
     /// The first word of a term of a condition.
     Term,
@@ -35,7 +35,7 @@ pub enum Expected {
     Unless,
     /// The word `unless` or `by`.
     UnlessOrBy,
-    /// An operator, as `<=`.
+    /// An operator, such as `<=`.
     Operator,
     /// A number of 1 to 19 digits, or the probe of a host.
     Value,
@@ -73,7 +73,7 @@ impl fmt::Display for Expected {
     }
 }
 
-/// Why a line is bad: the number of a word, from 1, and what should stand there. Where a word is
+/// Why a line is bad: the number of a word, from 1, and what was expected there. If a word is
 /// missing, the number is one past the last word. A line that is too long counts as a mistake at
 /// its first word.
 #[derive(Clone, Copy, Debug, PartialEq, Eq)]
@@ -146,7 +146,7 @@ static AGREE_BY: [Expected; 5] = [
     Expected::Bound,
 ];
 
-/// A place in a line: how many words lie before it, and what follows.
+/// A position in a line: how many words lie before it, and the text after it.
 #[derive(Clone, Copy)]
 struct At<'a> {
     taken: u32,
@@ -157,7 +157,7 @@ fn is_one_of(word: &[u8], names: &[&[u8]]) -> bool {
     names.iter().any(|name| word == *name)
 }
 
-/// Whether a word is what is expected.
+/// Returns whether a word is what is expected.
 fn fits(names: &Names, expected: Expected, word: &[u8]) -> bool {
     match expected {
         Expected::Branch => match word {
@@ -182,7 +182,7 @@ fn fits(names: &Names, expected: Expected, word: &[u8]) -> bool {
     }
 }
 
-/// That something else should stand at this place.
+/// Returns the mistake that `expected` does not follow at this position.
 fn mistake_at(at: At<'_>, expected: Expected) -> LineMistake
     requires { at.taken < 1000 }
     ensures { result.word ≡ at.entry.taken + 1 }
@@ -191,7 +191,7 @@ fn mistake_at(at: At<'_>, expected: Expected) -> LineMistake
     LineMistake { word, expected }
 }
 
-/// The place after the next word, which must be what is expected.
+/// Returns the position after the next word. Fails if that word is not what is expected.
 fn take<'a>(names: &Names, expected: Expected, at: At<'a>) -> Result<At<'a>, LineMistake>
     requires { at.taken < 1000 }
     ensures next { IfOk result (λ next. (next.taken ≡ at.entry.taken + 1)
@@ -208,7 +208,7 @@ fn take<'a>(names: &Names, expected: Expected, at: At<'a>) -> Result<At<'a>, Lin
     Ok(At { taken, rest })
 }
 
-/// The place after the next words, which must be what is expected.
+/// Returns the position after the next words. Fails at the first one that is not what is expected.
 fn walk<'a>(names: &Names, shape: &[Expected], start: At<'a>) -> Result<At<'a>, LineMistake>
     requires { start.taken + length shape.now < 1000 }
     ensures next { IfOk result (λ next. (next.taken ≡ start.entry.taken + length shape.now)
@@ -223,7 +223,7 @@ fn walk<'a>(names: &Names, shape: &[Expected], start: At<'a>) -> Result<At<'a>, 
     Ok(at)
 }
 
-/// What follows `agree`.
+/// Returns what must follow `agree`.
 fn agreement_shape(rest: &[u8]) -> &'static [Expected]
     ensures { length result.now ≤ 5 }
 {
@@ -242,7 +242,7 @@ fn agreement_shape(rest: &[u8]) -> &'static [Expected]
     }
 }
 
-/// What follows the first word of a term, or none where no term begins with it.
+/// Returns what must follow the first word of a term, or `None` if no term starts with it.
 fn term_shape(names: &Names, word: &[u8], rest: &[u8]) -> Option<&'static [Expected]>
     ensures { IfSome result (λ shape. length shape.now ≤ 5) }
 {
@@ -265,7 +265,7 @@ fn term_shape(names: &Names, word: &[u8], rest: &[u8]) -> Option<&'static [Expec
     }
 }
 
-/// The place after a term.
+/// Returns the position after a term.
 fn walk_term<'a>(names: &Names, at: At<'a>) -> Result<At<'a>, LineMistake>
     requires { at.taken < 900 }
     ensures next { IfOk result (λ next. (at.entry.taken ≤ next.taken)
@@ -284,7 +284,7 @@ fn walk_term<'a>(names: &Names, at: At<'a>) -> Result<At<'a>, LineMistake>
     walk(names, shape, At { taken, rest })
 }
 
-/// The place after a condition of at most 8 terms.
+/// Returns the position after a condition of at most 8 terms.
 fn walk_condition<'a>(names: &Names, start: At<'a>) -> Result<At<'a>, LineMistake>
     requires { start.taken < 100 }
     ensures next { IfOk result (λ next. (next.taken < 900)
@@ -303,7 +303,7 @@ fn walk_condition<'a>(names: &Names, start: At<'a>) -> Result<At<'a>, LineMistak
     walk_term(names, at)
 }
 
-/// The place after what follows `look`.
+/// Returns the position after the query that follows `look`.
 fn walk_view<'a>(names: &Names, at: At<'a>) -> Result<At<'a>, LineMistake>
     requires { at.taken < 100 }
     ensures next { IfOk result (λ next. (next.taken < 900)
@@ -329,8 +329,8 @@ fn walk_view<'a>(names: &Names, at: At<'a>) -> Result<At<'a>, LineMistake>
     }
 }
 
-/// What follows the first word of a command that is no look and no watch, or none where no such
-/// command begins with it.
+/// Returns what must follow the first word of a command other than `look` and `watch`, or `None` if
+/// no such command starts with it.
 fn command_shape(word: &[u8]) -> Option<&'static [Expected]>
     ensures { IfSome result (λ shape. length shape.now ≤ 2) }
 {
@@ -347,7 +347,7 @@ fn command_shape(word: &[u8]) -> Option<&'static [Expected]>
     }
 }
 
-/// The place after a command, without its branch.
+/// Returns the position after a command without its branch.
 fn walk_command<'a>(names: &Names, at: At<'a>) -> Result<At<'a>, LineMistake>
     requires { at.taken ≤ 1 }
     ensures next { IfOk result (λ next. (next.taken < 900)
@@ -372,7 +372,7 @@ fn walk_command<'a>(names: &Names, at: At<'a>) -> Result<At<'a>, LineMistake>
     }
 }
 
-/// The place after the branch of a line, where it names one.
+/// Returns the position after the branch of a line, if it names one.
 fn walk_branch<'a>(names: &Names, line: &'a [u8]) -> Result<At<'a>, LineMistake>
     ensures next { IfOk result (λ next. (next.taken ≤ 1)
         × (total next.taken next.rest.now ≡ length (words line.entry.now))) }
@@ -388,7 +388,7 @@ fn walk_branch<'a>(names: &Names, line: &'a [u8]) -> Result<At<'a>, LineMistake>
     }
 }
 
-/// The first word of a line that is no command that should be another, or the end of the line.
+/// Returns the first mistake of a line that is no command: at a word, or at the end of the line.
 fn first_mistake(names: &Names, line: &[u8]) -> LineMistake
     ensures { IsBetween 0 result.word (length (words line.now)) }
 {
@@ -408,8 +408,8 @@ fn first_mistake(names: &Names, line: &[u8]) -> LineMistake
     }
 }
 
-/// Why a line of a script is bad: which word should be another, or is missing, and what should
-/// stand there. None where the line is no bad line. It takes no memory.
+/// Returns why a line of a script is bad: which word is wrong or missing, and what was expected
+/// there. Returns `None` if the line is not bad. Takes no memory.
 pub fn mistake_of(names: &Names, line: &[u8]) -> Option<LineMistake>
     ensures bad { IsSome result ↔ (script_line names.now line.now ≡ ScriptLine.Bad) }
     ensures place { IfSome result (λ m. IsBetween 0 m.word (length (words line.now))) }

@@ -1,4 +1,4 @@
-//! The names of hosts and probes, by their numbers.
+//! The names of hosts and probes, with their numbers.
 ghost use Rattle.std.specs.Prelude.{◌≡◌, ◌≤◌, ◌<◌, false, length, map, string_bytes, IfSome};
 ghost use Rattle.std.specs.Prelude.{IfNone, IsTrue};
 ghost use Rattle.std.specs.List.{position};
@@ -12,14 +12,14 @@ use indexmap::IndexMap;
 use sim_scenario::{host_number, is_name};
 use std::marker::Model;
 
-/// The number that stands for a host that is not there.
+/// The number for a name that no host has.
 const NO_HOST: u16 = 65_535;
 
-/// The number that stands for a probe that is not there.
+/// The number for a name that no probe has.
 const NO_PROBE: u8 = 255;
 
-/// The names of the hosts, with their numbers, and of the probes, in the order of their numbers: at
-/// most 255.
+/// The names of the hosts, with their numbers, and of at most 255 probes, in the order of their
+/// numbers.
 #[derive(Drop)]
 pub struct Names {
     hosts: IndexMap<String, u16>,
@@ -41,7 +41,7 @@ impl Model for Names {
     ghost invariant = { λ n. IsNumbered n.hosts × (length n.probes.items ≤ 255) };
 }
 
-/// A word as a text, where it is a name: 1 to 16 small letters and digits, the first a letter.
+/// Returns a word as text if it is a name: 1 to 16 small letters and digits, the first a letter.
 fn name_in(word: &[u8]) -> Option<&str>
     ensures named { IfSome result (λ name. (name.now ≡ word.now) × IsTrue (is_name word.now)) }
     ensures not { IfNone result (is_name word.now ≡ false) }
@@ -52,7 +52,7 @@ fn name_in(word: &[u8]) -> Option<&str>
     if is_name(name) { Some(name) } else { None }
 }
 
-/// The number of the first of the names that is this word.
+/// Returns the number of the first name that equals the word.
 fn position_of(names: &[String], word: &[u8]) -> Option<usize>
     ensures is { result ≡ position (bytes_eq word.now) (map string_bytes names.now) }
     ensures within { IfSome result (λ number. number < length names.now) }
@@ -65,7 +65,7 @@ fn position_of(names: &[String], word: &[u8]) -> Option<usize>
     None
 }
 
-/// The name with this number, or no bytes.
+/// Returns the name with this number, or an empty text.
 fn name_of(names: &[String], number: usize) -> &str
     ensures { result.now ≡ name_at (map string_bytes names.now) number }
 {
@@ -77,7 +77,7 @@ fn name_of(names: &[String], number: usize) -> &str
 }
 
 impl Names {
-    /// The names of hosts, with their numbers, and of at most 255 probes.
+    /// Makes a table of the names of hosts, with their numbers, and of at most 255 probes.
     pub fn new(hosts: IndexMap<String, u16>, probes: Vec<String>) -> Names
         requires hosts { IsNumbered hosts }
         requires probes { length probes.items ≤ 255 }
@@ -89,8 +89,8 @@ impl Names {
         Names { hosts, probes }
     }
 
-    /// The number of the host that the word names, or 65,535 where none has this name; none where
-    /// the word is no name.
+    /// Returns the number of the host that the word names, or 65,535 if no host has this name.
+    /// Returns `None` if the word is no name.
     #[tactic(auto, unfolding(crate::specs::Words::named), using(crate::proofs::Naming::position_same))]
     pub fn host(&self, word: &[u8]) -> Option<u16>
         ensures { result ≡ host self.now word.now }
@@ -102,8 +102,8 @@ impl Names {
         }
     }
 
-    /// The number of the probe that the word names, or 255 where none has this name; none where the
-    /// word is no name.
+    /// Returns the number of the probe that the word names, or 255 if no probe has this name.
+    /// Returns `None` if the word is no name.
     #[tactic(auto, unfolding(crate::specs::Words::named))]
     pub fn probe(&self, word: &[u8]) -> Option<u8>
         ensures { result ≡ probe self.now word.now }
@@ -115,7 +115,7 @@ impl Names {
         }
     }
 
-    /// The name of a host, or no bytes where there is no such host.
+    /// Returns the name of a host, or an empty text if there is no such host.
     pub fn host_name(&self, host: u16) -> &str
         ensures { result.now ≡ host_name self.now host }
     {
@@ -125,7 +125,7 @@ impl Names {
         }
     }
 
-    /// The name of a probe, or no bytes where there is no such probe.
+    /// Returns the name of a probe, or an empty text if there is no such probe.
     pub fn probe_name(&self, probe: u8) -> &str
         ensures { result.now ≡ probe_name self.now probe }
     {

@@ -13,10 +13,10 @@ use crate::words::{next_word, parse_number};
 use sim_book::Command;
 use sim_world::{Fault, Query};
 
-/// A longer line is bad (bytes).
+/// The greatest length of a line (bytes). A longer line is bad.
 pub(crate) const MAX_LINE: usize = 256;
 
-/// The most digits of a number that is no bound of a term.
+/// The greatest number of digits of a number outside a condition.
 pub(crate) const MAX_DIGITS: usize = 9;
 
 /// What a line of a script asks.
@@ -29,7 +29,7 @@ pub enum ScriptLine {
     Asked(Ask),
 }
 
-/// A number of a command, of 1 to 9 decimal digits.
+/// Reads a number of a command, of 1 to 9 decimal digits.
 fn parse_count(word: &[u8]) -> Option<u32>
     ensures { result ≡ number 9 word.now }
 {
@@ -39,7 +39,7 @@ fn parse_count(word: &[u8]) -> Option<u32>
     }
 }
 
-/// One number, and no more words.
+/// Reads one number and no more words.
 fn one_number(text: &[u8]) -> Option<u32>
     ensures { result ≡ a_number (words text.now) }
 {
@@ -50,7 +50,7 @@ fn one_number(text: &[u8]) -> Option<u32>
     }
 }
 
-/// One host, and no more words.
+/// Reads one host and no more words.
 fn one_host(names: &Names, text: &[u8]) -> Option<u16>
     ensures { result ≡ a_host names.now (words text.now) }
 {
@@ -61,7 +61,7 @@ fn one_host(names: &Names, text: &[u8]) -> Option<u16>
     }
 }
 
-/// Two hosts, and no more words.
+/// Reads two hosts and no more words.
 fn both_hosts(names: &Names, text: &[u8]) -> Option<(u16, u16)>
     ensures { result ≡ two_hosts names.now (words text.now) }
 {
@@ -77,7 +77,7 @@ fn both_hosts(names: &Names, text: &[u8]) -> Option<(u16, u16)>
     }
 }
 
-/// A host and a probe, and no more words.
+/// Reads a host and a probe and no more words.
 fn host_and_probe(names: &Names, text: &[u8]) -> Option<(u16, u8)>
     ensures { result ≡ a_host_and_probe names.now (words text.now) }
 {
@@ -93,7 +93,7 @@ fn host_and_probe(names: &Names, text: &[u8]) -> Option<(u16, u8)>
     }
 }
 
-/// The command, where no more words follow.
+/// Returns the command if no more words follow.
 fn alone(text: &[u8], command: Command) -> Option<Command>
     ensures { result ≡ nothing command (words text.now) }
 {
@@ -103,7 +103,7 @@ fn alone(text: &[u8], command: Command) -> Option<Command>
     }
 }
 
-/// A fault, by its first word and what follows.
+/// Reads a fault, by its first word and the text after it.
 #[tactic(auto, unfolding(crate::specs::Script::fault_of))]
 fn parse_fault(names: &Names, word: &[u8], rest: &[u8]) -> Option<Fault>
     ensures { result ≡ fault_of names.now word.now (words rest.now) }
@@ -135,7 +135,7 @@ fn parse_fault(names: &Names, word: &[u8], rest: &[u8]) -> Option<Fault>
     }
 }
 
-/// What is looked at, by what follows `look`.
+/// Reads a query, by the text after `look`.
 #[tactic(auto, unfolding(crate::specs::Script::query_of))]
 fn parse_query(names: &Names, text: &[u8]) -> Option<Query>
     ensures { result ≡ query_of names.now (words text.now) }
@@ -161,7 +161,7 @@ fn parse_query(names: &Names, text: &[u8]) -> Option<Query>
     }
 }
 
-/// A command that takes a number, by its first word and what follows.
+/// Reads a command that takes a number, by its first word and the text after it.
 #[tactic(auto, unfolding(crate::specs::Script::numbered_of))]
 fn parse_numbered(branch: u32, word: &[u8], rest: &[u8]) -> Option<Command>
     ensures { result ≡ numbered_of branch word.now (words rest.now) }
@@ -185,7 +185,7 @@ fn parse_numbered(branch: u32, word: &[u8], rest: &[u8]) -> Option<Command>
     }
 }
 
-/// A line that is this command, or is bad where there is none.
+/// Returns the line of a command, or a bad line if there is none.
 fn line_by(command: Option<Command>) -> ScriptLine
     ensures { result ≡ asked command }
 {
@@ -197,7 +197,7 @@ fn line_by(command: Option<Command>) -> ScriptLine
     }
 }
 
-/// A line that sets a watch, by what follows `watch`.
+/// Reads a line that sets a watch, by the text after `watch`.
 fn parse_watch(names: &Names, branch: u32, rest: &[u8]) -> ScriptLine
     ensures { result ≡ asked (option_map (Command.Watch branch)
         (condition names.now (words rest.now))) }
@@ -210,14 +210,14 @@ fn parse_watch(names: &Names, branch: u32, rest: &[u8]) -> ScriptLine
     }
 }
 
-/// A look, by what follows `look`.
+/// Reads a look, by the text after `look`.
 fn parse_look(names: &Names, branch: u32, rest: &[u8]) -> Option<Command>
     ensures { result ≡ option_map (Command.Look branch) (query_of names.now (words rest.now)) }
 {
     Some(Command::Look(branch, parse_query(names, rest)?))
 }
 
-/// A command that takes a number, or a fault, by its first word and what follows.
+/// Reads a command that takes a number, or a fault, by its first word and the text after it.
 fn parse_change(names: &Names, branch: u32, word: &[u8], rest: &[u8]) -> Option<Command>
     ensures { result ≡ option_or (numbered_of branch word.now (words rest.now))
         (option_map (Command.Fault branch) (fault_of names.now word.now (words rest.now))) }
@@ -228,7 +228,7 @@ fn parse_change(names: &Names, branch: u32, word: &[u8], rest: &[u8]) -> Option<
     }
 }
 
-/// A command on a branch, by its first word and what follows.
+/// Reads a command on a branch, by its first word and the text after it.
 #[tactic(auto, unfolding(crate::specs::Script::command_by))]
 fn parse_on(names: &Names, branch: u32, word: &[u8], rest: &[u8]) -> ScriptLine
     ensures { result ≡ asked (command_by names.now branch word.now (words rest.now)) }
@@ -250,7 +250,7 @@ fn parse_on(names: &Names, branch: u32, word: &[u8], rest: &[u8]) -> ScriptLine
     }
 }
 
-/// A command, with its branch or without it.
+/// Reads a command, with its branch or without.
 #[tactic(auto, unfolding(crate::specs::Script::command_of))]
 fn parse_command(names: &Names, text: &[u8]) -> ScriptLine
     ensures { result ≡ asked (command_of names.now (words text.now)) }
@@ -272,7 +272,7 @@ fn parse_command(names: &Names, text: &[u8]) -> ScriptLine
     }
 }
 
-/// What a line of a script asks, without its line end. It takes no memory.
+/// Reads a line of a script, given without its line end. Takes no memory.
 #[tactic(auto, unfolding(crate::specs::Script::script_line))]
 pub fn line_of(names: &Names, line: &[u8]) -> ScriptLine
     ensures { result ≡ script_line names.now line.now }

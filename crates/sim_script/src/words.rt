@@ -1,9 +1,9 @@
-//! The words of a line, from its front, and the numbers that they write.
+//! Reads the words of a line from its front, and the numbers that they write.
 ghost use Rattle.std.specs.Prelude.{◌≡◌, ℕ, List, ◌==◌, false, length, MatchOption, IfSome, ◌^◌};
 ghost use Rattle.std.specs.Prelude.{◌<◌, ◌≤◌, ◌∷◌, [], take, drop, ◌⊎◌};
 ghost use Rattle.sim_script.specs.Words.{words, HasNoSpace, number};
 
-/// The rest without the spaces at its front.
+/// Returns the text without its leading spaces.
 fn skip_spaces(text: &[u8]) -> &[u8]
     ensures same { words result.now ≡ words text.now }
     ensures front { (result.now ≡ []) ⊎ ((b : ℕ) × (more : List ℕ) × (result.now ≡ b ∷ more)
@@ -16,7 +16,7 @@ fn skip_spaces(text: &[u8]) -> &[u8]
     rest
 }
 
-/// How many bytes stand before the first space.
+/// Returns the number of bytes before the first space.
 fn word_len(text: &[u8]) -> usize
     ensures within { result ≤ length text.now }
     ensures plain { HasNoSpace (take result text.now) }
@@ -31,7 +31,7 @@ fn word_len(text: &[u8]) -> usize
     text.len()
 }
 
-/// The first word, and what follows it.
+/// Returns the first word and the text after it, or `None` if there is no word.
 pub fn next_word(text: &[u8]) -> Option<(&[u8], &[u8])>
     ensures { MatchOption result (words text.now ≡ []) (λ r. words text.now ≡ r.0.now
         ∷ words r.1.now) }
@@ -43,7 +43,7 @@ pub fn next_word(text: &[u8]) -> Option<(&[u8], &[u8])>
     Some(text.split_at(word_len(text)))
 }
 
-/// A number of 1 to so many decimal digits, at most 19.
+/// Reads a number of 1 to `most` decimal digits; `most` is at most 19.
 #[tactic(auto, unfolding(crate::specs::Words::number))]
 pub fn parse_number(word: &[u8], most: usize) -> Option<u64>
     requires { most ≤ 19 }

@@ -35,19 +35,19 @@ pub use places::search;
 pub use seeds::sweep;
 pub use sim_claims::{Gate, OpenGate};
 
-/// Why a search or a sweep has no answer, in the order in which the reasons are looked for.
+/// Why a search or a sweep has no answer, in the order in which these are checked.
 #[derive(Clone, Copy, Debug, PartialEq, Eq)]
 pub enum SearchFault {
-    /// The places, the seeds or the number of events are not within the limits.
+    /// The places, the seeds or the number of events are out of range.
     BadRange,
-    /// The condition can't be asked of this run.
+    /// The condition has no term, or names a host or a probe that the run does not have.
     BadCondition,
-    /// A growth was refused.
+    /// Memory was refused.
     NoMemory,
 }
 
-/// The most places of a run, but for the first.
+/// The greatest number of events of a run.
 pub const MAX_EVENTS: u64 = 65_536;
 
-/// The most seeds of a sweep.
+/// The greatest number of seeds of a sweep.
 pub const MAX_SEEDS: u64 = 0x1_0000_0000;

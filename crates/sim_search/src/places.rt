@@ -15,8 +15,8 @@ use std::alloc::Global;
 use std::sync::Wait;
 use std::thread::Threads;
 
-// Places of a frozen run, cut into pieces between its checkpoints, and a condition that was checked
-// for it.
+// The places of a frozen run, cut into pieces between its checkpoints, and a condition checked for
+// the run.
 #[derive(Drop)]
 struct Places<'a, N: Node> {
     alloc: Global,
@@ -41,7 +41,7 @@ struct Scanner<N: Node> {
     last: Option<Tape<N>>,
 }
 
-// A scanner for each meter, none of which has scanned a piece.
+// Makes a scanner for each meter, with no last piece.
 fn scanners<N: Node>(alloc: Global, meters: Vec<N::Meter>) -> Result<Vec<Scanner<N>>, NoMemory>
     ensures { IfOk result (λ made. length made.items ≡ length meters.items) }
 {
@@ -77,7 +77,7 @@ impl<'a, N: Node> Pieces<Scanner<N>> for Places<'a, N> {
     }
 }
 
-// Whether the places are not in order, or reach past the kept end.
+// Returns whether the places are out of order, or pass the kept end.
 fn is_bad(lo: u64, hi: u64, end: u32) -> bool
     ensures value { result ≡ is_bad_search lo hi end }
     ensures fine { result ≡ false → (lo ≤ hi) × (hi ≤ end) }
@@ -85,13 +85,13 @@ fn is_bad(lo: u64, hi: u64, end: u32) -> bool
     hi < lo || u64::from(end) < hi
 }
 
-/// The first place of a frozen run, from `lo` to `hi`, at which a condition fails, by as many
-/// workers as there are meters.
+/// Returns the first place of a frozen run, from `lo` to `hi`, at which a condition fails, or
+/// `None`. Uses as many workers as there are meters.
 ///
-/// Each piece between two checkpoints is one worker's, and the gate is told of each. `BadRange`
-/// where `lo` is above `hi` or `hi` past the kept end, else `BadCondition` where the condition
-/// can't be asked of this run. The run's events can happen one after the other, so that `None`
-/// tells of no place without a world.
+/// One worker scans each piece between two checkpoints, and the gate hears about each. Fails with
+/// `BadRange` if `lo` is above `hi` or `hi` past the kept end, else with `BadCondition` if the
+/// condition can't be asked of this run. The contract also says that the run's events can happen in
+/// order, so `None` covers no place without a world.
 pub fn search<N: Node + Send + Sync, G: Gate + Sync, R: Threads + Wait + Sync>(
     rt: &R,
     alloc: Global,

@@ -1,4 +1,4 @@
-//! The first of many seeds with a place at which a condition fails.
+//! The first of many seeds under which a condition fails.
 ghost use Rattle.std.specs.Prelude.{◌≡◌, ℕ, ◌+◌, ◌^◌, ◌<◌, ◌≤◌, false, None, IfOk, OnOk, IfErr};
 ghost use Rattle.std.specs.Prelude.{vec_len, Option};
 ghost use Rattle.sim_watch.specs.Condition.{fault_of};
@@ -15,8 +15,7 @@ use std::marker::PhantomData;
 use std::sync::Wait;
 use std::thread::Threads;
 
-// The numbered runs of a scenario, each a piece of its own, and a condition that was checked for
-// them.
+// The numbered runs of a scenario, each a piece, and a condition checked for them.
 #[derive(Drop)]
 struct Seeds<'a, N: Node> {
     alloc: Global,
@@ -47,8 +46,7 @@ impl<'a, N: Node> Pieces<N::Meter> for Seeds<'a, N> {
     }
 }
 
-// Whether there are too many seeds, none, or too many events, or a seed number is past the
-// greatest.
+// Returns whether there are no seeds, too many seeds or events, or a seed number past the greatest.
 fn is_bad(first: u64, count: u64, events: u64) -> bool
     ensures value { result ≡ is_bad_sweep first count events }
     ensures fine { result ≡ false → (0 < count) × (events ≤ 65536) × (first + count ≤ 2 ^ 64)
@@ -57,13 +55,13 @@ fn is_bad(first: u64, count: u64, events: u64) -> bool
     count == 0 || MAX_SEEDS < count || MAX_EVENTS < events || first > u64::MAX - (count - 1)
 }
 
-/// The first of `count` seeds, from number `first` on, with a place at which a condition fails, and
-/// its first such place, by as many workers as there are meters. Each seed's run has as many steps
-/// as can happen, but at most `events`.
+/// Returns the first of `count` seeds, from number `first` on, under which a condition fails, and
+/// the first such place of its run, or `None`. Uses as many workers as there are meters. Each run
+/// has as many steps as can happen, but at most `events`.
 ///
-/// Each seed is one worker's, and the gate is told of each by its number from 0. `BadRange` where
-/// there is no seed, more than 2^32, more than 65,536 events or a seed number past 2^64 - 1, else
-/// `BadCondition` where the condition can't be asked of this run.
+/// One worker runs each seed, and the gate hears about each by its number from 0. Fails with
+/// `BadRange` if there is no seed, more than 2^32, more than 65,536 events or a seed number past
+/// 2^64 - 1, else with `BadCondition` if the condition can't be asked of this run.
 pub fn sweep<N: Node + Send + Sync, G: Gate + Sync, R: Threads + Wait + Sync>(
     rt: &R,
     alloc: Global,

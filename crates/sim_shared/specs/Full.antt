@@ -4,6 +4,6 @@ use Rattle.sim_book.specs.declared.NotTaken.{NotTaken}
 use Rattle.sim_book.specs.declared.NotTaken.TheVariants.{HistoryFull}
 use Rattle.sim_book.specs.declared.Entry.{Entry}
 
--- it is for a full history exactly where 65,536 entries are kept
+-- the command was not taken for a full history exactly if the history has 65,536 entries
 abbrev pub TellsFull : NotTaken → List Entry → Type 0
 TellsFull why log = (why ≡ HistoryFull) ↔ (length log ≡ 65536)

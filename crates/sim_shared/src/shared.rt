@@ -20,13 +20,13 @@ use std::alloc::Global;
 use std::marker::Model;
 use std::sync::Wait;
 
-/// What a session gets for a call that was taken: a copy of its entry.
+/// What a session gets for a command that was taken: a copy of its entry.
 pub type Receipt = Entry;
 
 /// One session's place at a shared book.
 pub type Seat<N: Node> = sim_lock::Seat<Held<N>>;
 
-/// The entries of all sessions, once all ended.
+/// The entries of all sessions, after all ended.
 pub type History<N: Node> = sim_lock::History<Held<N>>;
 
 /// A book that sessions share.
@@ -49,7 +49,7 @@ impl<N: Node> Model for Shared<N> {
 }
 
 impl<N: Node> Shared<N> {
-    /// A book with no entry is shared, and there is a seat for each session, from session 0 on.
+    /// Shares a book with an empty history, and makes a seat for each session, from session 0 on.
     pub fn new(
         alloc: Global,
         book: Book<N>,
@@ -67,7 +67,7 @@ impl<N: Node> Shared<N> {
         Ok((Shared { lock }, seats))
     }
 
-    /// Carries out a command in this seat's session, and gives the receipt.
+    /// Carries out a command in this seat's session, and returns the receipt.
     pub fn call<R: Wait>(
         &self,
         rt: &R,
@@ -90,8 +90,8 @@ impl<N: Node> Shared<N> {
         self.lock.call(rt, seat, command)
     }
 
-    /// A call that freezes a branch. Beside the receipt its kept events are given, exactly where
-    /// the reply is their list.
+    /// Freezes a branch in this seat's session. Returns the receipt, and the frozen run exactly if
+    /// the reply is the list of its events.
     pub fn freeze<R: Wait>(
         &self,
         rt: &R,
@@ -117,7 +117,7 @@ impl<N: Node> Shared<N> {
         self.lock.freeze(rt, seat, branch)
     }
 
-    /// Ends the sharing, with all seats, and gives the history. It takes no memory.
+    /// Ends the sharing with all its seats, and returns the history. Takes no memory.
     pub fn close(self, seats: Vec<Seat<N>>) -> History<N>
         requires all { vec_len seats ≡ self.sessions }
         requires own { All (IsAt self) seats.items }

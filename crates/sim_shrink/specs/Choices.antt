@@ -1,12 +1,12 @@
--- Choices of the faults of events that stay.
+-- Choices of which faults of a run stay.
 use Rattle.std.specs.Prelude.{ℕ, Bool, true, false, List, [], ◌∷◌, ◌++◌, take, drop, replicate}
 use Rattle.std.specs.Prelude.{if◌then◌else◌}
 use Rattle.std.specs.List.{count_by}
 use Rattle.sim_world.specs.declared.Event.{Event}
 use Rattle.sim_world.specs.declared.Event.TheVariants as event
 
--- What is left of events where a choice says of each fault, in order, whether it stays. What is no
--- fault stays, and a fault for which there is no choice does not.
+-- The events that a choice keeps. It says for each fault, in order, whether it stays. Other events
+-- stay, and a fault past the end of the choice does not.
 abbrev pub kept_by : List Bool → List Event → List Event
 kept_by choice [] = []
 kept_by choice (event.Step ∷ es) = event.Step ∷ kept_by choice es
@@ -20,7 +20,7 @@ is_fault event.Step = false
 is_fault (event.Advance to) = false
 is_fault (event.Fault f) = true
 
--- n faults from a number on do not stay
+-- the choice without n faults from number `from` on
 abbrev pub without : ℕ → ℕ → List Bool → List Bool
 without from n choice = take from choice ++ (replicate n false ++ drop n (drop from choice))
 

@@ -1,4 +1,4 @@
--- Passes over the faults that stay: how far one has come.
+-- Passes over the faults that stay: the progress of one.
 use Rattle.std.specs.Prelude.{◌≡◌, ℕ, ◌<◌, Bool, true, false, List, length, slice_set}
 use Rattle.std.specs.Prelude.{slice_index_or, None, IsSome}
 use Rattle.sim_world.specs.declared.Event.{Event}
@@ -8,12 +8,12 @@ use Rattle.sim_shrink.specs.Choices.{kept_by, count_left}
 use Rattle.sim_shrink.specs.Shrunk.{failing}
 
 module _ {State Msg : Type 0} (r : Rules State Msg) (c : Cond) (es : List Event) where
-  -- the condition still fails along what a choice leaves
+  -- the condition still fails along the events that a choice keeps
   abbrev pub StillFails : List Bool → Type 0
   StillFails choice = IsSome (failing r c (kept_by choice es))
 
-  -- n faults from a number on are dropped if one of them stayed and the condition still fails. If
-  -- not, the choice is as before.
+  -- n faults from number `from` on are dropped if one of them stayed and the condition still fails.
+  -- If not, the choice is unchanged.
   pub record IsTried (choice : List Bool) (from n : ℕ) (next : List Bool)
       (is_dropped : Bool) : Type 0 where
     pub fails : StillFails next
@@ -23,8 +23,8 @@ module _ {State Msg : Type 0} (r : Rules State Msg) (c : Cond) (es : List Event)
     pub needed : is_dropped ≡ false → n ≡ 1 → slice_index_or choice from false ≡ true
         → failing r c (kept_by (slice_set choice from false) es) ≡ None
 
-  -- A pass over the faults below a number made one choice of another. If it dropped none of them in
-  -- parts of one fault, none of them can be dropped alone.
+  -- A pass over the faults below number `from` made `choice` of `first`. If it dropped none of them
+  -- in parts of one fault, none of them can be dropped alone.
   pub record IsPassing (size : ℕ) (first : List Bool) (from : ℕ) (choice : List Bool)
       (has_dropped : Bool) : Type 0 where
     pub fails : StillFails choice

@@ -1,4 +1,4 @@
--- A failing run without the faults that it does not need.
+-- A failing run without the faults that its failure does not need.
 use Rattle.std.specs.Prelude.{◌≡◌, ℕ, ◌≤◌, nat_lt, Bool, true, false, List, length, take}
 use Rattle.std.specs.Prelude.{slice_set, slice_index_or, Option, Some, None}
 use Rattle.sim_world.specs.declared.Event.{Event}
@@ -11,7 +11,7 @@ use Rattle.sim_plan.specs.Happening.{happening}
 use Rattle.sim_shrink.specs.Choices.{kept_by}
 
 module _ {State Msg : Type 0} (r : Rules State Msg) where
-  -- the run that events make: of them those that can happen, one after the other
+  -- the run that events make: those of them that can happen, one after the other
   abbrev pub run_by : List Event → List Event
   run_by es = happening r (start r) es
 
@@ -32,8 +32,8 @@ module _ {State Msg : Type 0} (r : Rules State Msg) (c : Cond) where
       (i : ℕ) → slice_index_or choice i false ≡ true
       → failing (kept_by (slice_set choice i false) es) ≡ None
 
-  -- What is left of the failing run of events: that of a 1-minimal choice of its faults. It is
-  -- no longer, and the condition fails at its end and nowhere before.
+  -- The failing run is shrunk: it is that of a 1-minimal choice of faults. It is no longer, and the
+  -- condition fails at its end and nowhere before.
   pub record IsShrunk (es run : List Event) : Type 0 where
     pub whole : List Event
     pub given : IsFailingRun es whole
@@ -43,6 +43,6 @@ module _ {State Msg : Type 0} (r : Rules State Msg) (c : Cond) where
     pub shorter : length run ≤ length whole
     pub ends : first_failing r c run 0 (length run) ≡ Some (length run)
 
--- There are at most 65,536 events.
+-- A run may have at most 65,536 events.
 abbrev pub shrink_fault : ℕ → ℕ → ℕ → Cond → Option SearchFault
 shrink_fault events hosts probes c = fault_after (nat_lt 65536 events) hosts probes c

@@ -1,4 +1,4 @@
-//! A failing run that is to be made small, and the trials of it.
+//! A failing run to be shrunk, and the trials of it.
 ghost use Rattle.std.specs.Prelude.{◌≡◌, ◌≤◌, IfOk, MatchOption, None, length};
 ghost use Rattle.sim_world.specs.Events.{rules};
 ghost use Rattle.sim_watch.specs.Condition.{fault_of};
@@ -27,7 +27,7 @@ pub struct Case<'a, N: Node> {
 }
 
 impl<'a, N: Node> Case<'a, N> {
-    /// The same with other events, which are not more.
+    /// Returns the case with other events, which must not be more.
     pub fn with_events<'b>(&'b self, events: &'b [Event]) -> Case<'b, N>
         requires { length events.now ≤ length self.now.events.now }
         ensures events { result.events.now ≡ events.now }
@@ -43,8 +43,8 @@ impl<'a, N: Node> Case<'a, N> {
         }
     }
 
-    /// The first place at which the condition fails, along the run of what a choice leaves of the
-    /// events.
+    /// Returns the first place at which the condition fails along the run of the events that a
+    /// choice keeps, or `None`.
     pub fn trial(&self, stays: &[bool], meter: &mut N::Meter) -> Result<Option<u32>, NoMemory>
         ensures { IfOk result (λ found. found
             ≡ failing (rules N.laws N.PROBES self.now.scenario.now) self.now.cond.now
@@ -55,7 +55,8 @@ impl<'a, N: Node> Case<'a, N> {
         scan_planned::<N>(self.alloc, self.scenario, planner, false, self.cond, meter)
     }
 
-    /// The run of the events up to the first place at which the condition fails, if it fails.
+    /// Returns the run of the events up to the first place at which the condition fails, or `None`
+    /// if it fails nowhere.
     pub fn failing_run(&self, meter: &mut N::Meter) -> Result<Option<Vec<Event>>, NoMemory>
         ensures { IfOk result (λ found. MatchOption found
             (failing (rules N.laws N.PROBES self.now.scenario.now)

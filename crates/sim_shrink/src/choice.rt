@@ -9,14 +9,15 @@ use sim_node::NoMemory;
 use sim_world::Event;
 use std::alloc::Global;
 
-/// Of each fault, in order, whether it stays; and how many trials were made.
+/// For each fault, in order, whether it stays; and how many trials were made.
 #[derive(Drop)]
 pub struct Choice {
     pub stays: Vec<bool>,
     pub trials: u64,
 }
 
-// Whether an event stays, by the first choice if it is a fault; and the choices for what follows.
+// Returns whether an event stays (by the first choice, if it is a fault), and the choices for the
+// events after it.
 fn is_kept(event: Event, choices: &[bool]) -> (bool, &[bool])
     ensures { (es : List Happens) → kept_by choices.now (event ∷ es)
         ≡ (if result.0 then event ∷ kept_by result.1.now es else kept_by result.1.now es) }
@@ -30,7 +31,7 @@ fn is_kept(event: Event, choices: &[bool]) -> (bool, &[bool])
     }
 }
 
-/// What is left of events by a choice.
+/// Returns the events that a choice keeps.
 pub fn kept(alloc: Global, stays: &[bool], events: &[Event]) -> Result<Vec<Event>, NoMemory>
     ensures { IfOk result (λ left. left.items ≡ kept_by stays.now events.now) }
 {
@@ -46,21 +47,21 @@ pub fn kept(alloc: Global, stays: &[bool], events: &[Event]) -> Result<Vec<Event
     Ok(left)
 }
 
-// Whether an event is a fault.
+// Returns whether an event is a fault.
 fn is_fault(event: Event) -> bool
     ensures { result ≡ is_fault event }
 {
     matches!(event, Event::Fault(_))
 }
 
-// How many of the events are faults.
+// Returns the number of faults among the events.
 fn count_of_faults(events: &[Event]) -> usize
     ensures { result ≡ count_by is_fault events.now }
 {
     events.iter().filter(|event| is_fault(**event)).count()
 }
 
-/// The choice by which all faults stay, before any trial.
+/// Returns the choice that keeps all faults, before any trial.
 pub fn all_stay(alloc: Global, events: &[Event]) -> Result<Choice, NoMemory>
     ensures { IfOk result (λ choice. kept_by choice.stays.items events.now ≡ events.now) }
 {
@@ -68,14 +69,14 @@ pub fn all_stay(alloc: Global, events: &[Event]) -> Result<Choice, NoMemory>
     Ok(Choice { stays, trials: 0 })
 }
 
-/// How many faults stay.
+/// Returns how many faults stay.
 pub fn count_of_left(stays: &[bool]) -> u64
     ensures { result ≡ count_left stays.now }
 {
     stays.iter().filter(|is_left| **is_left).count() as u64
 }
 
-/// Whether one of so many faults from a number on stays.
+/// Returns whether any of `count` faults from number `from` on stays.
 pub fn has_left(stays: &[bool], from: usize, count: usize) -> bool
     requires { from + count ≤ length stays.now }
     ensures { result ≡ list_any (λ is_left. is_left) (take count (drop from stays.now)) }
@@ -83,7 +84,7 @@ pub fn has_left(stays: &[bool], from: usize, count: usize) -> bool
     stays[from..from + count].iter().any(|is_left| *is_left)
 }
 
-/// A choice by which so many faults from a number on do not stay.
+/// Returns the choice without `count` faults from number `from` on.
 pub fn drop_from(
     alloc: Global,
     stays: &[bool],

@@ -1,8 +1,8 @@
-//! What hears about the trials of a search for a smaller run.
+//! Listeners to the trials of a shrinking.
 
-/// Hears about each trial of a search for a smaller run.
+/// Hears about each trial of a shrinking.
 pub trait Listener {
-    /// After a trial: how many faults are left, and how many trials were made.
+    /// Called after a trial, with how many faults are left and how many trials were made.
     fn tried(&mut self, faults: u64, trials: u64);
 }
 

@@ -1,4 +1,4 @@
-//! Passes over the faults that stay: which of them the failing run does not need.
+//! Passes over the faults that stay: they drop those that the failure does not need.
 ghost use Rattle.std.specs.Prelude.{◌≡◌, ◌+◌, ◌<◌, ◌≤◌, true, false, IfOk, length};
 ghost use Rattle.sim_world.specs.Events.{rules};
 ghost use Rattle.sim_shrink.specs.Choices.{count_left};
@@ -10,7 +10,7 @@ use crate::case::Case;
 use crate::choice::{Choice, count_of_left, drop_from, has_left};
 use sim_node::{NoMemory, Node};
 
-// The choice after one more trial, of which the listener hears.
+// Returns the choice after one more trial, and reports the trial to the listener.
 fn after_trial<L: Listener>(stays: Vec<bool>, trials: u64, listener: &mut L) -> Choice
     ensures { result.stays ≡ stays }
 {
@@ -20,8 +20,8 @@ fn after_trial<L: Listener>(stays: Vec<bool>, trials: u64, listener: &mut L) -> 
 }
 
 impl<'a, N: Node> Case<'a, N> {
-    // Drops so many faults from a number on where the condition still fails without them; and
-    // whether it did.
+    // Drops `count` faults from number `from` on if the condition still fails without them. Returns
+    // the choice after that, and whether it dropped them.
     fn drop_part<L: Listener>(
         &self,
         choice: Choice,
@@ -48,8 +48,8 @@ impl<'a, N: Node> Case<'a, N> {
         }
     }
 
-    // Drops each part of so many faults without which the condition still fails; and whether
-    // there was one.
+    // Drops each part of `size` faults without which the condition still fails. Returns the choice
+    // after that, and whether it dropped one.
     fn pass<L: Listener>(
         &self,
         choice: Choice,
@@ -83,8 +83,7 @@ impl<'a, N: Node> Case<'a, N> {
         Ok((choice, has_dropped))
     }
 
-    /// Drops halves of the faults, quarters, and so on, where the condition still fails without
-    /// them.
+    /// Drops halves of the faults, quarters, and so on, if the condition still fails without them.
     pub fn halve<L: Listener>(
         &self,
         choice: Choice,
@@ -106,7 +105,8 @@ impl<'a, N: Node> Case<'a, N> {
         Ok(choice)
     }
 
-    /// Drops single faults until the condition fails nowhere without any one of those that stay.
+    /// Drops single faults until the condition fails nowhere without any one of the faults that
+    /// stay.
     pub fn settle<L: Listener>(
         &self,
         choice: Choice,

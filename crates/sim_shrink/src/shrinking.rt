@@ -1,4 +1,4 @@
-//! The smallest failing run that faults of a run make.
+//! Shrinks a failing run to the faults that its failure needs.
 ghost use Rattle.std.specs.Prelude.{◌≡◌, ◌≤◌, IfOk, OnOk, IfErr, MatchOption, None, false, length};
 ghost use Rattle.std.specs.Prelude.{nat_lt};
 ghost use Rattle.sim_world.specs.Events.{rules};
@@ -15,7 +15,7 @@ use sim_world::{Event, Scenario};
 use std::alloc::Global;
 use std::marker::PhantomData;
 
-// What is left of a case whose condition fails, or none.
+// Shrinks a case whose condition fails. Returns `None` if it does not fail.
 fn smallest<N: Node, L: Listener>(
     case: &Case<N>,
     meter: &mut N::Meter,
@@ -39,15 +39,15 @@ fn smallest<N: Node, L: Listener>(
     case.with_events(&left).failing_run(meter)
 }
 
-/// Makes a failing run small: drops faults until it needs each one that is left.
+/// Makes a failing run small: drops faults until the failure needs each one that is left.
 ///
-/// The failing run is that of the events that can happen, one after the other, up to the first
-/// place at which the condition fails. The result is the run that some of its faults make with all
-/// its other events, up to the first such place. Without any one of these faults the condition
-/// fails nowhere. `None` where it fails nowhere along the run of the events.
+/// The failing run has the events that can happen, one after the other, up to the first place at
+/// which the condition fails. The result is the run that some of its faults make with all its other
+/// events, up to the first such place. Without any one of these faults the condition fails nowhere.
+/// Returns `None` if the condition fails nowhere along the run of the events.
 ///
-/// `BadRange` where there are more than 65,536 events, else `BadCondition` where the condition
-/// can't be asked of this run.
+/// Fails with `BadRange` if there are more than 65,536 events, else with `BadCondition` if the
+/// condition can't be asked of this run.
 pub fn shrink<N: Node, L: Listener>(
     alloc: Global,
     scenario: &Scenario,
@@ -84,7 +84,7 @@ pub fn shrink<N: Node, L: Listener>(
     }
 }
 
-// Whether these are more events than a world can have.
+// Returns whether there are more events than a world can have.
 fn are_too_many(events: &[Event]) -> bool
     ensures value { result ≡ nat_lt 65536 (length events.now) }
     ensures few { result ≡ false → length events.now ≤ 65536 }

@@ -1,2 +1,2 @@
--- The work that a meter of no size counts.
+-- The work that the meter `Tally` counts.
 pub mod Tally

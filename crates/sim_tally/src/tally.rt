@@ -6,8 +6,8 @@ ghost use Rattle.sim_tally.specs.Tally.{work_code, counted};
 use sim_node::Meter;
 use std::marker::Model;
 
-/// A meter of no size: the calls of nodes are counted without limit where contracts read them, and
-/// nothing is done for it at run time.
+/// A meter of size 0: it counts the calls of nodes without limit for contracts, and does nothing at
+/// run time.
 #[derive(Drop)]
 pub struct Tally {
     pub ghost work: { Work } by { work_code },
@@ -17,7 +17,7 @@ impl Model for Tally {
     ghost also_owns = { λ _. ftrue };
 }
 
-/// What a meter counts.
+/// A call that a meter counts.
 #[derive(Clone, Copy)]
 enum Call {
     Turn,
@@ -26,14 +26,14 @@ enum Call {
 }
 
 impl Tally {
-    /// Nothing has been counted.
+    /// Makes a meter that has counted nothing.
     pub fn new() -> Tally
         ensures { result.work ≡ record { turns = 0; copies = 0; undos = 0 } }
     {
         Tally {}
     }
 
-    // One call more.
+    // Returns the meter after one more call.
     fn counted(&self, _call: &Call) -> Tally
         ensures { result.work ≡ counted _call.now self.now.work }
     {

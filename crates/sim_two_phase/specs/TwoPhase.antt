@@ -1,5 +1,5 @@
 -- Two-phase commit with presumed abort: server 0 is the coordinator, the other servers are the
--- participants. A server answers for what it writes only when its disk has told that the write is
+-- participants. A server answers for what it writes only after its disk reports that the write is
 -- stable.
 use Rattle.std.specs.Prelude.{ℕ, ◌%◌, ◌==◌, nat_lt, nat_le, Bool, true, false, not, ◌&&◌, ◌||◌}
 use Rattle.std.specs.Prelude.{List, [], ◌∷◌, ◌++◌, replicate, slice_index, slice_set, Option, None}
@@ -55,23 +55,23 @@ status_of_byte b =
     if b == 1 then status.Prepared
     else if b == 2 then status.Committed else if b == 3 then status.Aborted else status.Idle
 
--- a server's 10 bytes: the transaction, the commit flag or the status, and what became of
+-- a server's 10 bytes: the transaction, the commit flag or the status, and the outcome of
 -- transaction 1
 abbrev pub server_bytes : ℕ → ℕ → First → List ℕ
 server_bytes transaction byte outcome = bytes_of transaction ++ byte ∷ byte_of_first outcome ∷ []
 
--- they are written in one write, and a sync is asked for
+-- writes them in one write, and asks for a sync
 abbrev pub forced : ℕ → ℕ → First → List (Effect CommitMsg)
 forced transaction byte outcome =
     Effect.Write 0 (server_bytes transaction byte outcome) ∷ Effect.Sync ∷ []
 
--- what becomes of transaction 1, where this is it
+-- the outcome of transaction 1, after this transaction got its outcome
 abbrev pub noted : ℕ → First → First → First
 noted transaction outcome before = if transaction == 1 then outcome else before
 
 -- The coordinator: a row for each definition.
 
--- where transaction 1 has begun and is open, it is presumed to be aborted
+-- if transaction 1 has begun and is open, it is presumed aborted
 abbrev pub presumed : ℕ → First → First
 presumed transaction first.Open = if nat_le 1 transaction then first.Aborted else first.Open
 presumed transaction outcome = outcome
@@ -92,11 +92,11 @@ coordinator_at_boot bytes = record {
 abbrev pub forced_by_coordinator : Conduct → List (Effect CommitMsg)
 forced_by_coordinator c = forced c.transaction (byte_of_flag c.commits) c.first
 
--- it tells all participants that its transaction is committed
+-- sends all participants the commit of its transaction
 abbrev pub telling : Setup → Conduct → List (Effect CommitMsg)
 telling setup c = to_all (others setup) (Decide true c.transaction) ++ Effect.Timer 100 ∷ []
 
--- it has a commit on its disk when it starts
+-- it starts with a commit on its disk
 abbrev pub started : Setup → Conduct → Reaction Conduct CommitMsg
 started setup c =
     if c.commits then (record c { phase = phase.Telling nobody }, telling setup c) else (c, [])
@@ -117,7 +117,7 @@ voted_yes from client number voted setup c =
     if all_in (others setup) (joined from voted) then committed client number c
     else (record c { phase = phase.Voting client (joined from voted) number }, [])
 
--- a participant is against: it aborts, and tells the client and all participants at once
+-- a participant is against: it aborts, and answers the client and all participants at once
 abbrev pub voted_no : ℕ → ℕ → Setup → Conduct → Reaction Conduct CommitMsg
 voted_no client number setup c =
     let new = record c {
@@ -136,7 +136,7 @@ voted from true (phase.Voting client votes number) setup c =
 voted from false (phase.Voting client votes number) setup c = voted_no client number setup c
 voted from agrees _ setup c = (c, [])
 
--- a participant has seen the commit; after the last the coordinator rests
+-- a participant has seen the commit; after the last one the coordinator rests
 abbrev pub seen : ℕ → Phase → Setup → Conduct → Reaction Conduct CommitMsg
 seen from (phase.Telling told) setup c =
     if all_in (others setup) (joined from told) then (
@@ -146,7 +146,7 @@ seen from (phase.Telling told) setup c =
     else (record c { phase = phase.Telling (joined from told) }, [])
 seen from _ setup c = (c, [])
 
--- It tells what became of its transaction when the votes are in, and a commit not before it is
+-- It reports the outcome of its transaction once all votes have come, and a commit only once it is
 -- stable.
 abbrev pub may_tell : Phase → ℕ → Bool
 may_tell phase.Resting unsure = true
@@ -160,7 +160,7 @@ inquired from u c =
     (c, Effect.Send from (Decide c.commits u) ∷ [])
     else (c, [])
 
--- what a settled coordinator sends to the participants that have not answered yet
+-- the messages of a settled coordinator to the participants that have not answered yet
 abbrev pub asked_again : Phase → Setup → Conduct → List (Effect CommitMsg)
 asked_again phase.Resting setup c = []
 asked_again (phase.Voting client votes number) setup c =
@@ -168,12 +168,13 @@ asked_again (phase.Voting client votes number) setup c =
 asked_again (phase.Telling told) setup c =
     to_all (not_in (others setup) told) (Decide true c.transaction)
 
--- its timer, while a transaction is under way
+-- its timer during a transaction
 abbrev pub timed_out : Setup → Conduct → Reaction Conduct CommitMsg
 timed_out setup c =
     (c, (if is_settled c.unsure then asked_again c.phase setup c else []) ++ Effect.Timer 100 ∷ [])
 
--- a sync has come; when it is settled it asks for votes, or answers what it owes and tells
+-- a settled coordinator, after a sync: it asks for votes, or answers its client and reports the
+-- commit
 abbrev pub settled : Phase → Option Owed → Setup → Conduct → Reaction Conduct CommitMsg
 settled (phase.Voting client votes number) owed setup c =
     (c, asked_again c.phase setup c ++ Effect.Timer 100 ∷ [])
@@ -186,11 +187,11 @@ coordinator_synced setup c =
     let new = record c { unsure = lowered c.unsure } in
     if is_settled new.unsure then settled new.phase new.owed setup new else (new, [])
 
--- a message from a participant about the transaction that is under way
+-- a message from a participant about the current transaction
 abbrev pub is_of_this : ℕ → ℕ → Setup → Conduct → Bool
 is_of_this from u setup c = is_other setup from && (u == c.transaction)
 
--- it begins a transaction for the lowest host that waits
+-- it begins a transaction for the lowest waiting host
 abbrev pub begun_for : ℕ × ℕ → Coordinator → Reaction Coordinator CommitMsg
 begun_for w c =
     let new = record c.conduct {
@@ -214,14 +215,14 @@ abbrev pub begun_if_resting : Phase → Setup → Coordinator → Reaction Coord
 begun_if_resting phase.Resting setup c = begun setup c
 begun_if_resting _ setup c = (c, [])
 
--- a host waits, in place of what it waited with before; a resting coordinator begins
+-- a host waits with this operation now, whatever it waited with; a resting coordinator begins
 abbrev pub asked_by : ℕ → ℕ → Setup → Coordinator → Reaction Coordinator CommitMsg
 asked_by from i setup c =
     if is_voting_for from c.conduct.phase then (c, [])
     else begun_if_resting c.conduct.phase setup
     (record c { waiting = slice_set c.waiting from (Some i) })
 
--- what the conduct alone goes through
+-- the reaction of the conduct, with the waiting hosts unchanged
 abbrev pub conducted : Coordinator → Reaction Conduct CommitMsg → Reaction Coordinator CommitMsg
 conducted c reaction = (record c { conduct = reaction.0 }, reaction.1)
 
@@ -275,13 +276,13 @@ abbrev pub is_aborted : Status → Bool
 is_aborted status.Aborted = true
 is_aborted _ = false
 
--- one that is prepared asks what became of its transaction
+-- a prepared participant asks for the outcome of its transaction
 abbrev pub inquires : Participant → Reaction Participant CommitMsg
 inquires p =
     if is_prepared p.status then (p, Effect.Send 0 (Inquire p.transaction) ∷ Effect.Timer 100 ∷ [])
     else (p, [])
 
--- where it was prepared for transaction 1 and is asked for a later one, transaction 1 was aborted
+-- if it was prepared for transaction 1 and is asked for a later one, transaction 1 was aborted
 abbrev pub passed_over : Participant → First
 passed_over p = if is_prepared p.status && (p.transaction == 1) then first.Aborted else p.first
 
@@ -305,7 +306,7 @@ votes_no u p =
     } in
     (new, forced_by_participant new ++ Effect.Send 0 (Vote false u) ∷ [])
 
--- It is asked to prepare: one time in eight it is against. It repeats a vote that is stable.
+-- It is asked to prepare: one time in eight it is against. It repeats a stable vote.
 abbrev pub has_stable_vote : ℕ → Participant → Bool
 has_stable_vote u p =
     (u == p.transaction) && ((is_prepared p.status || is_aborted p.status) && is_settled p.unsure)
@@ -333,7 +334,7 @@ learns u commit p =
     } in
     (new, forced_by_participant new)
 
--- a commit that it has seen, and that is stable
+-- a commit that it has seen and that is stable
 abbrev pub has_seen : ℕ → Participant → Bool
 has_seen u p =
     is_settled p.unsure && (nat_lt u p.transaction || ((u == p.transaction)
@@ -345,7 +346,7 @@ decided u commit p =
     else if commit && has_seen u p then (p, Effect.Send 0 (Seen u) ∷ [])
     else (p, [])
 
--- what a settled participant says when its sync has come
+-- the messages of a settled participant after a sync
 abbrev pub says : Status → ℕ → List (Effect CommitMsg)
 says status.Prepared t = Effect.Send 0 (Vote true t) ∷ []
 says status.Committed t = Effect.Send 0 (Seen t) ∷ []
@@ -364,12 +365,12 @@ react_participant p (input.Message from (Prepare u)) word = prepares u word p
 react_participant p (input.Message from (Decide commit u)) word = decided u commit p
 react_participant p _ word = (p, [])
 
--- A client: what it counts from 1 is the operation that it waits for.
+-- A client: its counter is the number of the operation that it waits for, from 1.
 
 abbrev pub client_asks : ℕ → Reaction ℕ CommitMsg
 client_asks next = (next, Effect.Send 0 (Begin next) ∷ Effect.Timer 200 ∷ [])
 
--- the answer to its operation has come; after the last it is done
+-- the answer to its operation has come; after the last one it is done
 abbrev pub client_answered : ℕ → ℕ → Reaction ℕ CommitMsg
 client_answered ops next =
     if next == ops then (raised next, Effect.Done ∷ []) else client_asks (raised next)
@@ -405,7 +406,7 @@ react_as (role.Coordinator c) i word state =
 react_as (role.Participant p) i word state =
     in_role role.Participant (react_participant p i word) state
 
--- probe 0 is `next` of a client, probe 1 what became of transaction 1 at a server
+-- probe 0 is `next` of a client, probe 1 the outcome of transaction 1 at a server
 abbrev pub probe_as : Role → ℕ → ℕ
 probe_as (role.Client next) k = if k == 0 then next else 0
 probe_as (role.Coordinator c) k = if k == 1 then byte_of_first c.conduct.first else 0

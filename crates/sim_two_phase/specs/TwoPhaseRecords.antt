@@ -1,4 +1,4 @@
--- The records of two-phase commit: what a role was before a reaction.
+-- The records of two-phase commit: a role before a reaction.
 use Rattle.std.specs.Prelude.{ℕ, ◌<◌, List, Option, None, Some, slice_set, IfSome}
 use Rattle.sim_node.specs.Node.{NodeRecords}
 use Rattle.sim_hosts.specs.Waiting.{restored, IsPlacedSlot}
@@ -13,7 +13,7 @@ use Rattle.sim_two_phase.specs.declared.roles.Slots.{Slots}
 use Rattle.sim_two_phase.specs.declared.roles.CommitUndo.{CommitUndo}
 use Rattle.sim_two_phase.specs.declared.roles.CommitUndo.TheVariants as undo
 
--- the clients that the coordinator answers are hosts
+-- the clients to which the coordinator owes answers exist
 abbrev pub IsPlacedPhase : ℕ → Phase → Type 0
 IsPlacedPhase hosts (phase.Voting client votes number) = client < hosts
 IsPlacedPhase hosts _ = Unit {0}
@@ -34,7 +34,7 @@ coordinator_before conduct slots c =
 abbrev pub IsPlacedSlots : Slots → Type 0
 IsPlacedSlots slots = IsPlacedSlot slots.asked × IsPlacedSlot slots.begun
 
--- a record fits a host of its kind
+-- a record fits a host with the same role
 abbrev pub fits_role : ℕ → CommitUndo → Role → Type 0
 fits_role hosts (undo.Coordinator conduct slots) (role.Coordinator c) =
     IsPlacedConduct hosts conduct × IsPlacedSlots slots

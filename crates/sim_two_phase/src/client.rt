@@ -6,10 +6,10 @@ ghost use Rattle.sim_two_phase.specs.TwoPhase.{client_asks, client_answered, rea
 use crate::CommitMsg;
 use sim_node::{Effects, Input, Setup};
 
-/// How long a client waits for an answer before it asks again, in milliseconds.
+/// How long a client waits for an answer before it asks again (ms).
 const PATIENCE: u32 = 200;
 
-/// The client asks for a transaction for its operation of this number, which it then waits for.
+/// Asks for a transaction for operation number `next`, and returns that number.
 fn ask(setup: &Setup, next: u64, effects: &mut Effects<CommitMsg>) -> u64
     requires hosts { 0 < setup.now.hosts }
     requires empty { effects.old ≡ asked_for setup.now [] }
@@ -21,7 +21,8 @@ fn ask(setup: &Setup, next: u64, effects: &mut Effects<CommitMsg>) -> u64
     next
 }
 
-/// The answer to the operation has come.
+/// Handles the answer to an operation. Returns the number of the operation that the client then
+/// waits for.
 fn answered(setup: &Setup, ops: u64, next: u64, effects: &mut Effects<CommitMsg>) -> u64
     requires hosts { 0 < setup.now.hosts }
     requires empty { effects.old ≡ asked_for setup.now [] }
@@ -37,8 +38,8 @@ fn answered(setup: &Setup, ops: u64, next: u64, effects: &mut Effects<CommitMsg>
     }
 }
 
-/// A client with this many operations, which waits for the one of number `next`, reacts: the
-/// operation that it waits for then.
+/// Reacts as a client with `ops` operations that waits for operation number `next`. Returns the
+/// number of the operation that it then waits for.
 pub fn react(
     setup: &Setup,
     ops: u64,

@@ -1,4 +1,4 @@
-//! What the coordinator does with the transaction under way, which is all of it but who waits.
+//! The coordinator's handling of the current transaction: all of its state but the waiting hosts.
 ghost use Rattle.std.specs.Prelude.{◌≡◌, ◌+◌, ◌<◌, ◌≤◌, ◌++◌, [], length};
 ghost use Rattle.sim_node.specs.Node.{IsSetup};
 ghost use Rattle.sim_hosts.specs.Reactions.{asked_for};
@@ -13,14 +13,14 @@ use crate::{CommitMsg, Conduct, First, Owed, Phase};
 use sim_hosts::{HostSet, send_to_all, send_to_missing};
 use sim_node::{Effects, Setup};
 
-/// How long the coordinator waits for the participants before it sends again, in milliseconds.
+/// How long the coordinator waits for the participants before it sends again (ms).
 pub const PATIENCE: u32 = 100;
 
-/// How long it rests before it looks for the next client, in milliseconds.
+/// How long it rests before it looks for the next client (ms).
 const PAUSE: u32 = 1;
 
 impl Conduct {
-    /// Writes it to the disk, and asks for a sync.
+    /// Writes the conduct to the disk, and asks for a sync.
     pub fn force(&self, effects: &mut Effects<CommitMsg>)
         requires { length effects.old.list < 38 }
         ensures { effects.new ≡ record effects.old {
@@ -30,7 +30,7 @@ impl Conduct {
         force(self.transaction, self.commits as u8, self.first, effects);
     }
 
-    /// Tells all participants that the transaction is committed.
+    /// Sends all participants the commit of the transaction.
     fn tell(&self, setup: &Setup, effects: &mut Effects<CommitMsg>)
         requires setup { IsSetup setup.now }
         requires room { length effects.old.list < 8 }
@@ -43,7 +43,7 @@ impl Conduct {
         effects.timer(PATIENCE);
     }
 
-    /// It starts, and tells of the commit that its disk has.
+    /// Handles the start: reports the commit that the disk has.
     pub fn start(&mut self, setup: &Setup, effects: &mut Effects<CommitMsg>)
         requires setup { IsSetup setup.now }
         requires placed { IsPlacedConduct setup.now.hosts self.old }
@@ -60,7 +60,7 @@ impl Conduct {
         }
     }
 
-    /// The last vote for the transaction has come: it commits, and owes the client an answer.
+    /// Commits after the last vote, and owes the client an answer.
     fn commit(&mut self, client: u16, number: u64, setup: &Setup, effects: &mut Effects<CommitMsg>)
         requires client { client < setup.now.hosts }
         requires placed { IsPlacedConduct setup.now.hosts self.old }
@@ -80,7 +80,7 @@ impl Conduct {
         effects.timer(PATIENCE);
     }
 
-    /// A participant is for the transaction.
+    /// Handles a vote for the transaction.
     fn voted_yes(
         &mut self,
         from: u16,
@@ -112,7 +112,7 @@ impl Conduct {
         }
     }
 
-    /// A participant is against the transaction.
+    /// Handles a vote against the transaction.
     fn voted_no(
         &mut self,
         client: u16,
@@ -143,7 +143,7 @@ impl Conduct {
         effects.timer(PAUSE);
     }
 
-    /// A participant has voted on the transaction.
+    /// Handles a vote on the transaction.
     pub fn voted(
         &mut self,
         from: u16,
@@ -174,7 +174,7 @@ impl Conduct {
         }
     }
 
-    /// A participant has seen that the transaction is committed.
+    /// Notes that a participant has seen the commit of the transaction.
     pub fn seen(&mut self, from: u16, setup: &Setup, effects: &mut Effects<CommitMsg>)
         requires setup { IsSetup setup.now }
         requires from { from < setup.now.hosts }
@@ -196,8 +196,8 @@ impl Conduct {
         }
     }
 
-    /// Whether it may tell what became of its transaction: the votes are in, and a commit is
-    /// stable.
+    /// Returns whether the coordinator may report the outcome of its transaction: all votes have
+    /// come, and a commit is stable.
     fn may_tell(&self) -> bool
         ensures { result ≡ may_tell self.now.phase self.now.unsure }
     {
@@ -208,7 +208,7 @@ impl Conduct {
         }
     }
 
-    /// A host asks what became of a transaction.
+    /// Handles a host's question for the outcome of a transaction.
     pub fn inquired(&self, from: u16, u: u64, setup: &Setup, effects: &mut Effects<CommitMsg>)
         requires from { from < setup.now.hosts }
         requires empty { effects.old ≡ asked_for setup.now [] }
@@ -247,7 +247,7 @@ impl Conduct {
         }
     }
 
-    /// The timer while a transaction is under way.
+    /// Handles the timer during a transaction.
     pub fn timed_out(&self, setup: &Setup, effects: &mut Effects<CommitMsg>)
         requires setup { IsSetup setup.now }
         requires empty { effects.old ≡ asked_for setup.now [] }
@@ -259,7 +259,7 @@ impl Conduct {
         effects.timer(PATIENCE);
     }
 
-    /// It is settled: it asks for votes, or answers what it owes and tells.
+    /// Goes on once settled: asks for votes, or answers the client and reports the commit.
     fn settle(&mut self, setup: &Setup, effects: &mut Effects<CommitMsg>)
         requires setup { IsSetup setup.now }
         requires placed { IsPlacedConduct setup.now.hosts self.old }
@@ -283,7 +283,7 @@ impl Conduct {
         }
     }
 
-    /// A sync has come.
+    /// Handles a sync.
     pub fn synced(&mut self, setup: &Setup, effects: &mut Effects<CommitMsg>)
         requires setup { IsSetup setup.now }
         requires placed { IsPlacedConduct setup.now.hosts self.old }

@@ -1,4 +1,4 @@
-//! The rows of the coordinator: who waits, votes, and what its disk says at a boot.
+//! The rows of the coordinator: waiting hosts, votes, and what it reads from its disk at a boot.
 ghost use Rattle.std.specs.Prelude.{ℕ, List, Option, ◌≡◌, ◌<◌, [], slice_set};
 ghost use Rattle.sim_node.specs.Node.{IsSetup, IsFrom};
 ghost use Rattle.sim_hosts.specs.Reactions.{asked_for};
@@ -17,13 +17,13 @@ use sim_hosts::{
 };
 use sim_node::{Effects, Input, Setup};
 
-/// Nobody's waiting has changed.
+/// A reaction that changed no slot.
 const UNCHANGED: Slots = Slots {
     asked: SlotBefore::Same,
     begun: SlotBefore::Same,
 };
 
-/// What became of transaction 1, at a boot: where it has begun and is open, it is presumed to be
+/// Returns the outcome of transaction 1 at a boot: if it has begun and is open, it is presumed
 /// aborted.
 fn presumed(transaction: u64, first: First) -> First
     ensures { result ≡ presumed transaction first }
@@ -36,7 +36,7 @@ fn presumed(transaction: u64, first: First) -> First
 }
 
 impl Coordinator {
-    /// The coordinator that starts from these bytes of its disk.
+    /// Returns the coordinator that boots from these bytes of its disk.
     pub fn at_boot(disk: &[u8]) -> Coordinator
         ensures { result ≡ coordinator_at_boot disk.now }
     {
@@ -54,7 +54,7 @@ impl Coordinator {
         }
     }
 
-    /// The host waits with this from now on; the answer is what it waited with.
+    /// Sets what a host waits with. Returns what it waited with before.
     fn put(&mut self, host: u16, number: Option<u64>) -> SlotBefore<u64>
         requires { host < 32 }
         ensures state { self.new ≡ record self.old {
@@ -66,7 +66,7 @@ impl Coordinator {
         wait_with(&mut self.waiting, host, number)
     }
 
-    /// Begins a transaction for this operation of a client.
+    /// Begins a transaction for a client's operation.
     fn begin_for(
         &mut self,
         client: u16,
@@ -99,7 +99,7 @@ impl Coordinator {
         before
     }
 
-    /// Begins a transaction for the lowest host that waits, where one does.
+    /// Begins a transaction for the lowest waiting host, if one waits.
     fn begin(&mut self, setup: &Setup, effects: &mut Effects<CommitMsg>) -> SlotBefore<u64>
         requires setup { IsSetup setup.now }
         requires placed { IsPlacedConduct setup.now.hosts self.old.conduct }
@@ -125,7 +125,7 @@ impl Coordinator {
         }
     }
 
-    /// A host asks for a transaction.
+    /// Handles a transaction that a host asks for.
     fn asked_by(
         &mut self,
         from: u16,
@@ -155,7 +155,7 @@ impl Coordinator {
         Slots { asked, begun }
     }
 
-    /// The timer.
+    /// Handles the timer.
     fn timed_out(&mut self, setup: &Setup, effects: &mut Effects<CommitMsg>) -> SlotBefore<u64>
         requires setup { IsSetup setup.now }
         requires placed { IsPlacedConduct setup.now.hosts self.old.conduct }
@@ -174,14 +174,14 @@ impl Coordinator {
         SlotBefore::Same
     }
 
-    /// Whether the message is one of a participant about the transaction that is under way.
+    /// Returns whether the message is from a participant and about the current transaction.
     fn is_of_this(&self, from: u16, u: u64, setup: &Setup) -> bool
         ensures { result ≡ is_of_this from u setup.now self.now.conduct }
     {
         is_other(setup, from) && u == self.conduct.transaction
     }
 
-    /// It reacts to a message that does not change who waits.
+    /// Reacts to a message that does not change who waits.
     fn hear(&mut self, from: u16, msg: &CommitMsg, setup: &Setup, effects: &mut Effects<CommitMsg>)
         requires setup { IsSetup setup.now }
         requires from { from < setup.now.hosts }
@@ -205,7 +205,7 @@ impl Coordinator {
         }
     }
 
-    /// It reacts to an input; the answer is what those waited with whose waiting has changed.
+    /// Reacts to an input. Returns the changed slots as they were before.
     pub fn react(
         &mut self,
         setup: &Setup,
@@ -237,8 +237,7 @@ impl Coordinator {
         slots
     }
 
-    /// Takes a reaction back: the conduct before, and what those waited with whose waiting has
-    /// changed.
+    /// Undoes a reaction: restores the conduct and the changed slots.
     pub fn take_back(&mut self, conduct: Conduct, slots: Slots)
         requires { IsPlacedSlots slots }
         ensures { self.new ≡ coordinator_before conduct slots self.old }

@@ -1,4 +1,4 @@
-//! The ten bytes that a server forces to its disk, and what became of transaction 1 in them.
+//! The ten bytes that a server forces to its disk, with the outcome of transaction 1.
 ghost use Rattle.std.specs.Prelude.{◌≡◌, ◌+◌, ◌<◌, ◌++◌, length};
 ghost use Rattle.sim_two_phase.specs.TwoPhase.{byte_of_first, first_of_byte, server_bytes, forced};
 ghost use Rattle.sim_two_phase.specs.TwoPhase.{noted};
@@ -7,14 +7,14 @@ use crate::{CommitMsg, First};
 use sim_hosts::put_number;
 use sim_node::Effects;
 
-/// What became of transaction 1, where it is this one that has this outcome.
+/// Returns the outcome of transaction 1, after `transaction` got its outcome.
 pub fn noted(transaction: u64, outcome: First, before: First) -> First
     ensures { result ≡ noted transaction outcome before }
 {
     if transaction == 1 { outcome } else { before }
 }
 
-/// What became of transaction 1, by its byte on a disk.
+/// Returns the outcome of transaction 1 for its byte on a disk.
 pub fn first_of_byte(byte: u8) -> First
     ensures { result ≡ first_of_byte byte }
 {
@@ -25,7 +25,7 @@ pub fn first_of_byte(byte: u8) -> First
     }
 }
 
-/// The number of what became of transaction 1.
+/// Returns the byte for an outcome of transaction 1.
 pub fn byte_of_first(first: First) -> u8
     ensures { result ≡ byte_of_first first }
 {
@@ -36,7 +36,7 @@ pub fn byte_of_first(first: First) -> u8
     }
 }
 
-/// A server's 10 bytes: the transaction, the commit flag or the status, and what became of
+/// Returns a server's 10 bytes: the transaction, the commit flag or the status, and the outcome of
 /// transaction 1.
 fn server_bytes(transaction: u64, byte: u8, first: First) -> [u8; 10]
     ensures { result ≡ server_bytes transaction byte first }

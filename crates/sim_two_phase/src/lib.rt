@@ -9,7 +9,7 @@
 //!
 //! [`TwoPhase`] implements the trait `Node` of `sim_node` for every meter. So it is proved that the
 //! node does what its tables say (`specs/TwoPhase.antt`, a definition for each row) and that each
-//! reaction can be taken back. That the servers agree is not proved. In fact they can disagree: a
+//! reaction can be undone. That the servers agree is not proved. In fact they can disagree: a
 //! coordinator that boots with transaction 1 open presumes that it was aborted, even if a torn
 //! write has set its commit flag. The table says so, and `examples/walk-back.play` shows it.
 //!
@@ -20,8 +20,8 @@
 //! Why it is built this way:
 //!
 //! - The coordinator's record ([`CommitUndo`]) keeps its whole conduct and at most two of the 32
-//!   places where hosts wait. No record has a collection.
-//! - The coordinator lies in a box, so that other hosts do not carry its table of waiting hosts.
+//!   slots of waiting hosts. No record has a collection.
+//! - The coordinator is in a box, so that other hosts do not carry its table of waiting hosts.
 //!   `sim_hosts::Boxed` is a type whose value is what the box holds, so that definitions see no
 //!   box.
 #![tactic(auto)]

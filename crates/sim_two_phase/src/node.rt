@@ -1,4 +1,4 @@
-//! A host of two-phase commit as a node, and how its reactions are taken back.
+//! A host of two-phase commit as a node, and how its reactions are undone.
 use crate::disk::byte_of_first;
 use crate::{CommitMsg, CommitUndo, Coordinator, Participant, Role, State, client};
 use sim_hosts::Boxed;
@@ -28,7 +28,7 @@ impl<T> Model for TwoPhase<T> {
         × IsPlaced node.state.setup.hosts node.state.role };
 }
 
-/// Shows what the host is. Its setup and its number never change, and are left out.
+/// Shows the role of the host, without its setup and its number, which never change.
 impl<T> fmt::Debug for TwoPhase<T> {
     fn fmt<W: fmt::Write>(&self, f: &mut fmt::Formatter<W>) -> fmt::Result {
         fmt::Debug::fmt(&self.state.role, f)

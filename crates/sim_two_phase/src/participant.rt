@@ -1,4 +1,4 @@
-//! The rows of a participant: it votes, waits for the decision, and inquires.
+//! The rows of a participant: it votes, waits for the decision, and asks for it again.
 ghost use Rattle.std.specs.Prelude.{◌≡◌, ◌+◌, ◌<◌, ◌++◌, [], length};
 ghost use Rattle.sim_hosts.specs.Reactions.{asked_for};
 ghost use Rattle.sim_hosts.specs.Numbers.{raised};
@@ -13,7 +13,7 @@ use crate::{CommitMsg, First, Participant, Status};
 use sim_hosts::{byte_at, number_at};
 use sim_node::{Effects, Input, Setup};
 
-/// How long a prepared participant waits before it inquires, in milliseconds.
+/// How long a prepared participant waits before it asks for the outcome (ms).
 const PATIENCE: u32 = 100;
 
 impl Status {
@@ -41,7 +41,7 @@ impl Status {
 }
 
 impl Participant {
-    /// The participant that starts from these bytes of its disk.
+    /// Returns the participant that boots from these bytes of its disk.
     pub fn at_boot(disk: &[u8]) -> Participant
         ensures { result ≡ participant_at_boot disk.now }
     {
@@ -59,7 +59,8 @@ impl Participant {
         self.status == Status::Prepared
     }
 
-    /// It is this from now on, and writes it to its disk.
+    /// Sets the transaction, the status and the outcome of transaction 1, and writes them to the
+    /// disk.
     fn force(
         &mut self,
         transaction: u64,
@@ -87,7 +88,7 @@ impl Participant {
         force(transaction, status.byte(), first, effects);
     }
 
-    /// Where it is prepared, it asks what became of its transaction.
+    /// Asks for the outcome of the transaction, if the participant is prepared.
     fn inquire(&self, setup: &Setup, effects: &mut Effects<CommitMsg>)
         requires hosts { 0 < setup.now.hosts }
         requires empty { effects.old ≡ asked_for setup.now [] }
@@ -99,7 +100,7 @@ impl Participant {
         }
     }
 
-    /// What became of transaction 1, when a later one is asked for.
+    /// Returns the outcome of transaction 1 once a later one is asked for.
     fn passed_over(&self) -> First
         ensures { result ≡ passed_over self.now }
     {
@@ -130,7 +131,7 @@ impl Participant {
         effects.send(0, CommitMsg::Vote(false, u));
     }
 
-    /// It has voted on this transaction, and its vote is stable.
+    /// Returns whether the participant has voted on this transaction and its vote is stable.
     fn has_stable_vote(&self, u: u64) -> bool
         ensures { result ≡ has_stable_vote u self.now }
     {
@@ -139,7 +140,7 @@ impl Participant {
             && self.unsure == 0
     }
 
-    /// The coordinator asks for a vote; the word of the turn decides on a new one.
+    /// Handles a request for a vote; the random word of the turn decides a new vote.
     fn prepare(&mut self, u: u64, word: u32, setup: &Setup, effects: &mut Effects<CommitMsg>)
         requires hosts { 0 < setup.now.hosts }
         requires empty { effects.old ≡ asked_for setup.now [] }
@@ -157,7 +158,7 @@ impl Participant {
         }
     }
 
-    /// It learns what became of the transaction for which it is prepared.
+    /// Handles the outcome of the transaction for which the participant is prepared.
     fn learn(&mut self, u: u64, commit: bool, setup: &Setup, effects: &mut Effects<CommitMsg>)
         requires empty { effects.old ≡ asked_for setup.now [] }
         requires this { u ≡ self.old.transaction }
@@ -172,7 +173,7 @@ impl Participant {
         self.force(u, status, noted(u, outcome, self.first), effects);
     }
 
-    /// It has seen that this transaction is committed, and that is stable.
+    /// Returns whether the participant has seen the commit of this transaction and that is stable.
     fn has_seen(&self, u: u64) -> bool
         ensures { result ≡ has_seen u self.now }
     {
@@ -193,7 +194,7 @@ impl Participant {
         }
     }
 
-    /// A sync has come: where it is settled, it says what is stable now.
+    /// Handles a sync. If the participant is settled, it reports what is now stable.
     fn synced(&mut self, setup: &Setup, effects: &mut Effects<CommitMsg>)
         requires hosts { 0 < setup.now.hosts }
         requires empty { effects.old ≡ asked_for setup.now [] }
@@ -210,7 +211,7 @@ impl Participant {
         }
     }
 
-    /// It reacts to an input with the word of the turn.
+    /// Reacts to an input, with the random word of the turn.
     pub fn react(
         &mut self,
         setup: &Setup,

@@ -2,27 +2,27 @@
 use sim_hosts::{Boxed, HostSet, SlotBefore};
 use sim_node::Setup;
 
-/// A message. A transaction is counted from 1 by the coordinator, an operation from 1 by its
-/// client. A flag stands first, beside the tag, to save bytes.
+/// A message. The coordinator counts transactions from 1, a client its operations from 1. A flag
+/// comes first, next to the tag, to save bytes.
 #[derive(Clone, Copy, Debug, PartialEq, Eq)]
 pub enum CommitMsg {
     /// A client asks for a transaction, for its operation of this number.
     Begin(u64),
-    /// It is committed, or aborted: the transaction for this operation of the client.
+    /// The transaction for the client's operation of this number is committed, or aborted.
     Answer(bool, u64),
     /// The coordinator asks for a vote on this transaction.
     Prepare(u64),
-    /// A participant is for it, or against it: this transaction.
+    /// A participant votes for this transaction, or against it.
     Vote(bool, u64),
-    /// It is committed, or aborted: this transaction.
+    /// This transaction is committed, or aborted.
     Decide(bool, u64),
     /// A participant has seen that this transaction is committed.
     Seen(u64),
-    /// A participant asks what became of this transaction.
+    /// A participant asks for the outcome of this transaction.
     Inquire(u64),
 }
 
-/// What became of transaction 1.
+/// The outcome of transaction 1.
 #[derive(Clone, Copy, Debug, PartialEq, Eq)]
 pub enum First {
     Open,
@@ -30,32 +30,32 @@ pub enum First {
     Aborted,
 }
 
-/// What the coordinator does.
+/// The phase of the coordinator.
 #[derive(Clone, Copy, Debug, PartialEq, Eq)]
 pub enum Phase {
-    /// Nothing.
+    /// It does nothing.
     Resting,
-    /// It asks for votes on the transaction for this operation of a client; those in the set are
-    /// for it.
+    /// It asks for votes on the transaction for this operation of a client; the hosts in the set
+    /// are for it.
     Voting {
         client: u16,
         votes: HostSet,
         number: u64,
     },
-    /// It tells that the transaction is committed; those in the set have seen it.
+    /// It reports the commit of the transaction; the hosts in the set have seen it.
     Telling {
         told: HostSet,
     },
 }
 
-/// A client that is answered when the commit is stable, and the number of its operation.
+/// A client to be answered when the commit is stable, and the number of its operation.
 #[derive(Clone, Copy, Debug, PartialEq, Eq)]
 pub struct Owed {
     pub client: u16,
     pub number: u64,
 }
 
-/// The coordinator's last transaction, and what it does with it.
+/// The coordinator's last transaction, and its phase.
 #[derive(Clone, Copy, Debug, PartialEq, Eq)]
 pub struct Conduct {
     /// The number of the transaction, 0 before the first.
@@ -64,12 +64,12 @@ pub struct Conduct {
     pub commits: bool,
     pub first: First,
     pub phase: Phase,
-    /// How many syncs it waits for.
+    /// The number of syncs that it waits for.
     pub unsure: u64,
     pub owed: Option<Owed>,
 }
 
-/// The coordinator: its conduct, and with which operation each host waits.
+/// The coordinator: its conduct, and the operation that each host waits with.
 #[derive(Clone, Copy, Debug)]
 pub struct Coordinator {
     pub conduct: Conduct,
@@ -88,18 +88,18 @@ pub enum Status {
 /// A participant.
 #[derive(Clone, Copy, Debug, PartialEq, Eq)]
 pub struct Participant {
-    /// The transaction that it was asked for last, 0 before the first.
+    /// The last transaction that it was asked for, 0 before the first.
     pub transaction: u64,
     pub status: Status,
     pub first: First,
-    /// How many syncs it waits for.
+    /// The number of syncs that it waits for.
     pub unsure: u64,
 }
 
-/// What a host is.
+/// The role of a host.
 #[derive(Debug, Drop)]
 pub enum Role {
-    /// A client waits for the answer to this operation, counted from 1.
+    /// A client waits for the answer to this operation, from 1.
     Client { next: u64 },
     Coordinator(Boxed<Coordinator>),
     Participant(Participant),
@@ -113,20 +113,20 @@ pub struct State {
     pub role: Role,
 }
 
-/// What those hosts waited with whose waiting a reaction has changed: the one that asked, and the
-/// one for which a transaction was begun after that.
+/// The slots that a reaction changed, as they were before: of the host that asked, and of the host
+/// for which a transaction was begun after that.
 #[derive(Clone, Copy, Debug, PartialEq, Eq)]
 pub struct Slots {
     pub asked: SlotBefore<u64>,
     pub begun: SlotBefore<u64>,
 }
 
-/// The record of a reaction: what the host was before it.
+/// The record of a reaction: the parts of the state before it that may have changed.
 #[derive(Clone, Copy, Debug, PartialEq, Eq)]
 pub enum CommitUndo {
-    /// A client waited for this operation.
+    /// A client that waited for this operation.
     Client { next: u64 },
-    /// The coordinator had this conduct, and hosts waited with this.
+    /// A coordinator with this conduct, and the slots that it changed.
     Coordinator { conduct: Conduct, slots: Slots },
     Participant(Participant),
 }

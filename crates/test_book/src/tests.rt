@@ -1,13 +1,13 @@
-//! Books of echo: the work of jumps, refusals in their order, and commands at random beside plain
+//! Books of echo: the work of jumps, refusals in their order, and random commands beside plain
 //! folds. Worked plays of whole scripts are in test_play.
 //!
 //! What each test catches:
 //! - `refusals_come_in_order`: a refusal for another reason, or a refused command that moves.
-//! - `a_frozen_run_has_the_kept_events`: a frozen run that is cut short, or with other events.
+//! - `a_frozen_run_has_the_kept_events`: a frozen run that is cut short, or has other events.
 //! - `a_rewind_stops_where_one_by_one_does`: a rewind that passes over a failing place.
 //! - `jumps_take_the_nearest_way`, `jumps_go_to_a_checkpoint`: a jump that replays or copies more,
-//!   or gives up; a branch whose world is not lent, or that is there before it is made.
-//! - `sessions_are_numbered_apart`: an entry under another number; a freeze that gives nothing.
+//!   or gives up; a branch whose world is not lent, or that exists before it is made.
+//! - `sessions_are_numbered_apart`: an entry under another number; a freeze that returns nothing.
 //! - `commands_at_random_are_folded`: a turn that answers want of memory for no reason, or that
 //!   leaves a branch another world than a fold of its events.
 mod folds;
@@ -25,10 +25,10 @@ use test_support::{Counts, Dice, Setting, TWO_ECHOES};
 
 type EchoBook = Book<Echo<Counts>>;
 
-/// The probe of a client of echo that tells its next operation.
+/// The probe of a client of echo that shows its next operation.
 const NEXT: u8 = 0;
 
-/// What a reply tells: of a list of events its length.
+/// What a reply says; of a list of events, its length.
 #[derive(Clone, Copy, Debug, PartialEq, Eq)]
 enum Told {
     Moved(u32, u64, Stop),
@@ -50,13 +50,13 @@ fn tell(reply: &Reply) -> Told {
     }
 }
 
-// It went as far as was asked.
+// Returns the answer of a command that went as far as asked.
 fn asked(place: u32, clock: u64) -> Told {
     Told::Moved(place, clock, Stop::Asked)
 }
 
-// One server and one client with this many operations, a checkpoint after each `interval` events,
-// and `window` records.
+// Returns a scenario of one server and one client with this many operations, a checkpoint after
+// each `interval` events, and `window` records.
 fn scenario(operations: u16, interval: u32, window: u32) -> Result<Scenario, Fail> {
     let setting = Setting {
         setup: Setup {
@@ -70,7 +70,7 @@ fn scenario(operations: u16, interval: u32, window: u32) -> Result<Scenario, Fai
     Ok(setting.scenario()?)
 }
 
-// A book whose first branch did all that can happen.
+// Makes a book whose first branch did all that can happen.
 fn ran(alloc: Global, operations: u16, interval: u32, window: u32) -> Result<EchoBook, Fail> {
     let scenario = scenario(operations, interval, window)?;
     let mut book = Book::new(alloc, &scenario, Counts::new())?;
@@ -78,7 +78,7 @@ fn ran(alloc: Global, operations: u16, interval: u32, window: u32) -> Result<Ech
     Ok(book)
 }
 
-// The command is answered so.
+// Checks that the command is answered like this.
 fn is_told(
     rt: &impl Abort,
     alloc: Global,
@@ -91,7 +91,7 @@ fn is_told(
     Ok(())
 }
 
-// The command is refused for this reason.
+// Checks that the command is refused for this reason.
 fn is_refused(
     rt: &impl Abort,
     alloc: Global,
@@ -102,7 +102,7 @@ fn is_refused(
     is_told(rt, alloc, book, command, Told::Refused(why))
 }
 
-// A place before the end of the first branch.
+// Checks refusals at a place before the end of the first branch.
 fn refuses(rt: &impl Abort, alloc: Global, book: &mut EchoBook) -> Result<(), Fail> {
     let unknown = Refusal::UnknownHost;
     is_told(rt, alloc, book, Command::Back(0, 1), asked(5, 30))?;
@@ -147,7 +147,7 @@ fn refuses(rt: &impl Abort, alloc: Global, book: &mut EchoBook) -> Result<(), Fa
     )
 }
 
-// What is asked of a host by a probe that it does not have, or by a condition without terms.
+// Checks refusals of a probe that a host does not have, and of a condition without terms.
 fn refuses_conditions(rt: &impl Abort, alloc: Global, book: &mut EchoBook) -> Result<(), Fail> {
     let bad = Refusal::BadCondition;
     is_refused(rt, alloc, book, Command::Look(0, Query::Probe(0, 9)), bad)?;
@@ -175,7 +175,7 @@ const KEPT: [Event; 8] = [
     Event::Advance(240),
 ];
 
-// The frozen events of branch 0.
+// Checks the frozen events of branch 0.
 fn has_kept(rt: &impl Abort, alloc: Global, book: &EchoBook) -> Result<(), Fail> {
     if book.warm(0).is_none() {
         return Err(Fail::from("no branch"));
@@ -196,7 +196,7 @@ fn a_frozen_run_has_the_kept_events(rt: HostRuntime) -> Result<(), Fail> {
     has_kept(&rt, rt.alloc(), &book)
 }
 
-// A rewind from a place to the start, by this many events at a time, until a watch fails.
+// Rewinds from a place to the start, by this many events at a time, until a watch fails.
 fn rewound(alloc: Global, book: &mut EchoBook, from: u32, count: u32) -> Result<Told, Fail> {
     book.turn(alloc, 0, Command::Goto(0, from))?;
     for _ in 0..from {
@@ -209,7 +209,7 @@ fn rewound(alloc: Global, book: &mut EchoBook, from: u32, count: u32) -> Result<
     Err(Fail::from("not at the start"))
 }
 
-// The client's next operation is greater than a number.
+// Returns the condition that the client's next operation is greater than a number.
 fn next_above(alloc: Global, number: u64) -> Result<SharedCond, Fail> {
     let most = Comparison {
         op: Op::Greater,
@@ -219,7 +219,7 @@ fn next_above(alloc: Global, number: u64) -> Result<SharedCond, Fail> {
     Ok(SharedCond::new(alloc, cond)?)
 }
 
-// The rewind from place 12 stops where one event at a time does.
+// Checks that the rewind from place 12 stops where one event at a time does.
 fn stops_alike(
     rt: &impl Abort,
     alloc: Global,
@@ -246,8 +246,8 @@ fn a_rewind_stops_where_one_by_one_does(rt: HostRuntime) -> Result<(), Fail> {
     Ok(())
 }
 
-// A jump is answered so, and takes this many turns, copies and undos; the only branch's world is
-// there.
+// Checks that a jump is answered like this, that it takes this many turns, copies and undos, and
+// that the only branch's world is warm.
 fn jumps(
     rt: &impl Abort,
     alloc: Global,
@@ -278,7 +278,7 @@ fn jumps_go_to_a_checkpoint(rt: HostRuntime) -> Result<(), Fail> {
     jumps(&rt, rt.alloc(), &mut book, 2, 0, (0, 2, 0))
 }
 
-// A session's command has this number, and leads to this place.
+// Checks that a session's command has this number, and leads to this place.
 fn is_numbered(
     rt: &impl Abort,
     alloc: Global,
@@ -307,7 +307,7 @@ fn sessions_are_numbered_apart(rt: HostRuntime) -> Result<(), Fail> {
     Ok(())
 }
 
-// This many turns at random.
+// Takes this many random turns.
 fn turns_at_random(rt: &impl Abort, alloc: Global, seed: u64, turns: u32) -> Result<(), Fail> {
     let scenario = scenario(9, 3, 2)?;
     let mut fold = Fold::new(alloc, &scenario)?;

@@ -1,4 +1,4 @@
-//! Lines that are bad, and why.
+//! Bad lines, and why they are bad.
 use crate::tests::names;
 use sim_script::{Expected, mistake_of};
 use std::alloc::Global;
@@ -43,7 +43,7 @@ watch up a or done b1 or Zz
 watch up a or up a or up a or up a or up a or up a or up a or up a or up a
 ";
 
-/// What is told of them, as the page of scripts says what may stand in a line.
+/// The mistakes of these lines, as docs/SCRIPT.md says what a line may have.
 const TOLD: &str = "word 1: expected a command
 word 1: expected a command
 word 1: expected `@` and the number of a branch
@@ -90,7 +90,7 @@ look
 @3 watch up zz
 ";
 
-/// What is told of the lines of a text, with `fine` for a line that is not bad.
+/// Returns the mistakes of the lines of a text, with `fine` for a line that is not bad.
 fn told(alloc: Global, text: &str) -> Result<String, Fail> {
     let names = names(alloc)?;
     let mut told = String::new(alloc);

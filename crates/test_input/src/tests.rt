@@ -1,10 +1,10 @@
 //! Inputs that are written. What each test would catch, where the proofs say nothing:
 //!
-//! * `scripts`: a line that reads back as its event, but is not what the page of scripts says, and
-//!   an event that is refused though it has a line.
-//! * `conditions`: a condition that is written otherwise than the page of scripts says, as with two
-//!   spaces, or is refused though it can be written.
-//! * `mistakes::mistakes`: a bad line that is told to be bad at another word, or for another
+//! * `scripts`: a line that reads back as its event, but differs from docs/SCRIPT.md, and an event
+//!   that is refused though it has a line.
+//! * `conditions`: a condition that differs from docs/SCRIPT.md, for example by two spaces, or is
+//!   refused though it can be written.
+//! * `mistakes::mistakes`: a bad line whose mistake is reported at another word, or for another
 //!   reason.
 ghost use Rattle.std.specs.Prelude.{◌≡◌, codes, [], ◌∷◌, vec_len, IfOk};
 
@@ -58,7 +58,7 @@ impl Protocols for Echo {
     }
 }
 
-/// What the events below are written as.
+/// The lines of the events below.
 const SCRIPT: &str = "step
 crash a
 bounce b1
@@ -104,7 +104,7 @@ pub fn names(alloc: Global) -> Result<Names, AllocError> {
     }
 }
 
-/// Whether the event alone has no line.
+/// Returns whether the event alone has no line.
 fn is_refused(alloc: Global, names: &Names, event: Event) -> bool {
     matches!(
         script(alloc, names, [event].as_slice()),
@@ -112,7 +112,7 @@ fn is_refused(alloc: Global, names: &Names, event: Event) -> bool {
     )
 }
 
-/// The script of the events.
+/// Returns the script of the events.
 fn written(alloc: Global, names: &Names) -> Result<String, AllocError> {
     match script(alloc, names, events().as_slice()) {
         Ok(text) => Ok(text),
@@ -120,7 +120,7 @@ fn written(alloc: Global, names: &Names) -> Result<String, AllocError> {
     }
 }
 
-/// The condition that a text writes, written.
+/// Reads a condition and writes it again.
 fn rewritten(alloc: Global, names: &Names, text: &str) -> Result<String, Fail> {
     let cond = condition_of(names, text.as_bytes()).ok_or("no condition")?;
     let mut written = String::new(alloc);
@@ -128,7 +128,7 @@ fn rewritten(alloc: Global, names: &Names, text: &str) -> Result<String, Fail> {
     Ok(written)
 }
 
-/// Whether the condition that a text writes cannot be written.
+/// Returns whether the condition of a text cannot be written.
 fn is_lost(alloc: Global, names: &Names, text: &str) -> bool {
     let Some(cond) = condition_of(names, text.as_bytes()) else {
         return false;

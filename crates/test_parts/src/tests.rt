@@ -1,4 +1,4 @@
-//! A test is rows of acts on one value, each with the answer that is wanted.
+//! A test is rows of acts on one value, each with its expected answer.
 mod disk;
 mod echo;
 mod lines;

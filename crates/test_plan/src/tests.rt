@@ -4,7 +4,7 @@
 //! - `the_run_of_a_seed`: a word that is read as another event than the definition says.
 //! - `the_run_of_a_seed_without_faults`: no spacing that is read as no events.
 //! - `first_seed_that_disagrees`: a sweep that gives up, with one worker or with several.
-//! - `first_seed_that_is_not_done`: a quiet end that heals nothing, or is looked at too early.
+//! - `first_seed_that_is_not_done`: a quiet end that heals nothing, or is checked too early.
 ghost use Rattle.std.specs.Prelude.{◌≡◌, ◌<◌, ◌≤◌, IfOk, replicate, vec_len};
 ghost use Rattle.sim_plan.specs.Happening.{IsPlan};
 
@@ -29,10 +29,10 @@ const FAULTS: Plan = Plan {
     at_end: false,
 };
 
-// The probe of what a server has decided about the first transaction.
+// The probe of a server's decision on the first transaction.
 const FIRST: u8 = 1;
 
-// Servers a and b, and client w with three operations.
+// Returns a scenario with servers a and b, and client w with three operations.
 fn scenario() -> Result<Scenario, Fail>
     ensures { IfOk result (λ s. s.seed ≡ replicate 32 0) }
 {
@@ -59,7 +59,7 @@ fn tallies(alloc: Global, count: u32) -> Result<Vec<Tally>, AllocError>
     Ok(tallies)
 }
 
-// The first of 1,500 seeds with a place at which the condition fails.
+// Returns the first of 1,500 seeds under which the condition fails, and its first such place.
 fn first<R: Threads + Wait + Sync + Abort>(
     rt: &R,
     alloc: Global,
@@ -118,7 +118,7 @@ const RUN_654: &str = "Step; Step; Step; Step; Step; Step; Step; Step; Step; Ste
     Fault(Bounce(0)); Step; Step; Fault(Crash(1)); Step; Step; Fault(Bounce(0)); Step; Step; Step; \
     Step; Fault(Bounce(1)); Step; Step; ";
 
-// The planned run of seed number 654, as text.
+// Returns the planned run of seed number 654, as text.
 fn run_654(alloc: Global, plan: Plan) -> Result<String, Fail>
     requires { IsPlan 0 plan }
 {

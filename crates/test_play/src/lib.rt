@@ -1,20 +1,20 @@
-//! Plays by their bytes: what is written for what is read. There is nothing here but tests.
+//! Tests of plays by their bytes: the output for an input. There is nothing else here.
 //!
-//! `play` is proved to write the text that its definition gives. These tests say what that text is,
-//! byte by byte, for inputs whose answers were worked out by hand from docs/SCRIPT.md and
-//! docs/WORLD.md, or by another implementation of these rules. They never come from the program's
-//! own output. `tests.rt` says what each test would catch.
+//! `play` is proved to write the text of its definition. These tests say what that text is, byte by
+//! byte, for inputs whose answers were worked out by hand from docs/SCRIPT.md and docs/WORLD.md, or
+//! by another implementation of these rules. They never come from the program's own output.
+//! `tests.rt` says what each test would catch.
 //!
 //! - `examples`, `torn`: each play of the folder `examples`, with its answers.
 //! - `rows`: small plays in both formats, for 15 pairs of checkpoint and window from the least to
 //!   the greatest. No pair may change a byte.
 //! - `lines`, `faults`, `probes`: lines of scripts, faults of scenarios, names of probes.
 //! - `full`: 65,536 events and commands, 64 branches, eight watches.
-//! - `streams`, `ports`: readers and writers that go a byte at a time, and that fail at each call
-//!   in turn. A contract does not rule out that a play blames them without cause; these tests do.
+//! - `streams`, `ports`: readers and writers of one byte a call, which fail at each call in turn. A
+//!   contract does not rule out that a play blames them without cause; these tests do.
 //!
-//! The reader holds slices and the writer compares what it takes with a slice. So a play owns
-//! nothing here, and the prover has nothing to go through at its exits.
+//! The reader holds slices, and the writer compares the bytes that it gets with a slice. So a play
+//! owns nothing here, and the prover has nothing to go through at its exits.
 //!
 //! The tests have a crate of their own, since a crate with tests is proved twice. Here that is an
 //! empty library.

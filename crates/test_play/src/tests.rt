@@ -1,5 +1,5 @@
-//! What is written for what is read. What is expected was worked out by hand from the rules, or by
-//! another implementation of them.
+//! The output of plays for their input. The expected bytes were worked out by hand from the rules,
+//! or by another implementation of them.
 //!
 //! What each test catches:
 //! - `examples`, `torn`, `rows`: a command that is answered in other words, or by another world, of
@@ -8,7 +8,7 @@
 //! - `full`: a table that is full early, or takes more than its limit; a trace of 5,000 events or
 //!   of a late branch that is cut off or has other events.
 //! - `faults`: a scenario that is read as another, or refused for another reason.
-//! - `lines`: a line that is taken, or refused, against the rules of scripts.
+//! - `lines`: a line that is accepted, or refused, against the rules of scripts.
 //! - `streams::plays_a_byte_at_a_time`: answers that wait for a later line.
 //! - `streams::answers_whole_lines_up_to_a_failed_read`: a play that blames its reader without
 //!   cause, or not at all, or loses an answer.

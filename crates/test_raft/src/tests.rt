@@ -20,8 +20,8 @@ const C8: u8 = 12;
 
 const E1: u8 = 13;
 
-// Three servers, and two clients of six operations. A message takes 5 to 45 ms. The seed's last two
-// bytes, and how long a sync takes (ms).
+// Returns a scenario of three servers, and two clients of six operations. A message takes 5 to 45
+// ms. `seed` is the seed's last two bytes; `disk_latency` is in ms.
 fn scenario(seed: (u8, u8), disk_latency: u32) -> Result<Scenario, BadLimits> {
     let mut bytes = [0; 32];
     bytes[30] = seed.0;
@@ -48,7 +48,7 @@ fn scenario(seed: (u8, u8), disk_latency: u32) -> Result<Scenario, BadLimits> {
 // Server 0 has voted, and starts again before its vote is stable.
 const VOTER_BOUNCES: [Act; 2] = [Act::Steps(13), Act::Fault(Fault::Bounce(0))];
 
-// A server falls, and later the servers cannot all talk to each other.
+// A server crashes, and later the servers cannot all reach each other.
 const LEADERS_CHANGE: [Act; 10] = [
     Act::Steps(14),
     Act::Fault(Fault::Crash(1)),
@@ -62,7 +62,7 @@ const LEADERS_CHANGE: [Act; 10] = [
     Act::Fault(Fault::Repair(1, 2)),
 ];
 
-// A cluster goes through the first acts and then the others, and back.
+// Checks that a cluster goes through the first acts and then the others, and back.
 fn all_play<N: Node>(
     alloc: Global,
     scenario: &Scenario,

@@ -1,8 +1,8 @@
-//! Scenarios with the seed of a numbered run. There is nothing here but tests.
+//! Tests of scenarios with the seed of a numbered run. There is nothing else here.
 //!
 //! It is proved that such a text is read as the scenario with the number in its seed. The contract
 //! leaves open how the text is laid out, and the definition could put the number elsewhere than the
-//! code of a sweep does. What is expected was worked out by hand.
+//! code of a sweep does. The expected texts were worked out by hand.
 //!
 //! - The text of run 654 of an example is compared byte by byte, in the order of keys in which the
 //!   library for TOML prints tables.

@@ -1,7 +1,7 @@
-//! Scenarios with the seed of a numbered run. What is expected was worked out by hand. What each
+//! Scenarios with the seed of a numbered run. The expected texts were worked out by hand. What each
 //! test would catch, where the proofs say nothing:
 //!
-//! * `a_sweep_finds_a_play`: a call that never succeeds, a number that does not stand where a sweep
+//! * `a_sweep_finds_a_play`: a call that never succeeds, a number at another place than a sweep
 //!   puts it, a text that is not laid out as the library prints tables.
 //! * `bytes_of_a_number`: the other order of bytes, or other places, in definition and code alike.
 //! * `texts_are_refused`: an error of another name than the documentation says.
@@ -14,7 +14,7 @@ use std::alloc::Global;
 use std::fmt::Debug;
 use std::test::Fail;
 
-/// Two values are the same, or the test fails.
+/// Fails unless two values are equal.
 fn same<T: PartialEq + Debug>(seen: &T, wanted: &T, what: &str) -> Result<(), Fail> {
     if seen == wanted {
         return Ok(());
@@ -48,7 +48,7 @@ latency_max = 2
 loss = 3
 ";
 
-/// The same of run number 654, which is 0x28e, as the library prints tables.
+/// The same for run number 654, which is 0x28e, as the library prints tables.
 const NUMBERED: &str = "checkpoint = 4
 disk_latency = 5
 format = 2
@@ -78,7 +78,7 @@ const SEED_654: [u8; 32] = [
     0,
 ];
 
-/// The text of a run, or the word of the error.
+/// Returns the text of a run, or the word of the error.
 fn text_of(alloc: Global, text: &str, number: u64) -> Result<String, Fail> {
     match numbered_text(alloc, text, number) {
         Ok(text) => Ok(text),
@@ -113,7 +113,7 @@ fn a_sweep_finds_a_play(rt: HostRuntime) -> Result<(), Fail> {
 /// A table with a seed, and nothing else.
 const SEED: &str = "seed = \"00112233445566778899aAbBcCdDeEfF0001020304050607ffffffffffffffff\"";
 
-/// Numbers, and what they make of it.
+/// Numbers, and their bytes in the seed.
 const SEEDS: [(u64, &str); 3] = [
     (0, "0000000000000000"),
     (0x0102_0304_0506_0708, "0807060504030201"),
@@ -144,7 +144,7 @@ const REFUSED: [&str; 7] = [
     "seed = \"00112233445566778899aabbccddeeff000102030405060708090a0b0c0d0e0f\"\n[x]",
 ];
 
-/// A text of 36,000 bytes with so many tables that their lines are more than 65,536.
+/// Returns a text of 36,000 bytes with so many tables that their lines are more than 65,536 bytes.
 fn wide(alloc: Global) -> Result<String, Fail> {
     let mut text = format!(in alloc; "{SEED}\nx = [")?;
     for _ in 0..6000 {

@@ -1,11 +1,11 @@
-//! Texts of scenarios. What is expected was worked out from the format's description. What each
+//! Texts of scenarios. The expected values were worked out from the format's description. What each
 //! test would catch, where proofs say nothing or definitions may be wrong:
 //!
-//! * `tables_hold`: a text that is answered with another fault, number or key than the format says,
+//! * `tables_hold`: a text that is refused with another fault, number or key than the format says,
 //!   or refused though it is a scenario; the order of faults.
 //! * `short_and_long_texts`: no text, a comment, the limit of 65,536 bytes, line ends of two bytes.
 //! * `texts_say_what_they_say`: a value, a name or a way that is read from elsewhere.
-//! * `faults_and_names`: what a fault prints, the number of want of memory, and which names are
+//! * `faults_and_names`: the text of a fault, the number of want of memory, and which names are
 //!   names.
 
 mod links;
@@ -22,7 +22,7 @@ use std::alloc::{AllocError, Global};
 use std::test::Fail;
 use texts::{LINES, is_answered, padded, rows_hold, text_with, with_crlf};
 
-// What texts of format 1 are answered.
+// Checks the answers to texts of format 1.
 fn first_format_holds(alloc: Global) -> Result<(), Fail> {
     rows_hold(alloc, LINES, rows::NOT_TOML)?;
     rows_hold(alloc, LINES, rows::UNKNOWN_KEYS)?;
@@ -48,14 +48,14 @@ fn tables_hold(rt: HostRuntime) -> Result<(), Fail> {
     rows_hold(rt.alloc(), LINES_2, links::NO_LINK)
 }
 
-/// A text of a length, with an end that is no document.
+/// A text of this length, with an end that is no document.
 const LENGTHS: [(usize, &str, &str); 3] = [
     (65_536, "", "0"),
     (65_537, "", "1 text"),
     (65_537, "\n]", "1 text"),
 ];
 
-/// Whether a text of this length is answered so.
+/// Returns whether a text of this length has this answer.
 fn is_long_answered(
     alloc: Global,
     len: usize,
@@ -66,7 +66,7 @@ fn is_long_answered(
     Ok(is_answered(alloc, text.as_str(), wanted))
 }
 
-/// Whether a text whose lines end in two bytes is a scenario.
+/// Returns whether a text whose lines end in two bytes is a scenario.
 fn is_crlf_answered(alloc: Global) -> Result<bool, AllocError> {
     let text = text_with(alloc, LINES, "")?;
     let text = with_crlf(alloc, text.as_str())?;
@@ -151,7 +151,7 @@ fn texts_say_what_they_say(rt: HostRuntime) -> Result<(), Fail> {
     ways_of_links(rt.alloc())
 }
 
-/// What a fault prints.
+/// Checks the text of a fault.
 fn a_fault_is_printed(alloc: Global) -> Result<(), Fail> {
     let fault = ScenarioFault::UnknownKey(String::from_str(alloc, "tock")?);
     same(&fault.number(), &3, "number")?;

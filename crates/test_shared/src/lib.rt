@@ -1,11 +1,11 @@
-//! Books of echo that sessions share, each session in a thread of its own. There is nothing here
-//! but tests.
+//! Tests of books of echo that sessions share, each session in a thread of its own. There is
+//! nothing else here.
 //!
 //! The contract of `Shared` says that every receipt is an entry and that the history is one that a
 //! single user could have made. It cannot say that a call returns. These tests run eight sessions
-//! in eight threads and look at the history at the end. `tests.rt` says what each would catch.
+//! in eight threads and check the history at the end. `tests.rt` says what each would catch.
 //!
-//! - A branch for each session: what a session is answered does not depend on the others.
+//! - A branch for each session: the answers to a session do not depend on the others.
 //! - One branch for all: no entry is lost, doubled or out of its session's order.
 //! - A frozen run beside running sessions, and a full history, where each call still returns.
 //!

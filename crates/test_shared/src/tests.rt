@@ -5,7 +5,7 @@
 //!   session moved.
 //! - `one_branch_for_all_sessions`: a receipt that is no entry, or an entry that is lost, doubled
 //!   or out of its session's order, where all sessions move one world.
-//! - `a_freeze_gives_a_run`: a freeze that gives nothing.
-//! - `a_full_history`: a call or a freeze that waits, or says something else, where the history is
-//!   full; a history that is full early.
+//! - `a_freeze_gives_a_run`: a freeze that returns nothing.
+//! - `a_full_history`: a call or a freeze that waits, or returns something else, when the history
+//!   is full; a history that is full early.
 mod crowds;

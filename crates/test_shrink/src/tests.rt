@@ -1,8 +1,8 @@
-//! Runs of two-phase commit with planned faults, and what is left of them.
+//! Runs of two-phase commit with planned faults, and their shrunk runs.
 //!
 //! What each test catches:
 //! - `four_faults_are_left`: a search that gives up or keeps what is not needed, and one that does
-//!   not tell how far it has come.
+//!   not report its progress.
 //! - `nothing_fails`: a run that is made of a condition that holds everywhere.
 //! - `a_host_that_is_not_there`: a condition that is not checked.
 ghost use Rattle.std.specs.Prelude.{◌≡◌, IfOk, replicate};
@@ -26,10 +26,10 @@ const FAULTS: Plan = Plan {
     at_end: false,
 };
 
-// The probe of what a server has decided about the first transaction.
+// The probe of a server's decision on the first transaction.
 const FIRST: u8 = 1;
 
-// What it heard last.
+// The last report to a listener.
 #[derive(Drop)]
 struct Last {
     faults: u64,
@@ -43,7 +43,7 @@ impl Listener for Last {
     }
 }
 
-// Servers a and b, and client w with three operations.
+// Returns a scenario with servers a and b, and client w with three operations.
 fn scenario() -> Result<Scenario, Fail>
     ensures { IfOk result (λ s. s.seed ≡ replicate 32 0) }
 {
@@ -64,7 +64,7 @@ const RUN_654: &str = "Step; Step; Step; Step; Step; Step; Step; Step; Step; Ste
     Fault(Bounce(0)); Step; Step; Fault(Crash(1)); Step; Step; Fault(Bounce(0)); Step; Step; Step; \
     Step; Fault(Bounce(1)); Step; Step; ";
 
-// The events, one after the other.
+// Returns the events as text, one after the other.
 fn text_of(alloc: Global, events: &[Event]) -> Result<String, Fail> {
     let mut text = String::new(alloc);
     for event in events {

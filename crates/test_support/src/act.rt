@@ -7,16 +7,16 @@ use sim_world::{Coming, Event, Fault, Kind, NoMemory, Query, Refusal, Scenario, 
 use std::alloc::Global;
 use std::test::Fail;
 
-/// More events than a play has.
+/// More events than any play has.
 const MOST_EVENTS: u32 = 1_000;
 
-/// What happens in a run, or what is seen of it then.
+/// An event of a run, or a check of the world then.
 #[derive(Clone, Copy)]
 pub enum Act {
     /// This many steps happen, at least one.
     Steps(u32),
     Fault(Fault),
-    /// The clock goes on to this time (ms).
+    /// The clock advances to this time (ms).
     Advance(u64),
     /// The event cannot happen, for this reason.
     Refused(Event, Refusal),
@@ -30,7 +30,7 @@ pub enum Act {
     Done(u16),
     /// The whole world: clock, serial, net, torn, pending, held.
     Summary(u64, u64, u64, u64, u32, u32),
-    /// What comes next: due, serial, host, kind.
+    /// The first pending occurrence: due, serial, host, kind.
     Next(u64, u64, u16, Kind),
     /// A direction: its ends, its state, and how many messages it holds.
     Link(u16, u16, LinkState, u32),
@@ -38,12 +38,12 @@ pub enum Act {
     Host(u16, bool, u64, u32, u32),
     /// The same of a host that is done.
     DoneHost(u16, bool, u64, u32, u32),
-    /// A probe of a host, which shows nothing where the host is stopped.
+    /// A probe of a host; `None` if the host is stopped.
     Probe(u16, u8, Option<u64>),
 }
 
 impl Act {
-    // What happens, if something does.
+    // Returns the event of the act, if it has one.
     fn event(self) -> Option<Event> {
         match self {
             Act::Steps(_) => Some(Event::Step),
@@ -53,7 +53,7 @@ impl Act {
         }
     }
 
-    // What is to be looked at, and what it is to show.
+    // Returns the query of the act and the expected view, if it has one.
     fn view(self) -> Option<(Query, View)> {
         match self {
             Act::Summary(clock, serial, net, torn, pending, held) => {
@@ -117,7 +117,7 @@ impl Act {
         }
     }
 
-    // Whether the world is as the act says.
+    // Returns whether the world is as the act says.
     fn holds<N: Node>(self, world: &World<N>) -> bool {
         match self {
             Act::Refused(event, why) => world.can(event) == Err(why),
@@ -133,7 +133,7 @@ impl Act {
     }
 }
 
-// What a query shows, if it names what is there.
+// Returns the view for a query, if what it names exists.
 fn shown<N: Node>(world: &World<N>, query: Query) -> Option<View> {
     let hosts = world.hosts();
     match query {
@@ -148,7 +148,7 @@ fn shown<N: Node>(world: &World<N>, query: Query) -> Option<View> {
     }
 }
 
-// What one sees of a host, of the directions from it and of its probes.
+// Adds the views of a host, of the directions from it and of its probes.
 fn looks_at<N: Node>(world: &World<N>, host: u16, views: &mut Vec<View>) -> Result<(), NoMemory>
     requires { host < world.now.scenario.setup.hosts }
 {
@@ -162,7 +162,7 @@ fn looks_at<N: Node>(world: &World<N>, host: u16, views: &mut Vec<View>) -> Resu
     Ok(())
 }
 
-/// All that one sees of a world.
+/// Returns all views of a world.
 pub fn looks<N: Node>(alloc: Global, world: &World<N>) -> Result<Vec<View>, NoMemory> {
     let mut views = Vec::new(alloc);
     views.push(world.look(Query::Summary))?;
@@ -173,11 +173,11 @@ pub fn looks<N: Node>(alloc: Global, world: &World<N>) -> Result<Vec<View>, NoMe
     Ok(views)
 }
 
-/// Acts as the course of a run. It fails at the first that does not hold.
+/// Acts as the course of a run. It fails at the first act that does not hold.
 #[derive(Drop)]
 struct Acts<'a> {
     acts: &'a [Act],
-    // How many acts were taken, and how many steps of the last are left.
+    // How many acts were taken, and how many steps of the last act are left.
     taken: usize,
     steps: u32,
 }
@@ -224,8 +224,8 @@ fn round<N: Node>(
     Ok(world)
 }
 
-/// Goes through the acts from the start of a cluster, and back: it looks as it did. And the same
-/// again.
+/// Goes through the acts from the start of a cluster, and back, and checks that all views are as
+/// before. Then does the same again.
 pub fn plays<N: Node>(
     alloc: Global,
     scenario: &Scenario,

@@ -1,8 +1,8 @@
 use sim_node::Meter;
 use sim_tally::Tally;
 
-/// A meter that counts in numbers: without limit for contracts, and in numbers that stay at their
-/// most once they are there.
+/// A meter that counts in numbers: without limit for contracts, and at run time up to the greatest
+/// number.
 #[derive(Drop)]
 pub struct Counts {
     tally: Tally,
@@ -12,7 +12,7 @@ pub struct Counts {
 }
 
 impl Counts {
-    /// Nothing has been counted.
+    /// Makes a meter that has counted nothing.
     pub fn new() -> Counts {
         Counts {
             tally: Tally::new(),
@@ -22,12 +22,12 @@ impl Counts {
         }
     }
 
-    /// The turns, the copies and the undos.
+    /// Returns the turns, the copies and the undos.
     pub fn counted(&self) -> (u64, u64, u64) {
         (self.turns, self.copies, self.undos)
     }
 
-    /// What was counted since a time at which this much was counted.
+    /// Returns the counts since a time at which they were `before`.
     pub fn since(&self, before: (u64, u64, u64)) -> (u64, u64, u64) {
         (
             self.turns.saturating_sub(before.0),

@@ -1,4 +1,4 @@
-//! Runs that go there and back: by their records, to the very world that they began with.
+//! Runs that go there and back by their records, to exactly the world that they began with.
 ghost use Rattle.std.specs.Prelude.{◌≡◌, ◌-◌, IfOk};
 ghost use Rattle.sim_world.specs.Records.{LeadsBack, back};
 
@@ -9,12 +9,12 @@ use std::test::Fail;
 
 /// Chooses the events of a run, one by one.
 pub trait Course {
-    /// The event that follows, or none where the run ends. Fails where the world is not as it is
-    /// to be.
+    /// Returns the next event, or `None` at the end of the run. Fails if the world is not the
+    /// expected one.
     fn next<N: Node>(&mut self, world: &World<N>) -> Result<Option<Event>, Fail>;
 }
 
-/// The world after an event, and the record that takes it back. Fails where the event cannot
+/// Returns the world after an event, and the record that undoes it. Fails if the event cannot
 /// happen.
 pub fn applied<N: Node>(
     alloc: Global,
@@ -37,7 +37,7 @@ pub fn applied<N: Node>(
     Ok(world.apply(alloc, event, meter)?)
 }
 
-/// The world after these events.
+/// Returns the world after these events.
 pub fn ran<N: Node>(
     alloc: Global,
     world: World<N>,
@@ -52,8 +52,8 @@ pub fn ran<N: Node>(
     Ok(now)
 }
 
-/// Takes the course, for at most this many events, and goes back by the records: the world is the
-/// one before.
+/// Takes the course, for at most `most` events, and goes back by the records. The world is the one
+/// before.
 pub fn there_and_back<N: Node, C: Course>(
     alloc: Global,
     world: World<N>,

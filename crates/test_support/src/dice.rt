@@ -12,7 +12,7 @@ impl Dice {
         Dice(seed)
     }
 
-    /// The next number below `most`, which is not 0.
+    /// Returns the next number below `most`, which is not 0.
     pub fn below(&mut self, most: u32) -> u32
         requires { 0 < most }
         ensures { result < most }
@@ -25,7 +25,7 @@ impl Dice {
     }
 }
 
-// The fault that a number below 9 names.
+// Returns the fault for a number below 9.
 fn fault(number: u32, a: u16, b: u16) -> Fault {
     match number {
         0 => Fault::Crash(a),
@@ -39,7 +39,8 @@ fn fault(number: u32, a: u16, b: u16) -> Fault {
     }
 }
 
-// A time to which the clock can go on (ms): that of what comes next, or some time later.
+// Returns a time to which the clock can advance (ms): the due of the next occurrence, or some time
+// later.
 fn later<N: Node>(world: &World<N>) -> u64 {
     match world.look(Query::Next) {
         View::Next(Some(coming)) => coming.due,
@@ -47,7 +48,7 @@ fn later<N: Node>(world: &World<N>) -> u64 {
     }
 }
 
-/// An event at random, or where it cannot happen the start of a host. Five of eight are steps.
+/// Returns a random event, or the start of a host if it cannot happen. Five of eight are steps.
 pub fn event_at_random<N: Node>(world: &World<N>, dice: &mut Dice) -> Event {
     let hosts = u32::from(world.hosts().max(1));
     let (a, b) = (dice.below(hosts) as u16, dice.below(hosts) as u16);

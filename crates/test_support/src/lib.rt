@@ -5,8 +5,8 @@
 //! - [`there_and_back`] takes a run event by event and goes back by its records. It is proved for
 //!   all node types that the world at the end is the one at the start, so no test that calls it
 //!   proves this again. A [`Course`] chooses the events.
-//! - [`Act`] is a course of rows: an event, or something that is seen there, with the value that is
-//!   wanted. [`plays`] goes through such rows, back, and through them again.
+//! - [`Act`] is a course of rows: an event, or a check of the world with the expected value.
+//!   [`plays`] goes through such rows, back, and through them again.
 //! - [`event_at_random`] chooses an event by [`Dice`]: numbers that look random, the same each
 //!   time.
 //! - [`Counts`] is a meter that counts at run time, which the program's own does not.

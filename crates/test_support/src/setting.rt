@@ -4,7 +4,7 @@ use sim_links::{Way, Ways};
 use sim_node::Setup;
 use sim_world::{BadLimits, Scenario};
 
-/// What a scenario is made of. A tick has 100 ms, and all directions are alike.
+/// The numbers of a scenario. A tick has 100 ms, and all directions are alike.
 #[derive(Clone, Copy)]
 pub struct Setting {
     pub seed: [u8; 32],
@@ -15,7 +15,7 @@ pub struct Setting {
     pub window: u32,
 }
 
-/// A way on which each message takes this long (ms), and none is lost.
+/// Returns a way on which each message takes `latency` ms, and none is lost.
 pub const fn steady(latency: u32) -> Way {
     Way {
         latency_min: latency,
@@ -25,7 +25,7 @@ pub const fn steady(latency: u32) -> Way {
 }
 
 /// One server and one client, which has two operations. A message takes 10 ms, a sync no time. The
-/// seed is of zeros; a checkpoint follows each fourth event, and two events have records.
+/// seed is all zeros, the interval four events, and the window two.
 pub const TWO_ECHOES: Setting = Setting {
     seed: [0; 32],
     way: Way {
@@ -44,7 +44,7 @@ pub const TWO_ECHOES: Setting = Setting {
 };
 
 impl Setting {
-    /// The scenario. Fails where a number is out of its range.
+    /// Returns the scenario. Fails if a number is out of its range.
     pub fn scenario(&self) -> Result<Scenario, BadLimits>
         ensures { IfOk result (λ s. s.setup ≡ self.now.setup) }
     {

@@ -1,7 +1,7 @@
 //! Tapes of echo. What each test would catch, where proofs say nothing or definitions may be wrong:
 //!
-//! * `tapes_go_by_their_rows`: a tape that never has memory; places, clocks and views that are
-//!   other than what one works out by hand; more turns, copies or undos than a call may take.
+//! * `tapes_go_by_their_rows`: a tape that never has memory; places, clocks and views other than
+//!   one works out by hand; more turns, copies or undos than a call may take.
 //! * `branches_and_frozen_runs`: a branch, or a frozen run, that changes with its origin.
 //! * `walks_are_as_plain_runs`, `walks_by_long_intervals_are_as_plain_runs`: any call that leaves
 //!   another world, other events or a shorter reach than steps from the start do, or that works
@@ -30,7 +30,7 @@ const RUN: [Act; 6] = [
     Act::Step(40),
 ];
 
-// Two servers and two clients, over ways that lose a message in ten.
+// Returns a scenario of two servers and two clients, over ways that lose one message in ten.
 fn large_scenario(interval: u32, window: u32) -> Result<Scenario, Fail> {
     let setting = Setting {
         seed: [0; 32],
@@ -51,8 +51,7 @@ fn large_scenario(interval: u32, window: u32) -> Result<Scenario, Fail> {
     Ok(setting.scenario()?)
 }
 
-// How many events lie between two checkpoints, how many have records, what happens first, and the
-// acts.
+// The interval, the window, the acts to begin with, and the acts to check.
 type Row = (u32, u32, &'static [Act], &'static [Act]);
 
 const ROWS: [Row; 7] = [
@@ -69,7 +68,7 @@ const ROWS: [Row; 7] = [
             Act::Summary(6, 40, 6, 8, 0, 0),
         ],
     ),
-    // A release is taken back.
+    // A release is undone.
     (
         4,
         2,
@@ -86,7 +85,7 @@ const ROWS: [Row; 7] = [
             Act::Message,
         ],
     ),
-    // A crash is taken back.
+    // A crash is undone.
     (
         4,
         2,
@@ -118,7 +117,7 @@ const ROWS: [Row; 7] = [
             Act::Place(6, 6, 40),
         ],
     ),
-    // Adding counts a turn and each checkpoint.
+    // Adding an event counts a turn, and the copies of each checkpoint.
     (
         4,
         2,
@@ -173,7 +172,7 @@ fn tapes_go_by_their_rows(rt: HostRuntime) -> Result<(), Fail> {
     all_go_by(rt.alloc(), &ROWS)
 }
 
-// Host 0 crashes on a branch after three events.
+// Crashes host 0 on a branch after three events.
 fn crashes_on_a_branch(origin: &Scene) -> Result<(), Fail> {
     origin.branch(3, 10)?.acts(&[
         Act::Add(Event::Fault(Fault::Crash(0))),
@@ -184,7 +183,7 @@ fn crashes_on_a_branch(origin: &Scene) -> Result<(), Fail> {
     ])
 }
 
-// A branch leaves its origin.
+// Checks that a branch leaves its origin.
 fn branches(alloc: Global) -> Result<(), Fail> {
     let mut scene = Scene::new(alloc, 4, 2)?;
     scene.acts(&[Act::Step(0), Act::Step(0), Act::Step(10)])?;
@@ -194,7 +193,7 @@ fn branches(alloc: Global) -> Result<(), Fail> {
     scene.acts(&[Act::Jump(4, (0, 0, 2), 20)])
 }
 
-// A frozen run gives tapes.
+// Checks that a frozen run makes tapes.
 fn freezes(alloc: Global) -> Result<(), Fail> {
     let mut scene = Scene::new(alloc, 4, 2)?;
     scene.acts(&RUN)?;
@@ -207,7 +206,7 @@ fn branches_and_frozen_runs(rt: HostRuntime) -> Result<(), Fail> {
     freezes(rt.alloc())
 }
 
-// A walk at random: first this many events are added, then this many calls are made.
+// Walks at random: first adds this many events, then makes this many calls.
 fn walk(alloc: Global, scenario: &Scenario, first: u32, calls: u32) -> Result<(), Fail> {
     let mut walk = Walk::new(alloc, scenario)?;
     walk.adds(first)?;

@@ -1,11 +1,11 @@
-//! What the proofs of the lock and of the division of work leave open: that calls succeed where
-//! memory is ample, and that several threads are at work at once.
+//! What the proofs of the lock and of the division of work leave open: that calls succeed if
+//! memory is ample, and that several threads work at once.
 //!
 //! What each test catches:
 //! - `lock::two_sessions`: a seat that never takes the lock, or gives up; a receipt that the
 //!   history does not have.
-//! - `lock::a_frozen_place_is_that_of_its_receipt`: a freeze that gives nothing.
-//! - `lock::a_full_list_takes_no_command`: a lock that says `Full` early, or waits there.
+//! - `lock::a_frozen_place_is_that_of_its_receipt`: a freeze that returns nothing.
+//! - `lock::a_full_list_takes_no_command`: a lock that returns `Full` early, or waits there.
 //! - `claims::any_number_of_workers`: a search that wants memory for no reason; a piece that is
 //!   entered or left twice, or never.
 //! - `claims::each_piece_is_scanned_once`: a piece that two workers scan.

@@ -1,4 +1,4 @@
-//! Books of one branch over a cluster of echo: runs, and going back, with watches and without.
+//! Books of one branch over a cluster of echo: runs and walks back, with watches and without.
 
 use crate::mixed;
 use crate::tape::scenario;
@@ -8,29 +8,30 @@ use sim_tally::Tally;
 use sim_watch::{Comparison, Cond, Op, SharedCond, Term, Value};
 use std::alloc::{AllocError, Global};
 
-/// What a turn on a book is. A watch has two terms and holds all the time.
+/// What a turn on a book does. A watch has two terms and always holds.
 #[derive(Clone, Copy)]
 pub enum BookTurn {
-    /// a step of a run of at most 60,000, with records of the last 1,024; each run is that of a new
+    /// adds a step to a run of at most 60,000, with records of the last 1,024; each run has a new
     /// book
     Run,
-    /// the same where a watch is looked at after each step
+    /// the same with a watch checked after each step
     WatchedRun,
-    /// an event that is walked over, by turns 1,024 back and 1,024 forward
+    /// walks over an event, in turns of 1,024 back and 1,024 forward
     Back,
-    /// the same where each walk back is a rewind, and a watch is looked at after each event of it
+    /// the same with rewinds as walks back, which check a watch after each event
     WatchedRewind,
 }
 
 type EchoBook = Book<Echo<Tally>>;
 
-/// How many steps a run has at most.
+/// The greatest number of steps of a run.
 const STEPS: u32 = 60_000;
 
-/// How many events are walked over back and forward.
+/// The number of events of a walk back or forward.
 const DEPTH: u32 = 1_024;
 
-// The first client is not past its last operation, and the server runs.
+// Returns a condition that always holds: the first client's `next` is at most 5,000, and the server
+// runs.
 fn watch() -> Cond {
     let last = Comparison {
         op: Op::LessOrEqual,
@@ -45,7 +46,7 @@ fn watch() -> Cond {
     }
 }
 
-// A command, and the place and clock to which it moved.
+// Carries out a command, and returns a number that depends on the place and the clock after it.
 fn moved(alloc: Global, book: &mut EchoBook, command: Command) -> Result<u64, AllocError> {
     match book.turn(alloc, 0, command) {
         Ok(entry) => match entry.reply {
@@ -57,7 +58,7 @@ fn moved(alloc: Global, book: &mut EchoBook, command: Command) -> Result<u64, Al
     }
 }
 
-// A book without events, with a watch or without.
+// Makes a book without events, with a watch or without.
 fn opened(alloc: Global, watched: bool) -> Result<EchoBook, AllocError> {
     let mut book = EchoBook::new(alloc, &scenario(1_024, 1_024), Tally::new())?;
     if watched {
@@ -67,7 +68,7 @@ fn opened(alloc: Global, watched: bool) -> Result<EchoBook, AllocError> {
     Ok(book)
 }
 
-// Runs of this many steps in all.
+// Adds this many steps in all, in runs.
 fn runs(alloc: Global, watched: bool, turns: u32) -> Result<u64, AllocError> {
     let mut left = turns;
     let mut sum = 0;
@@ -80,7 +81,7 @@ fn runs(alloc: Global, watched: bool, turns: u32) -> Result<u64, AllocError> {
     Ok(sum)
 }
 
-// Goes back by some events and forward again.
+// Goes back and forward again, for this many turns.
 fn there_and_back(alloc: Global, watched: bool, turns: u32) -> Result<u64, AllocError> {
     let depth = DEPTH.min(turns / 4).max(1);
     let mut book = opened(alloc, watched)?;

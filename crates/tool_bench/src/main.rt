@@ -7,14 +7,14 @@
 //!
 //! Why it is built this way:
 //!
-//! - Each measure mixes what its turns give into one number and writes it, so that the compiler
-//!   cannot leave out the work that is measured. A checksum that differs between two states of the
-//!   code says that they do not do the same.
-//! - With the word `quiet` each measure takes 1,000 turns and writes no time, so that the text is
-//!   always the same. The gate runs it so, and compares it with `stdout`.
+//! - Each measure mixes the results of its turns into one number and writes it, so that the
+//!   compiler cannot leave out the work that is measured. If a checksum differs between two states
+//!   of the code, they do not do the same work.
+//! - With the word `quiet` each measure takes 1,000 turns and writes no time, so that the output is
+//!   always the same. The gate runs it so, and compares the output with `stdout`.
 //! - It measures libraries through their public calls and not parts of them, so that a layer can be
 //!   built in another way and measured again.
-//! - No contract speaks of speed, so nothing is proved here but that the program is safe and ends.
+//! - No contract speaks of speed. What is proved here is only that the program is safe and ends.
 //!
 //! Where to find what: `main.rt` has the list of measures; each other file has the turns of the
 //! layer that it is named for.
@@ -39,19 +39,19 @@ use std::thread::Threads;
 use std::time::Instant;
 use std::{env, io};
 
-/// How many turns a measure takes under `quiet`.
+/// The number of turns of a measure under `quiet`.
 const QUIET_TURNS: u32 = 1_000;
 
-/// What is measured. A turn is
+/// A measure, by what one turn does:
 ///     `Draws`        a draw, of each stream in turn
 ///     `Undraws`      three draws and two undraws of one word, of two streams
 ///     `QueueTurns`   `first`, `take_first` and `insert`, with this many pending
 ///     `QueueUndos`   `take_first`, `insert`, `uninsert` and `put_back`, with this many pending
-///     `WorldSteps`   a step of a cluster of echo; a run that has ended starts anew
+///     `WorldSteps`   a step of a cluster of echo; after the end of a run a new one starts
 ///     `WorldUndos`   a step, its undo, and the step again
-///     `WorldCopies`  a copy of a world in the midst of a run
-///     `RingSteps`    a step whose record is kept until this many younger ones are
-///     `RingUndos`    an event where this many steps are taken and then taken back, again and again
+///     `WorldCopies`  a copy of a world in the middle of a run
+///     `RingSteps`    a step whose record is kept until there are this many younger ones
+///     `RingUndos`    an event, with this many steps taken and undone again and again
 ///     `TapeTurns`    a turn on a tape
 ///     `BookTurns`    an event of a turn of a book
 ///     `Looks`        a look of a session at a shared book
@@ -72,7 +72,7 @@ enum Measure {
 }
 
 impl Measure {
-    // Takes this many turns, and answers a number that depends on what each of them gave.
+    // Takes this many turns. Returns a number that depends on the result of each.
     fn run<R: Threads + Wait + Sync>(
         self,
         rt: &R,
@@ -96,13 +96,13 @@ impl Measure {
     }
 }
 
-// A number that depends on one before it and on a word.
+// Mixes a word into a number.
 fn mixed(sum: u64, word: u64) -> u64 {
     sum.wrapping_mul(6_364_136_223_846_793_005)
         .wrapping_add(word)
 }
 
-/// Measures, and writes a line for each measure.
+/// Takes measures, and writes a line for each.
 #[derive(Drop)]
 struct Bench<'a, R> {
     rt: &'a R,
@@ -110,7 +110,7 @@ struct Bench<'a, R> {
 }
 
 impl<R: Threads + Wait + Sync + Clock + Print + AllocGlobal> Bench<'_, R> {
-    // Takes this many turns of a measure, or under `quiet` few.
+    // Takes this many turns of a measure, or fewer under `quiet`, and writes its line.
     fn row(&self, name: &str, turns: u32, measure: Measure) -> io::Result<()> {
         let rt = self.rt;
         if self.quiet {
@@ -125,7 +125,7 @@ impl<R: Threads + Wait + Sync + Clock + Print + AllocGlobal> Bench<'_, R> {
     }
 }
 
-// The streams and the queue.
+// Measures the streams and the queue.
 fn streams_and_queues<R: Threads + Wait + Sync + Clock + Print + AllocGlobal>(
     bench: &Bench<'_, R>,
 ) -> io::Result<()> {
@@ -153,7 +153,7 @@ fn streams_and_queues<R: Threads + Wait + Sync + Clock + Print + AllocGlobal>(
     )
 }
 
-// Worlds.
+// Measures worlds.
 fn worlds<R: Threads + Wait + Sync + Clock + Print + AllocGlobal>(
     bench: &Bench<'_, R>,
 ) -> io::Result<()> {
@@ -194,7 +194,7 @@ fn worlds<R: Threads + Wait + Sync + Clock + Print + AllocGlobal>(
     )
 }
 
-// Rings of records.
+// Measures rings of records.
 fn rings<R: Threads + Wait + Sync + Clock + Print + AllocGlobal>(
     bench: &Bench<'_, R>,
 ) -> io::Result<()> {
@@ -216,7 +216,7 @@ fn rings<R: Threads + Wait + Sync + Clock + Print + AllocGlobal>(
     )
 }
 
-// Tapes.
+// Measures tapes.
 fn tapes<R: Threads + Wait + Sync + Clock + Print + AllocGlobal>(
     bench: &Bench<'_, R>,
 ) -> io::Result<()> {
@@ -273,7 +273,7 @@ fn tapes<R: Threads + Wait + Sync + Clock + Print + AllocGlobal>(
     )
 }
 
-// Books and sessions.
+// Measures books and sessions.
 fn books<R: Threads + Wait + Sync + Clock + Print + AllocGlobal>(
     bench: &Bench<'_, R>,
 ) -> io::Result<()> {

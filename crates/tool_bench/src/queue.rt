@@ -4,14 +4,14 @@ use crate::mixed;
 use sim_queue::{NoMemory, Queue};
 use std::alloc::Global;
 
-// A due (ms) that looks random, below 65,536.
+// Returns a due (ms) that looks random, below 65,536.
 fn due_of(n: u32) -> u64
     ensures { result < 2 ^ 16 }
 {
     u64::from(n.wrapping_mul(2_654_435_761) >> 16)
 }
 
-// A queue with this many pending.
+// Makes a queue with this many items pending.
 fn filled(alloc: Global, pending: u32) -> Result<Queue<u32>, NoMemory>
     ensures { IfOk result (λ queue. queue.next_serial ≡ pending) }
 {
@@ -37,7 +37,7 @@ pub fn turns(alloc: Global, pending: u32, turns: u32) -> Result<u64, NoMemory> {
     Ok(sum)
 }
 
-/// Takes the first item out, queues another, and takes both back.
+/// Takes the first item out, queues another, and undoes both.
 pub fn undos(alloc: Global, pending: u32, turns: u32) -> Result<u64, NoMemory> {
     let mut queue = filled(alloc, pending)?;
     let mut sum = 0;

@@ -1,4 +1,4 @@
-//! Steps whose records are kept, and steps that are taken back from the last to the first.
+//! Steps whose records are kept, and steps that are undone from the last to the first.
 ghost use Rattle.std.specs.Prelude.{◌≡◌, IfOk};
 
 use crate::mixed;
@@ -11,7 +11,7 @@ use std::collections::VecDeque;
 
 type EchoUndo = Undo<Echo<Tally>>;
 
-/// The records of the last steps, at most this many.
+/// The records of the last steps, at most `most`.
 #[derive(Drop)]
 struct Ring {
     records: VecDeque<EchoUndo>,
@@ -19,7 +19,7 @@ struct Ring {
 }
 
 impl Ring {
-    // Keeps a record more; where there are as many as may be, the oldest goes.
+    // Keeps one more record. Drops the oldest if there are too many.
     fn keep(&mut self, undo: EchoUndo) -> Result<(), NoMemory> {
         if self.most <= self.records.len() {
             self.records.pop_front();
@@ -29,7 +29,7 @@ impl Ring {
     }
 }
 
-// The world after a step more; where a run has ended, the start of the next.
+// Returns the world after one more step, or the start of the next run if this one has ended.
 fn stepped(
     alloc: Global,
     scenario: &Scenario,
@@ -47,8 +47,8 @@ fn stepped(
     }
 }
 
-/// Takes steps, and keeps the records of the last ones. Where a run has ended, a turn starts the
-/// next one.
+/// Takes steps, and keeps the records of the last ones. If a run has ended, a turn starts the next
+/// one.
 pub fn steps(alloc: Global, most: usize, turns: u32) -> Result<u64, NoMemory> {
     let mut tally = Tally::new();
     let scenario = Cluster::FourServers.scenario();
@@ -63,8 +63,8 @@ pub fn steps(alloc: Global, most: usize, turns: u32) -> Result<u64, NoMemory> {
     Ok(mixed(shown(&world), ring.records.len() as u64))
 }
 
-// Takes this many steps, or as many as there are, adds to the sum what the world shows then, and
-// takes them back.
+// Takes `depth` steps, or as many as can happen, mixes the world after them into the sum, and
+// undoes them.
 fn there_and_back(
     alloc: Global,
     world: EchoWorld,
@@ -84,8 +84,7 @@ fn there_and_back(
     }
 }
 
-/// Takes `depth` steps and takes them back, again and again, and at the end as many as are left of
-/// half the turns.
+/// Takes `depth` steps and undoes them, again and again, until half the turns are steps.
 pub fn undos(alloc: Global, depth: u32, turns: u32) -> Result<u64, NoMemory> {
     let mut tally = Tally::new();
     let scenario = Cluster::FourServers.scenario();

@@ -14,7 +14,7 @@ use std::sync::Wait;
 use std::thread;
 use std::thread::Threads;
 
-/// How many sessions share a book.
+/// The number of sessions that share a book.
 #[derive(Clone, Copy)]
 pub enum Sessions {
     One,
@@ -23,7 +23,7 @@ pub enum Sessions {
 
 type Node = Echo<Tally>;
 
-/// How many looks are made at one book, by all sessions together; after these there is a new one.
+/// The number of looks at one book, by all sessions together; then a new book is made.
 const LOOKS: u32 = 64_000;
 
 impl Sessions {
@@ -36,7 +36,7 @@ impl Sessions {
         }
     }
 
-    // This many looks at a new book, and a number that depends on the entries but not on their
+    // Looks this often at a new book. Returns a number that depends on the entries but not on their
     // order.
     fn share<R: Threads + Wait + Sync>(
         self,
@@ -59,7 +59,7 @@ impl Sessions {
         )
     }
 
-    /// Takes this many turns, as many by each session.
+    /// Takes this many turns, the same number in each session.
     pub fn run<R: Threads + Wait + Sync>(
         self,
         rt: &R,
@@ -77,7 +77,7 @@ impl Sessions {
     }
 }
 
-// A session looks this many times.
+// Looks this many times from a session.
 fn look<R: Wait>(rt: &R, shared: &Shared<Node>, seat: &mut Seat<Node>, times: u32)
     requires { IsAt shared.now seat.old }
     ensures { IsAt shared.now seat.new }

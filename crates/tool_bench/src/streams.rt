@@ -1,10 +1,10 @@
 use crate::mixed;
 use sim_streams::Streams;
 
-// The most words that a stream gives.
+// The greatest number of words of a stream.
 const MOST_PLACES: u64 = 1 << 40;
 
-// The next word of a stream, or 0 where there is none.
+// Returns the next word of a stream, or 0 if there is none.
 fn draw(streams: &mut Streams, stream: u16) -> u64 {
     if stream < 34 && streams.place(stream) < MOST_PLACES {
         u64::from(streams.draw(stream))
@@ -13,7 +13,7 @@ fn draw(streams: &mut Streams, stream: u16) -> u64 {
     }
 }
 
-// Takes the last word of a stream back, where there is one.
+// Undoes the last draw of a stream, if there is one.
 fn undraw(streams: &mut Streams, stream: u16) {
     if stream < 34 && streams.place(stream) > 0 {
         streams.undraw(stream, 1);
@@ -30,7 +30,7 @@ pub fn draws(turns: u32) -> u64 {
     sum
 }
 
-/// Draws from two streams, takes both words back, and draws from the first again.
+/// Draws from two streams, undoes both draws, and draws from the first again.
 pub fn undraws(turns: u32) -> u64 {
     let mut streams = Streams::new([7; 32]);
     let mut sum = 0;

@@ -1,4 +1,4 @@
-//! Tapes of a cluster of echo: adding, going back and on, jumping about and branching.
+//! Tapes of a cluster of echo: added steps, walks back and forward, jumps and branches.
 ghost use Rattle.std.specs.Prelude.{◌≤◌};
 
 use crate::mixed;
@@ -10,31 +10,29 @@ use sim_tape::{NoMemory, Tape};
 use sim_world::{Event, Scenario};
 use std::alloc::Global;
 
-/// What a turn on a tape is. Checkpoints stand this many events apart, 1,024 where nothing is said.
+/// What a turn on a tape does. The interval is 1,024 events unless it says otherwise.
 #[derive(Clone, Copy)]
 pub enum TapeTurn {
-    /// a step that is added, with records of the last 1,024; where a run has ended, a tape of no
-    /// events
+    /// adds a step, with records of the last 1,024; after the end of a run makes an empty tape
     Add,
-    /// a step that is walked over, forward, with records of the last 1,024
+    /// walks forward over a step, with records of the last 1,024
     Forward,
-    /// a step that is walked over, by turns 1,024 back and 1,024 forward
+    /// walks over a step, in turns of 1,024 back and 1,024 forward
     ThereAndBack,
-    /// a jump to a place at random among 60,000 events, with records of the last 64, where
-    /// checkpoints stand so far apart
+    /// jumps to a random place among 60,000 events, with records of the last 64, and this interval
     Jump(u32),
-    /// the same, to a checkpoint at random: a copy of one of all its worlds, and no event
+    /// jumps to a random checkpoint: copies one of all its worlds, and takes no event
     CheckpointJump(u32),
-    /// a branch at the end of this many events
+    /// makes a branch at the end of this many events
     Branch(u32),
 }
 
 type EchoTape = Tape<Echo<Tally>>;
 
-/// How many events are jumped about in.
+/// The number of events of the tape to jump in.
 const EVENTS: u32 = 60_000;
 
-/// How many events are walked over back and forward.
+/// The number of events of a walk back or forward.
 const DEPTH: u32 = 1_024;
 
 // A message takes 10 to 20 ms, and none is lost.
@@ -44,7 +42,7 @@ const WAY: Way = Way {
     loss: 0,
 };
 
-// One server and 31 clients, each with 1,000 operations.
+// Returns a scenario with one server and 31 clients, each with 1,000 operations.
 pub fn scenario(interval: u32, window: u32) -> Scenario
     requires interval { (1 ≤ interval) × (interval ≤ 1024) }
     requires window { (1 ≤ window) × (window ≤ 4096) }
@@ -57,7 +55,7 @@ pub fn scenario(interval: u32, window: u32) -> Scenario
     Scenario::new([7; 32], 100, Ways::all(WAY), 0, setup, interval, window).unwrap()
 }
 
-// Adds a step at the end, where one can happen.
+// Adds a step at the end, if one can happen.
 fn add(alloc: Global, tape: &mut EchoTape, tally: &mut Tally) -> Result<bool, NoMemory> {
     if tape.place() != tape.len() || 65_536 <= tape.len() {
         return Ok(false);
@@ -70,7 +68,7 @@ fn add(alloc: Global, tape: &mut EchoTape, tally: &mut Tally) -> Result<bool, No
     Ok(true)
 }
 
-// A tape of this many steps, or as many as can happen.
+// Makes a tape of this many steps, or as many as can happen.
 fn filled(
     alloc: Global,
     scenario: &Scenario,
@@ -86,13 +84,13 @@ fn filled(
     Ok(tape)
 }
 
-// A number that depends on where a tape is.
+// Returns a number that depends on the place of a tape.
 fn shown(tape: &EchoTape) -> u64 {
     let places = mixed(u64::from(tape.place()), u64::from(tape.len()));
     mixed(places, tape.clock())
 }
 
-// Adds steps. Where a run has ended, a turn begins the next tape.
+// Adds steps. If a run has ended, a turn starts the next tape.
 fn adds(alloc: Global, turns: u32) -> Result<u64, NoMemory> {
     let mut tally = Tally::new();
     let scenario = scenario(1_024, 1_024);
@@ -105,7 +103,7 @@ fn adds(alloc: Global, turns: u32) -> Result<u64, NoMemory> {
     Ok(shown(&tape))
 }
 
-// Goes from the start to the end of a tape of this many events.
+// Walks from the start to the end of a tape, again and again.
 fn forward(alloc: Global, turns: u32) -> Result<u64, NoMemory> {
     let mut tally = Tally::new();
     let mut tape = filled(
@@ -123,7 +121,7 @@ fn forward(alloc: Global, turns: u32) -> Result<u64, NoMemory> {
     Ok(shown(&tape))
 }
 
-// Goes back by some events and forward again.
+// Goes back and forward again, for this many turns.
 fn there_and_back(alloc: Global, turns: u32) -> Result<u64, NoMemory> {
     let mut tally = Tally::new();
     let mut tape = filled(alloc, &scenario(1_024, 1_024), DEPTH, &mut tally)?;
@@ -135,7 +133,7 @@ fn there_and_back(alloc: Global, turns: u32) -> Result<u64, NoMemory> {
     Ok(shown(&tape))
 }
 
-// Jumps about, to places that are multiples of `every`.
+// Jumps to random places that are multiples of `every`.
 fn jumps(alloc: Global, interval: u32, every: u32, turns: u32) -> Result<u64, NoMemory> {
     let mut tally = Tally::new();
     let interval = interval.clamp(1, 1_024);
@@ -153,7 +151,7 @@ fn jumps(alloc: Global, interval: u32, every: u32, turns: u32) -> Result<u64, No
     Ok(mixed(sum, shown(&tape)))
 }
 
-// Branches at the end.
+// Makes branches at the end.
 fn branches(alloc: Global, events: u32, turns: u32) -> Result<u64, NoMemory> {
     let mut tally = Tally::new();
     let events = events.min(turns.saturating_mul(10));

@@ -10,7 +10,7 @@ use sim_tally::Tally;
 use sim_world::{Event, NoMemory, Query, Scenario, View, World};
 use std::alloc::Global;
 
-/// A cluster of echo, each of whose clients has 1,000 operations.
+/// A cluster of echo. Each client has 1,000 operations.
 #[derive(Clone, Copy)]
 pub enum Cluster {
     /// one server and one client, a message takes 10 to 20 ms
@@ -25,13 +25,13 @@ pub enum Cluster {
 
 pub type EchoWorld = World<Echo<Tally>>;
 
-/// The most events that lead to a world.
+/// The greatest number of events that lead to a world.
 pub const MOST_EVENTS: u32 = 65_536;
 
-/// After how many steps a world is copied.
+/// The number of steps before a world is copied.
 const STEPS_BEFORE_COPY: u32 = 100;
 
-// This many servers and hosts, and 1,000 operations for each client.
+// Returns a setup with this many servers and hosts, and 1,000 operations for each client.
 fn echo_setup(servers: u16, hosts: u16) -> Setup
     requires servers { 1 ≤ servers }
     requires clients { servers < hosts }
@@ -56,7 +56,7 @@ impl Cluster {
         }
     }
 
-    // How its messages go; none is lost.
+    // Returns the way of all its directions; no message is lost.
     fn way(self) -> Way
         ensures { IsWay result }
     {
@@ -77,7 +77,7 @@ impl Cluster {
     }
 }
 
-/// A number that depends on what a summary of the world shows.
+/// Returns a number that depends on the world's summary.
 pub fn shown(world: &EchoWorld) -> u64 {
     match world.look(Query::Summary) {
         View::Summary {
@@ -94,7 +94,7 @@ pub fn shown(world: &EchoWorld) -> u64 {
     }
 }
 
-// The world after a step more; where a run has ended, the start of the next.
+// Returns the world after one more step, or the start of the next run if this one has ended.
 fn stepped(
     alloc: Global,
     scenario: &Scenario,
@@ -109,7 +109,7 @@ fn stepped(
     }
 }
 
-// Takes a step and takes it back, where a step can be taken.
+// Takes a step and undoes it, if a step can happen.
 fn there_and_back(alloc: Global, world: EchoWorld, tally: &mut Tally) -> Result<EchoWorld, NoMemory>
     ensures { IfOk result (λ after. after ≡ world) }
 {
@@ -121,7 +121,7 @@ fn there_and_back(alloc: Global, world: EchoWorld, tally: &mut Tally) -> Result<
     }
 }
 
-// The world after this many steps from the start.
+// Returns the world after this many steps from the start.
 fn walked(
     alloc: Global,
     scenario: &Scenario,
@@ -135,13 +135,13 @@ fn walked(
     Ok(world)
 }
 
-/// Takes steps. Where a run has ended, a turn starts the next one.
+/// Takes steps. If a run has ended, a turn starts the next one.
 pub fn steps(alloc: Global, cluster: Cluster, turns: u32) -> Result<u64, NoMemory> {
     let world = walked(alloc, &cluster.scenario(), turns, &mut Tally::new())?;
     Ok(shown(&world))
 }
 
-/// Takes a step, takes it back, and takes it again.
+/// Takes a step, undoes it, and takes it again.
 pub fn undos(alloc: Global, cluster: Cluster, turns: u32) -> Result<u64, NoMemory> {
     let mut tally = Tally::new();
     let scenario = cluster.scenario();
@@ -153,7 +153,7 @@ pub fn undos(alloc: Global, cluster: Cluster, turns: u32) -> Result<u64, NoMemor
     Ok(shown(&world))
 }
 
-/// Copies a world, and goes on with the copy.
+/// Copies a world, and continues with the copy.
 pub fn copies(alloc: Global, cluster: Cluster, turns: u32) -> Result<u64, NoMemory> {
     let mut tally = Tally::new();
     let mut world = walked(alloc, &cluster.scenario(), STEPS_BEFORE_COPY, &mut tally)?;

@@ -1,4 +1,4 @@
-//! What commands are answered on plain branches.
+//! Answers commands on plain branches.
 use crate::asking::Ask;
 use crate::plain::{Branch, MOST_EVENTS, Trouble, after, folded};
 use crate::refusals::{
@@ -14,7 +14,7 @@ const MOST_BRANCHES: usize = 64;
 
 const MOST_TICK_EVENTS: u32 = 1_024;
 
-/// Why a command that moves the place stopped where it did.
+/// Why a command that moves the place stopped there.
 #[derive(Clone, Copy)]
 pub enum Why {
     Asked,
@@ -25,21 +25,21 @@ pub enum Why {
     Long,
 }
 
-/// What an answer tells.
+/// An answer to a command.
 #[derive(Clone, Copy)]
 pub enum Answer {
-    /// The place, the clock there (ms), and why there.
+    /// The place, the clock there (ms), and why it stopped there.
     Moved(usize, u64, Why),
     Made(usize),
     Dropped(u32),
-    /// The place, and what is seen there.
+    /// The place, and the view there.
     Seen(usize, View),
-    /// All events of the branch are told.
+    /// All events of the branch.
     Frozen,
     Refused(Refused),
 }
 
-/// A branch, and what its worlds are made with.
+/// A branch, with the scenario and the meter of its worlds.
 #[derive(Drop)]
 struct Folding<'a, N: Node> {
     alloc: Global,
@@ -48,31 +48,31 @@ struct Folding<'a, N: Node> {
     meter: &'a mut N::Meter,
 }
 
-/// Whether nothing is pending.
+/// Returns whether nothing is pending.
 fn is_idle<N: Node>(world: &World<N>) -> bool {
     world.can(Event::Step).is_err()
 }
 
 impl<N: Node> Folding<'_, N> {
-    /// The world at the place.
+    /// Returns the world at the place.
     fn world(&mut self) -> Result<World<N>, Trouble> {
         folded(self.alloc, self.scenario, self.branch.before(), self.meter)
     }
 
-    /// The place and its clock.
+    /// Returns the place and its clock as an answer.
     fn moved(&mut self, why: Why) -> Result<Answer, Trouble> {
         let clock = self.world()?.clock();
         Ok(Answer::Moved(self.branch.place, clock, why))
     }
 
-    /// Adds an event, and gives the world after it.
+    /// Adds an event, and returns the world after it.
     fn add(&mut self, world: World<N>, event: Event) -> Result<World<N>, Trouble> {
         let next = after(self.alloc, world, event, self.meter)?;
         self.branch.add(event)?;
         Ok(next)
     }
 
-    /// Adds at most so many steps, at least one of them, until a run stops.
+    /// Adds at most `count` steps, but at least one, until a run stops.
     fn run(&mut self, count: u32) -> Result<Why, Trouble> {
         let mut world = self.world()?;
         for left in (0..count).rev() {
@@ -92,7 +92,7 @@ impl<N: Node> Folding<'_, N> {
         Ok(Why::Asked)
     }
 
-    /// Adds steps up to the clock's time and a tick more (ms), and goes on to that time.
+    /// Adds steps up to one tick (ms) after the clock, and advances to that time.
     fn tick(&mut self) -> Result<Why, Trouble> {
         let mut world = self.world()?;
         let end = world
@@ -126,7 +126,7 @@ impl<N: Node> Folding<'_, N> {
         Ok(Why::Asked)
     }
 
-    /// Why nothing can be added, if so.
+    /// Returns why nothing can be added, if that is so.
     fn full(&self) -> Option<Refused> {
         let len = self.branch.events.len();
         if self.branch.place < len {
@@ -159,14 +159,14 @@ impl<N: Node> Folding<'_, N> {
         self.moved(why)
     }
 
-    /// Adds a step, whatever the world is after it.
+    /// Adds a step, whatever the world after it.
     fn run_one(&mut self) -> Result<Why, Trouble> {
         let world = self.world()?;
         self.add(world, Event::Step)?;
         Ok(Why::Asked)
     }
 
-    /// Goes back one event after another, until a watch fails.
+    /// Goes back one event after another until a watch fails.
     fn rewind(&mut self, count: usize) -> Result<Why, Trouble> {
         for _event in 0..count {
             self.branch.place = self.branch.place.saturating_sub(1);
@@ -178,7 +178,7 @@ impl<N: Node> Folding<'_, N> {
         Ok(Why::Asked)
     }
 
-    /// Goes to a place, where it is there.
+    /// Goes to a place, if it exists.
     fn go(&mut self, place: Option<usize>) -> Result<Answer, Trouble> {
         match place {
             Some(place) if place <= self.branch.events.len() => {
@@ -208,7 +208,7 @@ impl<N: Node> Folding<'_, N> {
         }
     }
 
-    /// Keeps a watch.
+    /// Adds a watch.
     fn watch(&mut self, terms: &[JoinedTerm]) -> Result<Answer, Trouble> {
         let bad = bad_condition(self.scenario.hosts(), N::PROBES, terms);
         match (bad, self.branch.free_watch()) {
@@ -235,7 +235,7 @@ impl<N: Node> Folding<'_, N> {
         }
     }
 
-    /// Shows what a query asks.
+    /// Answers a look.
     fn look(&mut self, query: Query) -> Result<Answer, Trouble> {
         let world = self.world()?;
         match bad_query(world.hosts(), N::PROBES, query) {
@@ -258,7 +258,7 @@ impl<N: Node> Folding<'_, N> {
     }
 }
 
-/// Branches without tapes.
+/// Branches that are plain lists of events, without tapes.
 #[derive(Drop)]
 pub struct Branches {
     alloc: Global,
@@ -267,7 +267,7 @@ pub struct Branches {
 }
 
 impl Branches {
-    /// One branch without events.
+    /// Makes one branch without events.
     pub fn new(alloc: Global, scenario: Scenario) -> Result<Branches, AllocError> {
         let mut all = Vec::new(alloc);
         all.push(Branch::new(alloc, Vec::new(alloc))?)?;
@@ -278,7 +278,7 @@ impl Branches {
         })
     }
 
-    /// The events of a branch.
+    /// Returns the events of a branch.
     pub fn events(&self, branch: u32) -> &[Event] {
         match self.all.get(branch as usize) {
             Some(branch) => branch.events.as_slice(),

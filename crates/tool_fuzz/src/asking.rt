@@ -1,4 +1,4 @@
-//! Lines of a script at random.
+//! Random lines of a script.
 ghost use Rattle.std.specs.Prelude.{◌<◌, ◌≤◌};
 
 use crate::dice::Dice;
@@ -7,7 +7,7 @@ use sim_watch::{Comparison, JoinedTerm, Op, Term, Value};
 use sim_world::{Fault, Query};
 use std::alloc::{AllocError, Global};
 
-/// What a line of a script asks of a branch.
+/// What a line of a script asks for on a branch.
 #[derive(Drop)]
 pub enum Ask {
     Step,
@@ -31,18 +31,18 @@ pub enum Ask {
 pub enum Line {
     /// A line that asks nothing.
     Nothing(&'static str),
-    /// A line that is none of the script's.
+    /// A line that is no line of a script.
     Bad(&'static str),
     /// A command on a branch.
     Asked(u32, Ask),
 }
 
-/// The number of a host or of a probe that is not there.
+/// The number for a host or a probe that does not exist.
 pub const NO_HOST: u16 = 65_535;
 
 pub const NO_PROBE: u8 = 255;
 
-/// Makes lines for a scenario with so many hosts and probes.
+/// Makes lines for a scenario with this many hosts and probes.
 #[derive(Drop)]
 pub struct Asker {
     pub dice: Dice,
@@ -51,7 +51,7 @@ pub struct Asker {
 }
 
 impl Asker {
-    /// A host, seldom one that is not there.
+    /// Returns a host, seldom one that does not exist.
     fn host(&mut self) -> u16 {
         if self.dice.once_in(40) || self.hosts == 0 {
             NO_HOST
@@ -60,7 +60,7 @@ impl Asker {
         }
     }
 
-    /// A probe, seldom one that is not there.
+    /// Returns a probe, seldom one that does not exist.
     fn probe(&mut self) -> u8 {
         if self.dice.once_in(30) || self.probes == 0 {
             NO_PROBE
@@ -80,7 +80,7 @@ impl Asker {
         }
     }
 
-    /// A number that a probe may have.
+    /// Returns a number that a probe may show.
     fn number(&mut self) -> u64 {
         let small = u64::from(self.dice.below(6));
         match self.dice.below(8) {
@@ -90,7 +90,7 @@ impl Asker {
         }
     }
 
-    /// An operator, and mostly a number, or else the value of a probe.
+    /// Returns a comparison: mostly with a number, else with the value of a probe.
     fn comparison(&mut self) -> Comparison {
         let op = self.op();
         let value = if self.dice.once_in(4) {
@@ -117,7 +117,7 @@ impl Asker {
         }
     }
 
-    /// A condition of one to eight terms, mostly of few, in one alternative or several.
+    /// Returns a condition of one to eight terms, mostly few, in one or more alternatives.
     pub fn condition(&mut self, alloc: Global) -> Result<Vec<JoinedTerm>, AllocError> {
         let mut terms = Vec::new(alloc);
         let count = if self.dice.once_in(10) { 8 } else { 2 };
@@ -155,7 +155,7 @@ impl Asker {
         }
     }
 
-    /// A command that adds events.
+    /// Returns a command that adds events.
     fn adding(&mut self) -> Ask {
         match self.dice.below(6) {
             0 => Ask::Step,
@@ -166,7 +166,7 @@ impl Asker {
         }
     }
 
-    /// A command that moves the place, mostly not too far.
+    /// Returns a command that moves the place, mostly not too far.
     fn moving(&mut self) -> Ask {
         let near = self.dice.below(8);
         let far = self.dice.below(60);
@@ -182,7 +182,7 @@ impl Asker {
         }
     }
 
-    /// A command that is about branches and watches.
+    /// Returns a command about branches and watches.
     fn keeping(&mut self, alloc: Global) -> Result<Ask, AllocError> {
         Ok(match self.dice.below(5) {
             0 => Ask::Branch(self.dice.below(20)),
@@ -215,7 +215,7 @@ impl Asker {
         })
     }
 
-    /// Few planned events, mostly with a fault in every few of them.
+    /// Returns a plan of few events, mostly with a fault in every few of them.
     pub fn plan(&mut self) -> Plan {
         let spacing = 2 + self.dice.below(10);
         let quiet = self.dice.below(40);
@@ -230,7 +230,7 @@ impl Asker {
         }
     }
 
-    /// A line, mostly a command on the first branch.
+    /// Returns a line, mostly a command on the first branch.
     pub fn line(&mut self, alloc: Global) -> Result<Line, AllocError> {
         Ok(match self.dice.below(40) {
             0 => Line::Nothing(""),

@@ -1,4 +1,4 @@
-//! A case: an input at random, and what a play, a hunt, a log and a script of it are to write.
+//! A case: a random input, with the expected output of a play, a hunt, a log and a script of it.
 use crate::answering::{Answer, Branches};
 use crate::asking::{Asker, Line};
 use crate::dice::Dice;
@@ -20,23 +20,23 @@ use std::rt::Clock;
 use std::sync::Wait;
 use std::thread::Threads;
 
-/// The most probes of a protocol.
+/// The greatest number of probes of a protocol.
 const MOST_PROBES: u8 = 16;
 
-/// The most bytes of a line, with its end.
+/// The greatest length of a line with its end (bytes).
 const MOST_LINE: usize = 257;
 
-/// An input, and what a play of it is to write.
+/// An input, and the expected output of a play of it.
 #[derive(Drop)]
 struct Case {
     naming: Naming,
     input: String,
     play: String,
-    /// The input without the lines that are at fault.
+    /// The input without the lines at fault.
     sound: String,
 }
 
-/// How many probes a protocol has.
+/// Returns the number of probes of a protocol.
 fn probes(protocol: Protocol) -> u8 {
     let mut count = 0;
     for probe in 0..MOST_PROBES {
@@ -48,7 +48,7 @@ fn probes(protocol: Protocol) -> u8 {
 }
 
 impl Case {
-    /// The scenario alone.
+    /// Starts a case with the scenario alone.
     fn new(alloc: Global, setting: &Setting, naming: Naming) -> Result<Case, AllocError> {
         let mut input = String::new(alloc);
         setting.write(alloc, &mut input)?;
@@ -61,7 +61,7 @@ impl Case {
         })
     }
 
-    /// Adds a line, and what it is answered. One that is too long is bad.
+    /// Adds a line and its answer. A line that is too long is bad.
     fn add<N: Node>(
         &mut self,
         line: &Line,
@@ -86,7 +86,7 @@ impl Case {
     }
 }
 
-/// How what is written for a case differs from what is wanted, over nodes of a type.
+/// Returns how the output for a case differs from the expected one, over nodes of a type.
 fn tried_on<N: Node, R: Threads + Wait + Sync + Clock + Eprint>(
     rt: &R,
     alloc: Global,
@@ -141,7 +141,7 @@ where
     export.wrong::<N, R>(rt, alloc, input, meter)
 }
 
-/// How what is written for the case of a number differs from what is wanted.
+/// Returns how the output for the case with this number differs from the expected one.
 pub fn tried<R: Threads + Wait + Sync + Clock + Eprint>(
     rt: &R,
     alloc: Global,

@@ -1,25 +1,25 @@
-//! Numbers that look random, by the number of a case.
+//! Numbers that look random, from the number of a case.
 ghost use Rattle.std.specs.Prelude.{◌<◌, ◌≤◌, vec_len, length};
 
 use rand_core::SeedableRng;
 use rand_core::utils::NextWord;
 use rand_pcg::Pcg32;
 
-/// Gives numbers that look random, always the same for a case.
+/// Returns numbers that look random, always the same for a case.
 #[derive(Drop)]
 pub struct Dice {
     words: Pcg32,
 }
 
 impl Dice {
-    /// The dice of a case.
+    /// Makes the dice of a case.
     pub fn new(case: u64) -> Dice {
         Dice {
             words: Pcg32::seed_from_u64(case),
         }
     }
 
-    /// A number below one that is not 0.
+    /// Returns a number below `most`, which is not 0.
     pub fn below(&mut self, most: u32) -> u32
         requires { 0 < most }
         ensures { result < most }
@@ -27,7 +27,7 @@ impl Dice {
         self.words.next_word() % most
     }
 
-    /// A number between two, both of them included.
+    /// Returns a number from `low` to `high`, both included.
     pub fn between(&mut self, low: u16, high: u16) -> u16
         requires { low ≤ high }
         ensures low { low ≤ result }
@@ -37,7 +37,7 @@ impl Dice {
         low + self.below(count) as u16
     }
 
-    /// True once in so many times, which are at least one.
+    /// Returns true once in `times` times on average; `times` is at least one.
     pub fn once_in(&mut self, times: u32) -> bool
         requires { 0 < times }
     {

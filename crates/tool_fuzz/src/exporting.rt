@@ -1,8 +1,8 @@
-//! Runs that are written as inputs: a seed's run by `script`, and what `shrink` leaves of it.
+//! Runs that are written as inputs: a seed's run by `script`, and a smaller run by `shrink`.
 //!
-//! A script has just the lines of the run's events, and a play of it with some looks behind them is
-//! told the clocks, the views and the trace of the plain fold of the numbered scenario.
-//! `shrinking.rt` says what is looked at in what `shrink` leaves of it.
+//! A script must have exactly the lines of the run's events, and a play of it with some looks after
+//! them must write the clocks, the views and the trace of the plain fold of the numbered scenario.
+//! `shrinking.rt` says what is checked of the result of `shrink`.
 use crate::answering::Answer;
 use crate::asking::Asker;
 use crate::naming::Naming;
@@ -19,11 +19,10 @@ use std::rt::Clock;
 use std::sync::Wait;
 use std::thread::Threads;
 
-/// What is asked after the run.
+/// The commands after the run.
 const LOOKS: &str = "look\nlook next\ntrace\n";
 
-/// The planned events of a seed whose run is to be written, and the condition for which it is to be
-/// made small.
+/// The planned events of a seed whose run is written, and the condition by which it is shrunk.
 #[derive(Drop)]
 pub struct Export {
     pub naming: Naming,
@@ -36,7 +35,7 @@ pub struct Export {
 }
 
 impl Naming {
-    /// The lines of events.
+    /// Writes the lines of events.
     pub fn lines(&self, alloc: Global, events: &[Event]) -> Result<String, AllocError> {
         let mut text = String::new(alloc);
         for event in events {
@@ -46,7 +45,8 @@ impl Naming {
         Ok(text)
     }
 
-    /// The event of the first line, one of these, and what follows it.
+    /// Reads the first line, which must be of one of these events. Returns the event and the text
+    /// after the line.
     fn read_line<'a>(
         &self,
         alloc: Global,
@@ -62,7 +62,7 @@ impl Naming {
         Ok(None)
     }
 
-    /// The events of lines, which are some of these.
+    /// Reads lines, which must be of some of these events.
     pub fn read(
         &self,
         alloc: Global,
@@ -83,7 +83,7 @@ impl Naming {
         Ok(if rest.is_empty() { Some(read) } else { None })
     }
 
-    /// What a play of the events and the looks is to write.
+    /// Returns the expected output of a play of the events and the looks.
     fn play<N: Node>(&self, fold: &mut Fold<'_, N>, events: &[Event]) -> Result<String, Trouble> {
         let mut text = String::new(fold.alloc);
         let mut world = fold.start()?;
@@ -102,7 +102,7 @@ impl Naming {
 }
 
 impl Export {
-    /// The run of a seed, and a condition.
+    /// Makes the run of a random seed, and a condition.
     pub fn some(
         alloc: Global,
         asker: &mut Asker,
@@ -128,7 +128,7 @@ impl Export {
         })
     }
 
-    /// How what is written of the seed's run differs from what is to be.
+    /// Returns how the output for the seed's run differs from the expected one.
     pub fn wrong<N: Node, R: Threads + Wait + Sync + Clock + Eprint>(
         &self,
         rt: &R,

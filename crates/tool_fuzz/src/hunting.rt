@@ -1,4 +1,4 @@
-//! Searches and sweeps at random, with planned faults and scripts too, and what they are to write:
+//! Random searches and sweeps, with planned faults and scripts too, and their expected results:
 //! scans of plain folds, place by place and seed by seed.
 ghost use Rattle.std.specs.Prelude.{◌≤◌};
 ghost use Rattle.sim_job.specs.CommandLine.{HasFewWorkers};
@@ -15,28 +15,28 @@ use sim_watch::JoinedTerm;
 use sim_world::Event;
 use std::alloc::{AllocError, Global};
 
-/// Where a condition is hunted for.
+/// Where a hunt looks.
 #[derive(Clone, Copy)]
 enum Ground {
-    /// In these places of the run that the script leaves.
+    /// At these places of the run that the script leaves.
     Places { lo: u32, hi: u32 },
     /// In the runs of seeds.
     Seeds(Seeds),
 }
 
-/// The runs of so many seeds, from a number on.
+/// The runs of `count` seeds, from number `first` on.
 #[derive(Clone, Copy)]
 struct Seeds {
     first: u64,
     count: u64,
     plan: Plan,
-    /// Whether the last place of each run is looked at alone.
+    /// Whether to look only at the last place of each run.
     at_end: bool,
     /// Whether each run begins with the events that the script leaves.
     script: bool,
 }
 
-/// What is found.
+/// The result of a hunt.
 #[derive(Clone, Copy)]
 enum Found {
     Place(usize),
@@ -46,7 +46,7 @@ enum Found {
     BadCondition,
 }
 
-/// A search or a sweep by so many workers, and what it is to write.
+/// A search or a sweep, and its expected output.
 #[derive(Drop)]
 pub struct Hunt {
     ground: Ground,
@@ -58,7 +58,7 @@ pub struct Hunt {
     ghost few: { workers ≤ 16 },
 }
 
-/// What a search of the events is to find.
+/// Returns the expected result of a search of the events.
 fn search<N: Node>(
     fold: &mut Fold<'_, N>,
     events: &[Event],
@@ -78,7 +78,7 @@ fn search<N: Node>(
     }
 }
 
-/// What a sweep is to find.
+/// Returns the expected result of a sweep.
 fn sweep<N: Node>(
     alloc: Global,
     setting: &Setting,
@@ -118,7 +118,7 @@ fn sweep<N: Node>(
     Ok(Found::Nowhere)
 }
 
-/// What a hunt there is to find.
+/// Returns the expected result of a hunt.
 fn found_on<N: Node>(
     alloc: Global,
     setting: &Setting,
@@ -144,7 +144,7 @@ fn found_on<N: Node>(
     }
 }
 
-/// Writes the line that tells what was found.
+/// Returns the line of a result.
 fn write_found(alloc: Global, found: Found) -> Result<String, AllocError> {
     match found {
         Found::Place(place) => format!(in alloc; "first {place}\n"),
@@ -156,7 +156,7 @@ fn write_found(alloc: Global, found: Found) -> Result<String, AllocError> {
 }
 
 impl Ground {
-    /// Places of a run of so many events, seldom past its end, or a few seeds.
+    /// Chooses places of a run of `len` events, seldom past its end, or a few seeds.
     fn some(asker: &mut Asker, len: usize) -> Ground {
         let plan = asker.plan();
         let dice = &mut asker.dice;
@@ -179,7 +179,7 @@ impl Ground {
 }
 
 impl Hunt {
-    /// A hunt in the run of the events, or in runs of the setting's seeds.
+    /// Makes a hunt in the run of the events, or in runs of the setting's seeds.
     pub fn some<N: Node>(
         alloc: Global,
         asker: &mut Asker,
@@ -203,7 +203,7 @@ impl Hunt {
         })
     }
 
-    /// Who looks for it.
+    /// Returns the team of workers.
     fn team(&self) -> Team
         ensures { (1 ≤ result.workers) × (result.workers ≤ 16) }
     {
@@ -213,7 +213,7 @@ impl Hunt {
         }
     }
 
-    /// The job of the program.
+    /// Returns the job of the program.
     pub fn job(&self) -> Job<'_>
         ensures { HasFewWorkers result }
     {
@@ -241,7 +241,7 @@ impl Hunt {
         }
     }
 
-    /// How it is to end, and what it is to write.
+    /// Returns the expected status and output.
     pub fn wanted(&self) -> (Status, &str) {
         let status = match self.found {
             Found::BadRange | Found::BadCondition => Status::BadRequest,

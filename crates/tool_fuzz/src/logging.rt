@@ -1,9 +1,9 @@
-//! The log of a run, whole: each line as the worlds before and after its event have it.
+//! The whole log of a run, with each line made from the worlds before and after its event.
 //!
-//! What a node asks for is what its reaction says. What came of it is read off the two worlds: a
-//! message was lost where it is not pending afterwards, and a crash took out what is no longer
-//! pending. What a crash keeps of writes is counted from the words of the seed. That a message is
-//! dropped since 4,096 others are on their way is never the case here.
+//! The effects of a node are those of its reaction. The two worlds show what came of them: a
+//! message was lost if it is not pending after the event, and a crash took out what is no longer
+//! pending. The words of the seed say how much a crash keeps of each write. Cases never have 4,096
+//! messages pending, so no message is dropped for that.
 use crate::naming::Naming;
 use crate::plain::Trouble;
 use crate::planned::{Fold, words};
@@ -15,17 +15,18 @@ use sim_world::{Event, Fault, Occurrence, Query, Reaction, ToldEffect, View, Wor
 use std::alloc::AllocError;
 use std::fmt::Debug;
 
-/// The stream whose words decide what a crash keeps.
+/// The stream whose words decide how much a crash keeps.
 const TORN: u64 = 1;
 
-/// The next serial before an event, and the serial of what happened, where it is a step.
+/// The next serial before an event, and the serial of the occurrence that happened, if it is a
+/// step.
 #[derive(Clone, Copy)]
 struct Note {
     next: u64,
     happened: Option<u64>,
 }
 
-/// What is noted of each event of a run.
+/// Notes each event of a run.
 fn notes_of<N: Node>(fold: &mut Fold<'_, N>, events: &[Event]) -> Result<Vec<Note>, Trouble> {
     let mut world = fold.start()?;
     let mut notes = Vec::new(fold.alloc);
@@ -41,8 +42,8 @@ fn notes_of<N: Node>(fold: &mut Fold<'_, N>, events: &[Event]) -> Result<Vec<Not
     Ok(notes)
 }
 
-/// The place after the event that queued what has a serial, or none where it was there from the
-/// start.
+/// Returns the place after the event that queued an occurrence, or `None` if it was pending from
+/// the start.
 fn queued_at(notes: &[Note], serial: u64) -> Option<usize> {
     let mut place = None;
     for (before, event) in notes.iter().enumerate() {
@@ -53,7 +54,7 @@ fn queued_at(notes: &[Note], serial: u64) -> Option<usize> {
     place
 }
 
-/// The place after the step at which what has a serial happened.
+/// Returns the place after the step at which an occurrence happened.
 fn step_of(notes: &[Note], serial: u64) -> Option<usize> {
     for (before, event) in notes.iter().enumerate() {
         if event.happened == Some(serial) {
@@ -63,7 +64,7 @@ fn step_of(notes: &[Note], serial: u64) -> Option<usize> {
     None
 }
 
-/// A line of the log as it is written, and the worlds before and after its event.
+/// A line of the log that is being written, and the worlds before and after its event.
 #[derive(Drop)]
 struct Telling<'a, N: Node> {
     naming: Naming,
@@ -83,14 +84,14 @@ where
         self.naming.host(&mut self.line, host)
     }
 
-    /// Writes what stands before a part.
+    /// Writes the separator before a part.
     fn part(&mut self) -> Result<(), AllocError> {
         let mark = if self.parts == 0 { ": " } else { "; " };
         self.parts = self.parts.saturating_add(1);
         write!(self.line, "{mark}")
     }
 
-    /// Writes a word and a place in brackets, where there is one.
+    /// Writes a word and a place in brackets, if there is a place.
     fn at(&mut self, word: &str, place: Option<usize>) -> Result<(), AllocError> {
         match place {
             Some(place) => write!(self.line, " ({word} {place})"),
@@ -149,7 +150,7 @@ where
         Ok(())
     }
 
-    /// Writes an effect, and tells whether something with this serial is pending since.
+    /// Writes an effect. Returns whether an occurrence with this serial is pending since.
     fn effect(
         &mut self,
         host: u16,
@@ -187,7 +188,7 @@ where
         Ok(true)
     }
 
-    /// Writes what became of a message, and tells whether it is pending.
+    /// Writes what became of a message. Returns whether it is pending.
     fn send(&mut self, from: u16, to: u16, msg: &N::Msg, serial: u64) -> Result<bool, AllocError> {
         write!(self.line, "sends {msg:?} to ")?;
         self.host(to)?;
@@ -223,8 +224,8 @@ where
         Ok(())
     }
 
-    /// Writes what became of the messages that a direction held. Those that were let go have the
-    /// serials from this one on; it gives the one after them.
+    /// Writes what became of the messages that a direction held. Released messages have the serials
+    /// from `serial` on. Returns the serial after theirs.
     fn direction(&mut self, from: u16, to: u16, serial: u64) -> Result<u64, AllocError> {
         if 32 <= from || 32 <= to || self.after.link(from, to) == LinkState::Held {
             return Ok(serial);
@@ -270,7 +271,7 @@ where
         Ok(())
     }
 
-    /// Writes what is kept of each write that is not stable, by the next words of the stream.
+    /// Writes how much is kept of each unstable write, by the next words of the stream.
     fn tears(&mut self, host: u16) -> Result<(), AllocError> {
         let before = self.before;
         let mut words = words(self.seed, TORN);
@@ -297,7 +298,7 @@ where
         Ok(())
     }
 
-    /// The line of an event, which leads to a place.
+    /// Returns the line of the event that leads to `place`.
     fn line(
         mut self,
         place: usize,
@@ -317,7 +318,7 @@ where
     }
 }
 
-/// What the log of a run under a seed is to write.
+/// Returns the expected log of a run under a seed.
 pub fn log<N: Node>(
     fold: &mut Fold<'_, N>,
     naming: Naming,

@@ -1,8 +1,8 @@
-//! Compares plays, searches, sweeps, logs, scripts and shrinks of inputs at random with plain folds
-//! of events from the start: no tape, no book, no undo, and no workers.
+//! Compares plays, searches, sweeps, logs, scripts and shrinks of random inputs with plain folds of
+//! events from the start: no tape, no book, no undo, and no workers.
 //!
-//! `tool_fuzz COUNT FIRST` tries so many cases from a number on, 300 from 0 without these words,
-//! and tells the first that differs.
+//! `tool_fuzz COUNT FIRST` tries `COUNT` cases from number `FIRST` on, by default 300 from 0, and
+//! reports the first that differs.
 #![tactic(auto)]
 
 mod answering;
@@ -30,10 +30,10 @@ use std::sync::Wait;
 use std::thread::Threads;
 use std::{env, io};
 
-/// How many cases are tried where no number is given.
+/// The default number of cases.
 const CASES: u64 = 300;
 
-/// The number that a word writes, or another where there is no such word.
+/// Returns the number that a word writes, or `otherwise` if there is no word.
 fn number_or(word: Option<String>, otherwise: u64) -> u64 {
     match word {
         Some(word) => word.as_str().parse::<u64>().unwrap_or(otherwise),
@@ -41,7 +41,7 @@ fn number_or(word: Option<String>, otherwise: u64) -> u64 {
     }
 }
 
-/// Tells how a case differs from what is wanted.
+/// Reports how a case differs from what is expected.
 fn tell<R: Print>(rt: &R, number: u64, found: &Difference) -> io::Result<()> {
     let Difference {
         job,
@@ -56,7 +56,7 @@ fn tell<R: Print>(rt: &R, number: u64, found: &Difference) -> io::Result<()> {
     )
 }
 
-/// Tries so many cases from a number on, up to the first that differs, and tells of it.
+/// Tries `count` cases from number `first` on, until one differs, and reports it.
 fn run<R: Threads + Wait + Sync + Clock + Print + Eprint + AllocGlobal>(
     rt: &R,
     first: u64,

@@ -5,7 +5,7 @@ use sim_watch::{Comparison, JoinedTerm, Op, Term, Value};
 use sim_world::{Fault, Query};
 use std::alloc::AllocError;
 
-/// The names of a scenario: its protocol's probes, and how many servers and hosts there are.
+/// The names of a scenario: its protocol, and the numbers of its servers and hosts.
 #[derive(Clone, Copy)]
 pub struct Naming {
     pub protocol: Protocol,
@@ -36,7 +36,7 @@ impl Naming {
         }
     }
 
-    /// A word, a space and the names of hosts with a space between them.
+    /// Writes a word, a space and the names of hosts, with a space between them.
     fn hosts_after(&self, text: &mut String, word: &str, hosts: &[u16]) -> Result<(), AllocError> {
         write!(text, "{word}")?;
         for host in hosts {
@@ -73,7 +73,7 @@ impl Naming {
         }
     }
 
-    /// A host and its probe, joined by a dot.
+    /// Writes a host and its probe, joined by a dot.
     fn shown(&self, text: &mut String, host: u16, probe: u8) -> Result<(), AllocError> {
         self.host(text, host)?;
         write!(text, ".")?;
@@ -89,7 +89,7 @@ impl Naming {
         }
     }
 
-    /// A word, a probe, and what it is compared with.
+    /// Writes a word, a probe, and a comparison.
     fn values(
         &self,
         text: &mut String,
@@ -135,7 +135,7 @@ impl Naming {
         }
     }
 
-    /// A condition, with `and` or `or` between each two of its terms.
+    /// Writes a condition, with `and` or `or` between each two of its terms.
     pub fn condition(&self, text: &mut String, terms: &[JoinedTerm]) -> Result<(), AllocError> {
         for (i, joined) in terms.iter().enumerate() {
             if 0 < i {

@@ -1,13 +1,13 @@
-//! Plain branches: lists of events, whose worlds are made from the start each time.
+//! Plain branches: lists of events. Their worlds are made from the start each time.
 use sim_node::Node;
 use sim_watch::{Comparison, JoinedTerm, Op, Term, Value};
 use sim_world::{Event, Scenario, World};
 use std::alloc::{AllocError, AllocFailed, Global};
 
-/// The most watches of a branch.
+/// The greatest number of watches of a branch.
 const MOST_WATCHES: usize = 8;
 
-/// The most events of a branch.
+/// The greatest number of events of a branch.
 pub const MOST_EVENTS: usize = 65_536;
 
 /// Why there is no answer.
@@ -49,7 +49,8 @@ fn holds_op(op: Op, a: u64, b: u64) -> bool {
     }
 }
 
-/// A probe of a host, or none where the host is stopped or one of them is not there.
+/// Returns the value of a host's probe, or `None` if the host is stopped or one of them does not
+/// exist.
 pub fn probed<N: Node>(world: &World<N>, host: u16, probe: u8) -> Option<u64> {
     if host < world.hosts() && probe < N::PROBES {
         world.probe(host, probe)
@@ -58,7 +59,7 @@ pub fn probed<N: Node>(world: &World<N>, host: u16, probe: u8) -> Option<u64> {
     }
 }
 
-/// The number that a value is, or none where it is that of a stopped host.
+/// Returns the number of a value, or `None` if it is a probe of a stopped host.
 fn number_of<N: Node>(world: &World<N>, value: Value) -> Option<u64> {
     match value {
         Value::Number(number) => Some(number),
@@ -66,7 +67,8 @@ fn number_of<N: Node>(world: &World<N>, value: Value) -> Option<u64> {
     }
 }
 
-/// How many running hosts' values of a probe compare so with a number, and how many do not.
+/// Counts the running hosts whose value of a probe meets a comparison with a number, and those
+/// whose value does not.
 fn count<N: Node>(world: &World<N>, k: u8, op: Op, number: u64) -> (u64, u64) {
     let mut passing: u64 = 0;
     let mut failing: u64 = 0;
@@ -80,8 +82,7 @@ fn count<N: Node>(world: &World<N>, k: u8, op: Op, number: u64) -> (u64, u64) {
     (passing, failing)
 }
 
-/// Whether the number of running hosts whose value of a probe passes a comparison compares so with
-/// a number.
+/// Returns whether the number of running hosts that meet a comparison meets another one.
 fn counts<N: Node>(world: &World<N>, k: u8, to: Comparison, op: Op, most: u64) -> bool {
     match number_of(world, to.value) {
         Some(number) => holds_op(op, count(world, k, to.op, number).0, most),
@@ -89,7 +90,7 @@ fn counts<N: Node>(world: &World<N>, k: u8, to: Comparison, op: Op, most: u64) -
     }
 }
 
-/// Whether two hosts show the same value of a probe, which is not a number.
+/// Returns whether two hosts show the same value of a probe, other than `n`.
 fn are_same<N: Node>(world: &World<N>, a: u16, b: u16, k: u8, n: u64) -> bool {
     match (probed(world, a, k), probed(world, b, k)) {
         (Some(x), Some(y)) => x == y && x != n,
@@ -97,8 +98,8 @@ fn are_same<N: Node>(world: &World<N>, a: u16, b: u16, k: u8, n: u64) -> bool {
     }
 }
 
-/// Whether two hosts show other values of a probe, of which none is a number, and the same value of
-/// another probe.
+/// Returns whether two hosts show different values of a probe, neither of them `n`, and the same
+/// value of another probe.
 fn are_apart<N: Node>(world: &World<N>, a: u16, b: u16, k: u8, by: u8, n: u64) -> bool {
     let is_same = match (probed(world, a, by), probed(world, b, by)) {
         (Some(x), Some(y)) => x == y,
@@ -110,7 +111,7 @@ fn are_apart<N: Node>(world: &World<N>, a: u16, b: u16, k: u8, by: u8, n: u64) -
     }
 }
 
-/// Whether a term about any two hosts is false of a host and one before it.
+/// Returns whether a term about any two hosts is false for a host and one before it.
 fn clashes<N: Node>(world: &World<N>, term: Term, host: u16) -> bool {
     for other in 0..host {
         let clashes = match term {
@@ -125,7 +126,8 @@ fn clashes<N: Node>(world: &World<N>, term: Term, host: u16) -> bool {
     false
 }
 
-/// Whether all running hosts' values of a probe are equal, but for those that are a number.
+/// Returns whether the values of a probe at all running hosts are equal, those equal to `n` left
+/// out.
 fn agree<N: Node>(world: &World<N>, k: u8, n: u64) -> bool {
     let mut first = None;
     for h in 0..world.hosts() {
@@ -161,7 +163,7 @@ fn term_holds<N: Node>(world: &World<N>, term: Term) -> bool {
     }
 }
 
-/// Whether all terms of an alternative hold of a world.
+/// Returns whether the condition holds in a world.
 pub fn holds<N: Node>(world: &World<N>, terms: &[JoinedTerm]) -> bool {
     let mut all = true;
     for (place, joined) in terms.iter().enumerate() {
@@ -176,7 +178,7 @@ pub fn holds<N: Node>(world: &World<N>, terms: &[JoinedTerm]) -> bool {
     all
 }
 
-/// The world after an event more.
+/// Returns the world after one more event.
 pub fn after<N: Node>(
     alloc: Global,
     world: World<N>,
@@ -190,7 +192,7 @@ pub fn after<N: Node>(
     Ok(next)
 }
 
-/// The world after events from the start.
+/// Returns the world after events from the start.
 pub fn folded<N: Node>(
     alloc: Global,
     scenario: &Scenario,
@@ -205,7 +207,7 @@ pub fn folded<N: Node>(
 }
 
 impl Branch {
-    /// A branch of events, at their end and without watches.
+    /// Makes a branch of events, with its place at their end and without watches.
     pub fn new(alloc: Global, events: Vec<Event>) -> Result<Branch, AllocError> {
         let mut watches = Vec::new(alloc);
         for _watch in 0..MOST_WATCHES {
@@ -219,14 +221,14 @@ impl Branch {
         })
     }
 
-    /// Adds an event at the end, where the place is.
+    /// Adds an event at the end, which is the place.
     pub fn add(&mut self, event: Event) -> Result<(), AllocError> {
         self.events.push(event)?;
         self.place = self.events.len();
         Ok(())
     }
 
-    /// The lowest watch that fails of a world.
+    /// Returns the lowest watch that fails in a world.
     pub fn failing<N: Node>(&self, world: &World<N>) -> Option<usize> {
         for (k, watch) in self.watches.iter().enumerate() {
             match watch {
@@ -241,7 +243,7 @@ impl Branch {
         self.watches.iter().position(|watch| watch.is_none())
     }
 
-    /// The events up to the place.
+    /// Returns the events before the place.
     pub fn before(&self) -> &[Event] {
         let events = self.events.as_slice();
         events.split_at(self.place.min(events.len())).0

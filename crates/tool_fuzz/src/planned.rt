@@ -1,4 +1,4 @@
-//! Planned events by the words of a seed, and the runs that events make.
+//! Events planned by the words of a seed, and the runs that events make.
 ghost use Rattle.std.specs.Prelude.{◌<◌, ◌≤◌};
 
 use crate::plain::{Trouble, after, holds};
@@ -15,8 +15,8 @@ use std::alloc::Global;
 /// The stream whose words plan faults.
 const PLANNING: u64 = 34;
 
-/// How a run is planned: one event in so many is a fault or a healing, on average; so many events;
-/// and so many quiet steps.
+/// The plan of a run: on average one event in `spacing` is a fault or a healing, and the numbers of
+/// events and of quiet steps.
 #[derive(Clone, Copy)]
 pub struct Plan {
     pub faults: Option<u32>,
@@ -24,21 +24,21 @@ pub struct Plan {
     pub quiet: u32,
 }
 
-/// Which places of a run are looked at.
+/// The places of a run to look at.
 #[derive(Clone, Copy)]
 pub enum Looked {
     From(usize),
     Last,
 }
 
-/// Gives the words of a stream of a seed, from the first one on.
+/// Returns the words of a stream of a seed, from the first one on.
 pub fn words(seed: [u8; 32], stream: u64) -> ChaCha20Rng {
     let mut words = ChaCha20Rng::from_seed(seed);
     words.set_stream(stream);
     words
 }
 
-/// A number modulo a number of hosts.
+/// Returns a number modulo a number of hosts.
 fn modulo(number: u32, count: u16) -> u16
     requires { 0 < count }
     ensures { result < count }
@@ -46,7 +46,7 @@ fn modulo(number: u32, count: u16) -> u16
     (number % u32::from(count)) as u16
 }
 
-/// The fault that a number plans, and what heals it if it is a wound.
+/// Returns the fault that a number plans, and what heals it if it is a wound.
 fn fault_of(servers: u16, hosts: u16, u: u32) -> (Fault, Option<Fault>)
     requires servers { 0 < servers }
     requires some { 1 < hosts }
@@ -66,7 +66,8 @@ fn fault_of(servers: u16, hosts: u16, u: u32) -> (Fault, Option<Fault>)
     }
 }
 
-/// The fault or the healing that a number plans where these wounds are open, the oldest first.
+/// Returns the fault or the healing that a number plans while these wounds are open, the oldest
+/// first.
 fn struck(setting: &Setting, v: u32, wounds: &mut Vec<Fault>) -> Result<Fault, Trouble> {
     let count = wounds.len();
     if count == 2 || (v % 2 == 1 && count == 1) {
@@ -84,7 +85,7 @@ fn struck(setting: &Setting, v: u32, wounds: &mut Vec<Fault>) -> Result<Fault, T
 }
 
 impl Plan {
-    /// The planned events of a numbered seed, behind given ones.
+    /// Returns the given events and, after them, the planned events of a numbered seed.
     pub fn planned(
         self,
         alloc: Global,
@@ -115,7 +116,7 @@ impl Plan {
         Ok(events)
     }
 
-    /// What the command line says of it, but for the number of events.
+    /// Returns the options of the command line, but for the number of events.
     pub fn asked(self) -> FaultPlan {
         FaultPlan {
             faults: match self.faults {
@@ -127,7 +128,7 @@ impl Plan {
     }
 }
 
-/// Plain folds of a scenario's events, by a condition that is looked at on the way.
+/// Plain folds of a scenario's events, with a condition to check on the way.
 #[derive(Drop)]
 pub struct Fold<'a, N: Node> {
     pub alloc: Global,
@@ -137,17 +138,17 @@ pub struct Fold<'a, N: Node> {
 }
 
 impl<N: Node> Fold<'_, N> {
-    /// The world at the start.
+    /// Returns the world at the start.
     pub fn start(&mut self) -> Result<World<N>, Trouble> {
         Ok(World::start(self.alloc, self.scenario, self.meter)?)
     }
 
-    /// The world after an event that can happen.
+    /// Returns the world after an event that can happen.
     pub fn after(&mut self, world: World<N>, event: Event) -> Result<World<N>, Trouble> {
         after(self.alloc, world, event, self.meter)
     }
 
-    /// Those of the events that can happen, one after the other.
+    /// Returns the events that can happen, one after the other.
     pub fn run(&mut self, events: &[Event]) -> Result<Vec<Event>, Trouble> {
         let mut world = self.start()?;
         let mut run = Vec::new(self.alloc);
@@ -160,8 +161,8 @@ impl<N: Node> Fold<'_, N> {
         Ok(run)
     }
 
-    /// The first place that is looked at and where no alternative holds, on the way of those of the
-    /// events that can happen.
+    /// Returns the first place to look at where the condition fails, along the events that can
+    /// happen.
     pub fn failing(&mut self, events: &[Event], looked: Looked) -> Result<Option<usize>, Trouble> {
         let mut world = self.start()?;
         let mut place = 0usize;

@@ -31,7 +31,7 @@ pub const UNKNOWN_WATCH: Refused = Refused(10, "UnknownWatch");
 
 pub const BAD_CONDITION: Refused = Refused(11, "BadCondition");
 
-/// The hosts that a fault names.
+/// Returns the hosts that a fault names.
 pub fn fault_hosts(fault: Fault) -> (u16, Option<u16>) {
     match fault {
         Fault::Crash(h) | Fault::Bounce(h) => (h, None),
@@ -44,7 +44,7 @@ pub fn fault_hosts(fault: Fault) -> (u16, Option<u16>) {
     }
 }
 
-/// Why one or two hosts can't be meant.
+/// Returns why a command cannot name one or two hosts.
 pub fn bad_hosts(hosts: u16, first: u16, second: Option<u16>) -> Option<Refused>
     ensures first { result ≡ None → first < hosts }
     ensures second { result ≡ None → IfSome second (λ host. host < hosts) }
@@ -57,7 +57,7 @@ pub fn bad_hosts(hosts: u16, first: u16, second: Option<u16>) -> Option<Refused>
     }
 }
 
-/// Why a query can't be answered.
+/// Returns why a query is refused.
 pub fn bad_query(hosts: u16, probes: u8, query: Query) -> Option<Refused>
     ensures { result ≡ None → CanLook hosts probes query }
 {
@@ -71,7 +71,7 @@ pub fn bad_query(hosts: u16, probes: u8, query: Query) -> Option<Refused>
     }
 }
 
-/// The host and the probe whose value is compared with, where it is one.
+/// Returns the host and the probe of a comparison, if it is with a probe.
 fn shown(to: Comparison) -> Option<(u16, u8)> {
     match to.value {
         Value::Number(_) => None,
@@ -79,7 +79,7 @@ fn shown(to: Comparison) -> Option<(u16, u8)> {
     }
 }
 
-/// Whether a term names a host that is not there.
+/// Returns whether a term names a host that does not exist.
 fn names_no_host(hosts: u16, term: Term) -> bool {
     match term {
         Term::Up(h) | Term::NotUp(h) | Term::Done(h) | Term::NotDone(h) => hosts <= h,
@@ -93,7 +93,7 @@ fn names_no_host(hosts: u16, term: Term) -> bool {
     }
 }
 
-/// Whether a term names a probe that is not there.
+/// Returns whether a term names a probe that does not exist.
 fn names_no_probe(probes: u8, term: Term) -> bool {
     match term {
         Term::Up(_) | Term::NotUp(_) | Term::Done(_) | Term::NotDone(_) => false,
@@ -107,7 +107,7 @@ fn names_no_probe(probes: u8, term: Term) -> bool {
     }
 }
 
-/// Whether a condition names a host that is not there, or else a probe.
+/// Returns why a condition is refused: it names a host, or else a probe, that does not exist.
 pub fn bad_condition(hosts: u16, probes: u8, terms: &[JoinedTerm]) -> Option<Refused> {
     if terms.iter().any(|joined| names_no_host(hosts, joined.term)) {
         Some(UNKNOWN_HOST)

@@ -1,4 +1,4 @@
-//! Scenarios at random: their texts and their values.
+//! Random scenarios: their texts and their values.
 ghost use Rattle.std.specs.Prelude.{◌<◌, ◌≤◌};
 
 use crate::dice::Dice;
@@ -34,7 +34,7 @@ pub struct Setting {
     window: u32,
 }
 
-/// The word by which a scenario names a protocol.
+/// Returns the word for a protocol in a scenario.
 fn protocol_word(protocol: Protocol) -> &'static str {
     match protocol {
         Protocol::Echo => "echo",
@@ -69,7 +69,7 @@ fn some_operations(dice: &mut Dice) -> [u16; 32] {
     operations
 }
 
-/// A time that is mostly below 50 ms, and once in eight times anything up to half of the longest
+/// Returns a time mostly below 50 ms, and once in eight times any up to half of the longest
 /// latency.
 fn some_time(dice: &mut Dice) -> u32
     ensures { result < 30001 }
@@ -81,7 +81,7 @@ fn some_time(dice: &mut Dice) -> u32
     }
 }
 
-/// Latencies, equal ones among them, and a loss that is mostly none.
+/// Returns a way with latencies that may be equal, and a loss that is mostly 0.
 fn some_way(dice: &mut Dice) -> Way {
     let latency_min = some_time(dice);
     let spread = if dice.once_in(3) { 0 } else { some_time(dice) };
@@ -97,7 +97,7 @@ fn some_way(dice: &mut Dice) -> Way {
     }
 }
 
-/// A tick that is mostly at most 200 ms, and once in eight times anything up to the longest.
+/// Returns a tick mostly of at most 200 ms, and once in eight times any up to the longest.
 fn some_tick(dice: &mut Dice) -> u32 {
     if dice.once_in(8) {
         1 + dice.below(60_000)
@@ -106,7 +106,7 @@ fn some_tick(dice: &mut Dice) -> u32 {
     }
 }
 
-/// How long a sync takes: mostly below 30 ms, and once in eight times anything up to the longest.
+/// Returns a latency of a sync mostly below 30 ms, and once in eight times any up to the longest.
 fn some_sync(dice: &mut Dice) -> u32 {
     if dice.once_in(8) {
         dice.below(60_001)
@@ -115,7 +115,7 @@ fn some_sync(dice: &mut Dice) -> u32 {
     }
 }
 
-/// How many events lie between two checkpoints, or can be undone by their records.
+/// Returns an interval or a window of at most `most` events.
 fn some_length(dice: &mut Dice, most: u32) -> u32
     requires { 1 ≤ most }
 {
@@ -129,7 +129,7 @@ fn some_length(dice: &mut Dice, most: u32) -> u32
     }
 }
 
-/// The name of a host: a server's or a client's, or one that no host has.
+/// Writes the name of a host: of a server or a client, or one that no host has.
 pub fn write_host(
     text: &mut String,
     servers: u16,
@@ -147,7 +147,7 @@ pub fn write_host(
 }
 
 impl Setting {
-    /// A scenario at random: at most four servers and three clients.
+    /// Returns a random scenario of at most four servers and three clients.
     pub fn some(dice: &mut Dice) -> Setting {
         let protocol = some_protocol(dice);
         let second_format = dice.once_in(2);
@@ -182,12 +182,12 @@ impl Setting {
         }
     }
 
-    /// The scenario itself, or none where a value is not within its limits.
+    /// Returns the scenario, or `None` if a value is out of range.
     pub fn scenario(&self) -> Option<Scenario> {
         self.seeded(self.seed)
     }
 
-    /// The seed whose last eight bytes are a number, the least byte first.
+    /// Returns the seed with a number in its last eight bytes, low byte first.
     pub fn numbered_seed(&self, number: u64) -> [u8; 32] {
         let mut seed = self.seed;
         for (byte, part) in seed.iter_mut().skip(24).zip(number.to_le_bytes()) {
@@ -196,12 +196,12 @@ impl Setting {
         seed
     }
 
-    /// The scenario under that seed.
+    /// Returns the scenario under that seed.
     pub fn numbered(&self, number: u64) -> Option<Scenario> {
         self.seeded(self.numbered_seed(number))
     }
 
-    /// The scenario under another seed.
+    /// Returns the scenario under another seed.
     fn seeded(&self, seed: [u8; 32]) -> Option<Scenario> {
         let mut ways = Ways::all(self.way);
         if let Some(link) = self.link {
@@ -240,7 +240,7 @@ impl Setting {
         )
     }
 
-    /// Writes the keys that stand before the tables.
+    /// Writes the keys before the tables.
     fn write_keys(&self, alloc: Global, text: &mut String) -> Result<(), AllocError> {
         let format = if self.second_format { 2 } else { 1 };
         let seed = hex::encode(alloc, self.seed)?;

@@ -1,5 +1,5 @@
-//! What `shrink` leaves of a run: that its run fails first at its end, that it is the whole run up
-//! to its failing place without some faults, and that without any one of the others it fails
+//! Checks what `shrink` leaves of a run: that its run first fails at its end, that it is the whole
+//! run up to its failing place without some faults, and that without any one of the others it fails
 //! nowhere in the rest of that run.
 use crate::exporting::Export;
 use crate::plain::Trouble;
@@ -14,8 +14,7 @@ use std::rt::Clock;
 use std::sync::Wait;
 use std::thread::Threads;
 
-/// Some of the faults of a run with all its steps, and how far along what is left of the run they
-/// lead.
+/// Some of the faults of a run with all its steps, and how far they lead along the shrunk run.
 #[derive(Drop)]
 struct Choice {
     kept: Vec<Event>,
@@ -23,7 +22,7 @@ struct Choice {
 }
 
 impl Choice {
-    /// The same with an event more, which leads on by so many places.
+    /// Returns the choice with one more event, which leads on by `places` places.
     fn with(&self, alloc: Global, event: Event, places: usize) -> Result<Choice, AllocError> {
         let mut kept = self.kept.as_slice().to_vec(alloc)?;
         kept.push(event)?;
@@ -33,8 +32,8 @@ impl Choice {
         })
     }
 
-    /// Adds the choices that go on with an event: a fault may stay or not, and a step that can
-    /// happen has to be the next event that is left. Past the end of what is left steps stay.
+    /// Adds the choices that continue with an event: a fault may stay or not, and a step that can
+    /// happen must be the next event of the shrunk run. Past its end steps stay.
     fn go_on(
         &self,
         alloc: Global,
@@ -65,7 +64,7 @@ impl Choice {
     }
 }
 
-/// The events but for that with a number.
+/// Returns the events without the one of this number.
 fn without(alloc: Global, events: &[Event], number: usize) -> Result<Vec<Event>, AllocError> {
     let mut others = Vec::new(alloc);
     for (i, event) in events.iter().enumerate() {
@@ -77,7 +76,7 @@ fn without(alloc: Global, events: &[Event], number: usize) -> Result<Vec<Event>,
 }
 
 impl<N: Node> Fold<'_, N> {
-    /// Whether nothing is pending, before each event of a run.
+    /// Returns, for each event of a run, whether nothing is pending before it.
     fn are_idle(&mut self, run: &[Event]) -> Result<Vec<bool>, Trouble> {
         let mut world = self.start()?;
         let mut are_idle = Vec::new(self.alloc);
@@ -88,8 +87,8 @@ impl<N: Node> Fold<'_, N> {
         Ok(are_idle)
     }
 
-    /// The choices of faults by which the run of a whole one begins with what is left, or with a
-    /// part of it.
+    /// Returns the choices of faults by which the run of `whole` begins with `left`, or with a part
+    /// of it.
     fn choices(&mut self, whole: &[Event], left: &[Event]) -> Result<Vec<Choice>, Trouble> {
         let are_idle = self.are_idle(left)?;
         let mut choices = Vec::new(self.alloc);
@@ -107,7 +106,7 @@ impl<N: Node> Fold<'_, N> {
         Ok(choices)
     }
 
-    /// Whether the condition fails nowhere once any one of the faults is dropped.
+    /// Returns whether the condition fails nowhere after any one of the faults is dropped.
     fn is_minimal(&mut self, kept: &[Event]) -> Result<bool, Trouble> {
         for (i, event) in kept.iter().enumerate() {
             if let Event::Fault(_) = event {
@@ -120,7 +119,7 @@ impl<N: Node> Fold<'_, N> {
         Ok(true)
     }
 
-    /// Whether a run is what may be left of a whole one, which fails at its end and nowhere before.
+    /// Returns whether `left` can be shrunk from `whole`: it fails at its end and nowhere before.
     fn is_shrunk(&mut self, whole: &[Event], left: &[Event]) -> Result<bool, Trouble> {
         if self.failing(left, Looked::From(0))? != Some(left.len()) {
             return Ok(false);
@@ -135,8 +134,8 @@ impl<N: Node> Fold<'_, N> {
 }
 
 impl Export {
-    /// Whether a text is an input of the same scenario with what may be left of the run of an
-    /// input, which fails at a place.
+    /// Returns whether a text is an input of the same scenario, with a run that can be shrunk from
+    /// the run of `input`, which fails at a place.
     fn is_smaller<N: Node>(
         &self,
         fold: &mut Fold<'_, N>,
@@ -159,7 +158,7 @@ impl Export {
         }
     }
 
-    /// How what is left of the run of an input differs from what is to be.
+    /// Returns how the shrunk run of an input differs from what is expected.
     pub fn wrong_shrink<N: Node, R: Threads + Wait + Sync + Clock + Eprint>(
         &self,
         rt: &R,

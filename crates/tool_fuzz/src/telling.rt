@@ -1,4 +1,4 @@
-//! The lines that tell answers.
+//! The lines of answers.
 use crate::answering::{Answer, Why};
 use crate::naming::Naming;
 use sim_links::LinkState;
@@ -123,7 +123,7 @@ impl Naming {
         }
     }
 
-    /// The events of a branch in JSON.
+    /// Writes the events of a branch in JSON.
     fn trace(&self, text: &mut String, branch: u32, events: &[Event]) -> Result<(), AllocError> {
         let open = '{';
         let close = '}';

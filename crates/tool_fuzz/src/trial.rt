@@ -1,4 +1,4 @@
-//! A job of the program over an input, beside what it is to write.
+//! Runs a job of the program over an input, and compares its output with the expected one.
 ghost use Rattle.sim_job.specs.CommandLine.{HasFewWorkers};
 
 use sim_cli::Shipped;
@@ -8,14 +8,14 @@ use std::rt::Clock;
 use std::sync::Wait;
 use std::thread::Threads;
 
-/// What was written, and how it ended.
+/// The output and the status of a job.
 #[derive(Drop)]
 pub struct Written {
     pub status: Status,
     pub text: Vec<u8>,
 }
 
-/// How what a job wrote over an input differs from what was wanted.
+/// How the output of a job over an input differs from the expected one.
 #[derive(Drop)]
 pub struct Difference {
     pub job: String,
@@ -25,7 +25,7 @@ pub struct Difference {
 }
 
 impl Written {
-    /// What a job writes over an input.
+    /// Runs a job over an input.
     pub fn by<R: Threads + Wait + Sync + Clock + Eprint>(
         rt: &R,
         alloc: Global,
@@ -40,12 +40,12 @@ impl Written {
         Written { status, text }
     }
 
-    /// Whether it is a text, after which the program ended so.
+    /// Returns whether the output is this text, with this status.
     pub fn is(&self, status: Status, text: &str) -> bool {
         self.status == status && self.text.as_slice() == text.as_bytes()
     }
 
-    /// How it differs, as what a job wrote over an input, from what was wanted.
+    /// Returns the difference between this output of a job over an input and the expected one.
     pub fn instead_of(
         self,
         alloc: Global,
@@ -62,7 +62,8 @@ impl Written {
     }
 }
 
-/// How what a job writes over an input, and its end, differ from these, if they do.
+/// Runs a job over an input. Returns how its output or status differs from the expected ones, if it
+/// does.
 pub fn differs<R: Threads + Wait + Sync + Clock + Eprint>(
     rt: &R,
     alloc: Global,

@@ -1,4 +1,4 @@
-//! The script, by turns of a book.
+//! The script, as turns of a book.
 use crate::opening::{LOOKS, Nodes, SCRIPT, command, opening, tell, wants_memory};
 use crate::{TRIES, Trouble};
 use sim_book::{Book, Entry, NotTaken};
@@ -6,7 +6,7 @@ use sim_cli::Tally;
 use sim_script::Names;
 use std::alloc::Global;
 
-// The turn of a line, given again where it wanted memory.
+// Takes the turn of a line, and again if it wants memory.
 fn turn(
     alloc: Global,
     book: &mut Book<Nodes>,
@@ -22,7 +22,7 @@ fn turn(
     Err(Trouble::StillWanting)
 }
 
-// What all branches answer to looks.
+// Returns the answers of all branches to looks.
 fn looks(alloc: Global, book: &mut Book<Nodes>, names: &Names) -> Result<String, Trouble> {
     let mut text = String::new(alloc);
     for line in LOOKS.lines() {
@@ -32,8 +32,8 @@ fn looks(alloc: Global, book: &mut Book<Nodes>, names: &Names) -> Result<String,
     Ok(text)
 }
 
-// The turn of a line. Where it wants memory, all branches answer to looks as before, and it is
-// given again.
+// Takes the turn of a line. If it wants memory, checks that all branches answer looks as before,
+// and takes it again.
 fn checked_turn(
     alloc: Global,
     book: &mut Book<Nodes>,
@@ -53,7 +53,7 @@ fn checked_turn(
     Err(Trouble::StillWanting)
 }
 
-/// The lines of the script's answers.
+/// Returns the lines of the script's answers.
 pub fn lines(alloc: Global) -> Result<String, Trouble> {
     let (scenario, names) = opening(alloc)?;
     let mut book = Book::<Nodes>::new(alloc, &scenario, Tally::new())?;

@@ -10,7 +10,7 @@ use std::rt::Clock;
 use std::sync::Wait;
 use std::thread::Threads;
 
-// Who looks for what is there.
+// The workers of a search or a sweep.
 const TEAM: Team = Team {
     workers: 2,
     progress: false,
@@ -26,17 +26,17 @@ const FAULTS: FaultPlan = FaultPlan {
     quiet: 9,
 };
 
-// Fails where the client has done its first operation.
+// Fails when the client has done its first operation.
 const FIRST_IS_OPEN: &str = "c.next <= 1";
 
-// The scenario with the script.
+// Returns the scenario with the script.
 fn input(alloc: Global) -> Result<String, Trouble> {
     let mut input = String::new(alloc);
     write!(input, "{SCENARIO}---\n{SCRIPT}")?;
     Ok(input)
 }
 
-// A search of the first places.
+// Returns a search of the first places.
 fn search() -> Job<'static>
     ensures { HasFewWorkers result }
 {
@@ -49,7 +49,7 @@ fn search() -> Job<'static>
     }
 }
 
-// A sweep over three seeds.
+// Returns a sweep over three seeds.
 fn sweep(plan: FaultPlan, script: bool) -> Job<'static>
     ensures { HasFewWorkers result }
 {
@@ -67,7 +67,8 @@ fn sweep(plan: FaultPlan, script: bool) -> Job<'static>
     }
 }
 
-// What a job writes. One that wanted memory has written nothing, and is done again.
+// Returns the output of a job. If the job wants memory, checks that it wrote nothing, and runs it
+// again.
 fn answer<R: Threads + Wait + Sync + Clock + Eprint>(
     rt: &R,
     alloc: Global,
@@ -81,7 +82,7 @@ fn answer<R: Threads + Wait + Sync + Clock + Eprint>(
         let mut text = Vec::new(alloc);
         match perform::<Shipped, R, _, _>(rt, alloc, job, &mut reader, &mut text) {
             Status::Well => return Ok(text),
-            // A list that can't grow is a writer that fails.
+            // If the list can't grow, the writer fails.
             Status::MemoryWanted | Status::WriterFailed if text.is_empty() => {}
             _ => return Err(Trouble::Wrong),
         }
@@ -89,7 +90,7 @@ fn answer<R: Threads + Wait + Sync + Clock + Eprint>(
     Err(Trouble::StillWanting)
 }
 
-// Adds what a job writes to a text.
+// Adds the output of a job to a text.
 fn add<R: Threads + Wait + Sync + Clock + Eprint>(
     rt: &R,
     alloc: Global,
@@ -107,8 +108,8 @@ fn add<R: Threads + Wait + Sync + Clock + Eprint>(
     Ok(())
 }
 
-// A run is made small, told as a log in words and in JSON, and shown as a page, which is the same a
-// second time.
+// Shrinks a run, writes its log in words and in JSON, and checks that its page has the same bytes
+// twice.
 fn shown<R: Threads + Wait + Sync + Clock + Eprint>(
     rt: &R,
     alloc: Global,
@@ -141,8 +142,8 @@ fn shown<R: Threads + Wait + Sync + Clock + Eprint>(
     }
 }
 
-/// What searches and sweeps find, the script of a seed's run, and what is left of this run and told
-/// of it.
+/// Returns the results of searches and sweeps, the script of a seed's run, and the shrunk run with
+/// its logs and page.
 pub fn lines<R: Threads + Wait + Sync + Clock + Eprint>(
     rt: &R,
     alloc: Global,

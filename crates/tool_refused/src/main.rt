@@ -1,9 +1,9 @@
 //! Carries out commands on a book, from a shared book's seat, and as whole jobs of the program, and
-//! gives each that wanted memory again.
+//! repeats each that wanted memory.
 //!
-//! What wanted memory has left all branches as they were, and the next command goes on; so what is
-//! told in the end does not depend on which growths were refused. The program ends well where all
-//! of this is so.
+//! A command that wanted memory must leave all branches unchanged, and the next command goes on. So
+//! the output in the end does not depend on which allocations were refused. The program ends well
+//! if all of this holds.
 #![tactic(auto)]
 
 mod book;
@@ -21,13 +21,13 @@ use std::thread::Threads;
 /// What went wrong.
 #[derive(Clone, Copy, Debug, PartialEq, Eq)]
 pub enum Trouble {
-    /// There was no memory for what the program keeps of its own; it may be tried again.
+    /// Memory for the program's own values was refused; it may be tried again.
     NoMemory,
-    /// A command that wanted memory left something else than it found.
+    /// A command that wanted memory changed something.
     Changed,
-    /// A command still wanted memory when it was given again.
+    /// A command still wanted memory when it was repeated.
     StillWanting,
-    /// Something was answered that can't be.
+    /// An answer was one that can't be.
     Wrong,
 }
 
@@ -37,10 +37,10 @@ impl From<std::alloc::AllocError> for Trouble {
     }
 }
 
-/// How often what wants memory is tried.
+/// How often something that wants memory is tried.
 pub const TRIES: u8 = 3;
 
-/// Does something again where it wanted memory.
+/// Repeats something that wanted memory.
 fn again<T, F: Fn() -> Result<T, Trouble>>(attempt: F) -> Result<T, Trouble>
     requires { F.IsAlwaysCallable attempt }
 {
@@ -53,8 +53,8 @@ fn again<T, F: Fn() -> Result<T, Trouble>>(attempt: F) -> Result<T, Trouble>
     attempt()
 }
 
-/// Tells the lines of a book, which are those of a seat and of a second time too, and those of the
-/// jobs.
+/// Returns the lines of a book and of the jobs. Checks that a second book and a seat give the same
+/// lines.
 fn told<R: Threads + Wait + Sync + Clock + Eprint>(
     rt: &R,
     alloc: Global,

@@ -11,7 +11,7 @@ use std::alloc::Global;
 /// The nodes of the run.
 pub type Nodes = PrimaryBackup<Tally>;
 
-/// A primary, a backup and a client, on disks that take 5 ms.
+/// A primary, a backup and a client, on disks whose syncs take 5 ms.
 pub const SCENARIO: &str = r#"format = 2
 seed = "000102030405060708090a0b0c0d0e0f101112131415161718191a1b1c1d1e1f"
 protocol = "primary_backup"
@@ -29,8 +29,7 @@ name = "c"
 ops = 2
 "#;
 
-/// A script with each command, and what can be asked of the three branches that there are in the
-/// end.
+/// A script with each command, and with looks at its three branches at the end.
 pub const SCRIPT: &str = "step
 run 4
 tick
@@ -67,7 +66,7 @@ trace
 @1 trace
 ";
 
-/// What is asked of each branch to see whether it is as it was.
+/// The looks at each branch that show whether it is unchanged.
 pub const LOOKS: &str = "look
 look next
 trace
@@ -79,7 +78,7 @@ trace
 @2 trace
 ";
 
-/// The scenario and the names.
+/// Returns the scenario and the names.
 pub fn opening(alloc: Global) -> Result<(Scenario, Names), Trouble> {
     match read_scenario::<Shipped>(alloc, SCENARIO.as_bytes()) {
         WasRead::Scenario(text) => {
@@ -91,7 +90,7 @@ pub fn opening(alloc: Global) -> Result<(Scenario, Names), Trouble> {
     }
 }
 
-/// The command of a line.
+/// Returns the command of a line.
 pub fn command(alloc: Global, names: &Names, line: &str) -> Result<Command, Trouble> {
     match line_of(names, line.as_bytes()) {
         ScriptLine::Asked(ask) => Ok(ask.into_command(alloc)?),
@@ -99,7 +98,7 @@ pub fn command(alloc: Global, names: &Names, line: &str) -> Result<Command, Trou
     }
 }
 
-/// Whether a turn tells of want of memory.
+/// Returns whether a turn wanted memory.
 pub fn wants_memory(turn: &Result<Entry, NotTaken>) -> bool {
     match turn {
         Ok(entry) => matches!(entry.reply, Reply::Refused(Refusal::NoMemory)),

@@ -1,4 +1,4 @@
-//! The script, by the calls of a session of a shared book, beside another session.
+//! The script, as calls of a session of a shared book, beside another session.
 ghost use Rattle.std.specs.Prelude.{◌≡◌};
 ghost use Rattle.sim_shared.specs.Sharing.{IsAt};
 
@@ -12,7 +12,7 @@ use sim_world::Query;
 use std::alloc::Global;
 use std::sync::Wait;
 
-// The call of another session that comes next. It looks at the first branch, and changes nothing.
+// Makes the next call of the other session. It looks at the first branch, and changes nothing.
 fn look<R: Wait>(rt: &R, shared: &Shared<Nodes>, seat: &mut Seat<Nodes>) -> Result<(), Trouble>
     requires { IsAt shared.now seat.old }
     ensures { IsAt shared.now seat.new }
@@ -24,8 +24,8 @@ fn look<R: Wait>(rt: &R, shared: &Shared<Nodes>, seat: &mut Seat<Nodes>) -> Resu
     Ok(())
 }
 
-// Calls for a line, and adds the line of the answer. Where the call wanted memory, the other
-// session's call goes on, and then this one does. It tells how many calls were taken.
+// Makes the call of a line, and adds the line of its answer. If it wants memory, the other
+// session's call is made, and then it is repeated. Returns how many calls were taken.
 fn call<R: Wait>(
     rt: &R,
     alloc: Global,
@@ -57,8 +57,8 @@ fn call<R: Wait>(
     Err(Trouble::StillWanting)
 }
 
-// Calls for each line of the script, and adds the lines of the answers. It tells how many calls
-// were taken.
+// Makes the call of each line of the script, and adds the lines of the answers. Returns how many
+// calls were taken.
 fn call_all<R: Wait>(
     rt: &R,
     alloc: Global,
@@ -81,7 +81,8 @@ fn call_all<R: Wait>(
     Ok(taken)
 }
 
-/// The lines of the script's answers; the history has an entry for each call that was taken.
+/// Returns the lines of the script's answers. Checks that the history has an entry for each call
+/// that was taken.
 pub fn lines<R: Wait>(rt: &R, alloc: Global) -> Result<String, Trouble> {
     let (scenario, names) = opening(alloc)?;
     let book = Book::<Nodes>::new(alloc, &scenario, Tally::new())?;

@@ -25,7 +25,7 @@ enum Ask {
     Look,
 }
 
-// A command at random; mostly it is a step.
+// Returns a random command, mostly a step.
 fn chosen(dice: &mut Dice) -> Ask {
     let n = dice.below(7);
     match dice.below(13) {
@@ -45,7 +45,7 @@ fn chosen(dice: &mut Dice) -> Ask {
     }
 }
 
-// The command on this branch.
+// Returns the command on this branch.
 fn on(ask: Ask, b: u32) -> Command {
     match ask {
         Ask::Step => Command::Step(b),
@@ -73,14 +73,14 @@ impl Plain {
         self.events.len().min(65_536) as u32
     }
 
-    // Adds an event at the end, where the place is.
+    // Adds an event at the end, which is the place.
     fn add(&mut self, event: Event) -> Result<(), Fail> {
         self.events.push(event)?;
         self.place = self.len();
         Ok(())
     }
 
-    // Goes to a place, or it is too far.
+    // Goes to a place. Returns `None` if it is too far.
     fn go_to(&mut self, to: Option<u32>) -> Option<Told> {
         match to {
             Some(place) if place <= self.len() => {
@@ -92,12 +92,12 @@ impl Plain {
     }
 }
 
-// Whether nothing is pending.
+// Returns whether nothing is pending.
 fn is_idle<N: Node>(world: &World<N>) -> bool {
     world.can(Event::Step).is_err()
 }
 
-// The world after one event more.
+// Returns the world after one more event.
 fn after<N: Node>(
     alloc: Global,
     world: World<N>,
@@ -112,7 +112,7 @@ fn after<N: Node>(
     Ok(next)
 }
 
-// The world after the events up to the place.
+// Returns the world after the events up to the place.
 fn folded<N: Node>(
     alloc: Global,
     scenario: &Scenario,
@@ -126,7 +126,7 @@ fn folded<N: Node>(
     Ok(world)
 }
 
-/// A book, and what its branches are to be.
+/// A book, and the plain branches that its branches should equal.
 #[derive(Drop)]
 pub struct Fold {
     book: EchoBook,
@@ -135,7 +135,7 @@ pub struct Fold {
     meter: Counts,
 }
 
-/// A plain branch, and what folds it.
+/// A plain branch, with the scenario and the meter of its worlds.
 #[derive(Drop)]
 struct Folding<'a> {
     plain: &'a mut Plain,
@@ -152,7 +152,7 @@ impl Folding<'_> {
         Ok(self.world(alloc)?.clock())
     }
 
-    // Why a run at the place stops, or that it goes on.
+    // Returns why a run at the place stops, or `None` if it goes on.
     fn stop(&mut self, alloc: Global) -> Result<Option<Stop>, Fail> {
         let world = self.world(alloc)?;
         if world.are_clients_done() {
@@ -161,7 +161,7 @@ impl Folding<'_> {
         Ok(is_idle(&world).then_some(Stop::Idle))
     }
 
-    // Adds steps, and tells why no more.
+    // Adds steps, and returns why it stopped.
     fn run(&mut self, alloc: Global, count: u32) -> Result<Stop, Fail> {
         for left in (0..count).rev() {
             self.plain.add(Event::Step)?;
@@ -174,7 +174,7 @@ impl Folding<'_> {
         Ok(Stop::Asked)
     }
 
-    // Adds the events of a tick of 100 ms, and tells why no more.
+    // Adds the events of a tick of 100 ms, and returns why it stopped.
     fn tick(&mut self, alloc: Global) -> Result<Stop, Fail> {
         let end = self.clock(alloc)?.saturating_add(100);
         for _step in 0..1_000 {
@@ -192,7 +192,7 @@ impl Folding<'_> {
         Err(Fail::from("a long tick"))
     }
 
-    // Adds what a command adds at the end, and tells why no more; or it is refused.
+    // Adds the events of a command at the end, and returns why it stopped; or the refusal.
     fn add(&mut self, alloc: Global, ask: Ask) -> Result<Result<Stop, Refusal>, Fail> {
         if self.plain.place < self.plain.len() {
             return Ok(Err(Refusal::NotAtEnd));
@@ -214,7 +214,7 @@ impl Folding<'_> {
         Ok(Ok(Stop::Asked))
     }
 
-    // Moves the place; or it is refused.
+    // Moves the place, or returns `None` if that is refused.
     fn go(&mut self, ask: Ask) -> Option<Told> {
         let place = self.plain.place;
         match ask {
@@ -229,7 +229,7 @@ impl Folding<'_> {
         }
     }
 
-    // What a command is to be answered.
+    // Returns the expected answer to a command.
     fn answer(&mut self, alloc: Global, ask: Ask) -> Result<Told, Fail> {
         match ask {
             Ask::Fault(Fault::Crash(2)) => return Ok(Told::Refused(Refusal::UnknownHost)),
@@ -252,7 +252,7 @@ impl Folding<'_> {
 }
 
 impl Fold {
-    /// An opening book.
+    /// Makes a new book.
     pub fn new(alloc: Global, scenario: &Scenario) -> Result<Fold, Fail> {
         let book = Book::new(alloc, scenario, Counts::new())?;
         let mut plains = Vec::new(alloc);
@@ -268,7 +268,7 @@ impl Fold {
         })
     }
 
-    // What a branch is to be answered.
+    // Returns the expected answer on a branch.
     fn answer(&mut self, alloc: Global, b: u32, ask: Ask) -> Result<Told, Fail> {
         match self.plains.get_mut(b as usize) {
             None => Err(Fail::from("no branch")),
@@ -283,7 +283,7 @@ impl Fold {
         }
     }
 
-    // The book answers as the plain branch.
+    // Checks that the book answers as the plain branch does.
     fn same(&mut self, rt: &impl Abort, alloc: Global, b: u32, ask: Ask) -> Result<(), Fail> {
         let want = self.answer(alloc, b, ask)?;
         let entry = self.book.turn(alloc, 0, on(ask, b))?;
@@ -296,7 +296,7 @@ impl Fold {
         Ok(())
     }
 
-    // A branch more, of the first events of another.
+    // Makes a branch of the first events of another.
     fn split(&mut self, rt: &impl Abort, alloc: Global, b: u32) -> Result<(), Fail> {
         let Some(plain) = self.plains.get(b as usize) else {
             return Err(Fail::from("no branch"));
@@ -310,7 +310,7 @@ impl Fold {
         Ok(())
     }
 
-    /// A command at random on one of three branches, and a look at another.
+    /// Takes a random command on one of three branches, and looks at another.
     pub fn turn(&mut self, rt: &impl Abort, alloc: Global, dice: &mut Dice) -> Result<(), Fail> {
         let count = self.plains.len().clamp(1, 3) as u32;
         let b = dice.below(count);

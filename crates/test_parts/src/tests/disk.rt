@@ -1,4 +1,4 @@
-//! What a disk holds after writes, syncs and crashes, and after these are undone.
+//! The bytes of a disk after writes, syncs and crashes, and after these are undone.
 ghost use Rattle.std.specs.Prelude.{◌≡◌, ◌+◌, length, IfOk};
 
 use sim_disk::{Disk, NoMemory, PackedDisks, SpareDisks, WriteFault};
@@ -8,21 +8,21 @@ use std::test::Fail;
 #[derive(Clone, Copy)]
 enum Act {
     Write(u32, &'static [u8]),
-    // A write, for which a sync asks with this many writes twice; all three are taken back, the
-    // first sync by its light record.
+    // A write and two syncs that take it with this many writes. All three are undone, the first
+    // sync by its light record.
     WriteAndBack(u32, &'static [u8], u32),
-    // It would end past the disk.
+    // A write that would end past the disk.
     OutOfDisk(u32, &'static [u8]),
-    // A sync asks for this many writes, and comes.
+    // A sync of this many writes.
     Sync(u32),
     // The words of a crash.
     Crash(&'static [u32]),
-    // The same, the stable bytes then, and the crash taken back.
+    // A crash with these words, the stable bytes after it, and its undo.
     CrashAndBack(&'static [u32], &'static [u8]),
-    // The stable bytes, and how many writes are not stable.
+    // The stable bytes, and the number of unstable writes.
     Is(&'static [u8], u32),
     Read(&'static [u8]),
-    // How many bytes are read, and the bytes 4,031 and 4,032 of them.
+    // The number of bytes that are read, and the bytes 4,031 and 4,032 of them.
     ReadsLast(usize, &'static [u8; 2]),
 }
 
@@ -30,7 +30,7 @@ fn is(disk: &Disk, stable: &[u8], unsynced: u32) -> bool {
     disk.stable() == stable && disk.unsynced() == unsynced
 }
 
-// Whether the write is made, and not out of disk.
+// Makes a write. Returns false if it is out of the disk.
 fn write(disk: &mut Disk, offset: u32, bytes: &[u8]) -> Result<bool, NoMemory>
     ensures { disk.new.asked ≡ disk.old.asked }
 {
@@ -68,7 +68,8 @@ fn write_and_back(
     first == count && second == count
 }
 
-// The record is done with. A sync for good of a copy leaves the same.
+// Takes a sync, and drops its record. Returns how many writes it covers, or `None` if a sync for
+// good of a copy has another result.
 fn sync(alloc: Global, disk: &mut Disk, spare: &mut SpareDisks) -> Result<Option<u32>, NoMemory> {
     let (count, _asked) = disk.ask();
     let mut other = disk.copy(alloc)?;
@@ -107,7 +108,7 @@ fn crash_and_back(
     Ok(well)
 }
 
-// Does the act, and says whether the answer is the wanted one.
+// Carries out an act, and returns whether the answer is the expected one.
 fn goes(
     alloc: Global,
     disk: &mut Disk,
@@ -132,7 +133,7 @@ fn goes(
     }
 }
 
-// Whether each act is answered as it says.
+// Returns whether all acts have the expected answers.
 fn all_go(alloc: Global, disk: &mut Disk, acts: &[Act]) -> Result<bool, NoMemory> {
     let mut spare = SpareDisks::new(alloc);
     let mut well = true;
@@ -142,7 +143,7 @@ fn all_go(alloc: Global, disk: &mut Disk, acts: &[Act]) -> Result<bool, NoMemory
     Ok(well)
 }
 
-// A disk of four stable bytes, all 0.
+// Makes a disk of four stable bytes, all 0.
 fn zeros(alloc: Global) -> Result<Disk, NoMemory> {
     let mut disk = Disk::new(alloc);
     all_go(alloc, &mut disk, &[Act::Write(0, &[0; 4]), Act::Sync(1)])?;
@@ -194,7 +195,7 @@ fn disks_go_by_their_rows(rt: HostRuntime) -> Result<(), Fail> {
     Ok(())
 }
 
-// A write for which a sync asks: how many writes this covers.
+// Makes a write, and a sync for it. Returns how many writes the sync covers.
 fn write_and_ask(disk: &mut Disk, offset: u32, byte: u8) -> Result<u32, NoMemory>
     ensures { IfOk result (λ count. disk.new.asked ≡ disk.old.asked + count) }
 {
@@ -203,8 +204,8 @@ fn write_and_ask(disk: &mut Disk, offset: u32, byte: u8) -> Result<u32, NoMemory
     Ok(count)
 }
 
-// What the disk shows after the first of two syncs in flight; then, taken back; then of a copy that
-// was made between, after the second sync; and after one of nothing.
+// Returns whether the disk is as expected: after the first of two syncs in flight, after its undo,
+// in a copy made in between after the second sync, and after a sync of no writes.
 fn synced(alloc: Global) -> Result<[bool; 4], NoMemory> {
     let mut disk = zeros(alloc)?;
     let first = write_and_ask(&mut disk, 0, 1)?;
@@ -221,7 +222,7 @@ fn synced(alloc: Global) -> Result<[bool; 4], NoMemory> {
     Ok([one, none, both, is(&other, &[1, 2, 0, 0], 0)])
 }
 
-// A disk with nothing on it and the other, side by side.
+// Packs an empty disk and this one, side by side.
 fn beside_an_empty_one(alloc: Global, disk: &Disk) -> Result<PackedDisks, NoMemory>
     ensures { IfOk result (λ packed. length packed ≡ 2) }
 {
@@ -231,7 +232,7 @@ fn beside_an_empty_one(alloc: Global, disk: &Disk) -> Result<PackedDisks, NoMemo
     Ok(packed)
 }
 
-// Whether two disks that were kept side by side are as they were.
+// Returns whether two disks that were packed side by side are unchanged.
 fn are_kept(alloc: Global) -> Result<bool, NoMemory> {
     let mut disk = zeros(alloc)?;
     write_and_ask(&mut disk, 0, 1)?;

@@ -7,7 +7,7 @@ use sim_tally::Tally;
 use std::alloc::Global;
 use std::test::Fail;
 
-/// Two servers and two clients, each of the clients with two operations.
+/// Returns a setup of two servers and two clients, each client with two operations.
 fn four_hosts() -> Setup
     ensures setup { IsSetup result }
     ensures hosts { result.hosts ≡ 4 }
@@ -19,7 +19,7 @@ fn four_hosts() -> Setup
     }
 }
 
-/// Whether one of four hosts, which reacts and is taken back, shows what it showed before.
+/// Returns whether one of four hosts shows the same before a reaction and after its undo.
 fn shows_the_same<T: Meter>(
     alloc: Global,
     node: &mut Echo<T>,
@@ -36,8 +36,9 @@ fn shows_the_same<T: Meter>(
     Ok((node.probe(0), node.probe(1)) == shown)
 }
 
-/// Whether the record of a reaction of one of four hosts, what the host asks for first and its two
-/// probes then are these. Before that the host reacts in the same way and is taken back.
+/// Returns whether the record of a reaction of one of four hosts, its first effect and its two
+/// probes after it are these. Before that the host reacts in the same way, and the reaction is
+/// undone.
 fn reacts<T: Meter>(
     alloc: Global,
     node: &mut Echo<T>,

@@ -6,7 +6,7 @@ use std::test::Fail;
 
 const INPUT: &[u8] = b"a = 1\n--- \n---\r\nstep\r\n\nlook\r";
 
-/// Gives one byte a read, and fails after this many reads.
+/// A reader of one byte a read, which fails after this many reads.
 #[derive(Drop)]
 struct Pieces<'a> {
     rest: &'a [u8],
@@ -28,7 +28,7 @@ impl Read for Pieces<'_> {
     }
 }
 
-/// Takes one byte a write, and fails after this many writes.
+/// A writer of one byte a write, which fails after this many writes.
 #[derive(Drop)]
 struct Narrow {
     held: Vec<u8>,
@@ -51,7 +51,7 @@ impl Write for Narrow {
     }
 }
 
-// How an input ended, if it did.
+// Returns how an input ended, if it did.
 fn ended(next: NextLine) -> Option<&'static str> {
     match next {
         NextLine::Line => None,
@@ -62,8 +62,8 @@ fn ended(next: NextLine) -> Option<&'static str> {
     }
 }
 
-// The next line of an input, put at the text's end with a bar after it, and how the input ended, if
-// it did.
+// Reads the next line of an input, and adds it and a bar to the text. Returns how the input ended,
+// if it did.
 fn add_line<R: Read>(
     reader: &mut R,
     ahead: &mut Ahead,
@@ -78,7 +78,8 @@ fn add_line<R: Read>(
     Ok(ended(next))
 }
 
-/// The head and the lines of an input, each with a bar after it, and how the input ended.
+/// Reads the head and the lines of an input, each with a bar after it. Returns them and how the
+/// input ended.
 fn cut<R: Read>(alloc: Global, reader: &mut R) -> Result<(Vec<u8>, &'static str), Fail> {
     let mut ahead = Ahead::new();
     let mut text = match read_head(alloc, reader, &mut ahead) {
@@ -144,7 +145,7 @@ fn gathers_what_it_writes(rt: HostRuntime) -> Result<(), Fail> {
     for _ in 0..1_000 {
         assert!(rt; outlet.hand_over(&mut writer, b"0123456789").is_ok());
     }
-    // 819 texts have room; the next one is written after them.
+    // 819 texts fit into the buffer; the next one is written after them.
     assert_eq!(rt; writer.len(), 8_200);
     assert!(rt; outlet.flush(&mut writer).is_ok());
     assert_eq!(rt; writer.len(), 10_000);
@@ -153,8 +154,8 @@ fn gathers_what_it_writes(rt: HostRuntime) -> Result<(), Fail> {
     Ok(())
 }
 
-// What a text leaves in a writer that fails after this many writes, or nothing where it does not
-// fail.
+// Returns what a writer that fails after this many writes received of a text, or `None` if it does
+// not fail.
 fn left_after(alloc: Global, writes_left: usize, text: &[u8]) -> Option<Vec<u8>> {
     let mut writer = Narrow {
         held: Vec::new(alloc),

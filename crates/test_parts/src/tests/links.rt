@@ -1,19 +1,19 @@
-//! The table of changes of a direction, and that each change is taken back.
+//! The table of changes of a direction, and the undo of each change.
 ghost use Rattle.std.specs.Prelude.{◌≡◌, IfOk};
 
 use sim_links::{Change, LinkState, Links, NoMemory, Way, Ways};
 use std::alloc::Global;
 use std::test::Fail;
 
-// What is done with the direction from 3 to 5.
+// An act on the direction from 3 to 5.
 #[derive(Clone, Copy)]
 enum Act {
-    // Its state, and how many messages it holds.
+    // The state of the direction, and how many messages it holds.
     Is(LinkState, u32),
-    // A change, and the messages that leave.
+    // A change, and the messages that it releases.
     Change(Change, &'static [u32]),
-    // A change, the messages that leave, the state then and how many it holds then; the change is
-    // taken back.
+    // A change, the messages that it releases, the state after it and how many messages it holds;
+    // the change is undone.
     ChangeAndBack(Change, &'static [u32], LinkState, u32),
     Keep(u32),
     Unkeep(u32),
@@ -51,7 +51,7 @@ fn unkeep(links: &mut Links<u32>) -> Option<u32> {
     Some(links.unkeep(3, 5))
 }
 
-// Does the act, and says whether the answer is the wanted one.
+// Carries out an act, and returns whether the answer is the expected one.
 fn goes(links: &mut Links<u32>, act: Act) -> Result<bool, NoMemory> {
     let well = match act {
         Act::Is(state, count) => is_in(links, state, count),
@@ -65,7 +65,7 @@ fn goes(links: &mut Links<u32>, act: Act) -> Result<bool, NoMemory> {
     Ok(well)
 }
 
-// Whether each act is answered as it says.
+// Returns whether all acts have the expected answers.
 fn all_go(links: &mut Links<u32>, acts: &[Act]) -> Result<bool, NoMemory> {
     let mut well = true;
     for act in acts {
@@ -74,19 +74,19 @@ fn all_go(links: &mut Links<u32>, acts: &[Act]) -> Result<bool, NoMemory> {
     Ok(well)
 }
 
-// Links after these acts.
+// Returns links after these acts.
 fn after(alloc: Global, acts: &[Act]) -> Result<Links<u32>, NoMemory> {
     let mut links = Links::new(alloc)?;
     all_go(&mut links, acts)?;
     Ok(links)
 }
 
-// The direction is held, and holds two messages.
+// Holds the direction, with two messages.
 const HELD: [Act; 3] = [Act::Change(Change::Hold, &[]), Act::Keep(7), Act::Keep(8)];
 
 const CUT: [Act; 1] = [Act::Change(Change::Cut, &[])];
 
-// What leads to a state, and each change from it by the table.
+// Acts that lead to a state, and each change from it by the table.
 const TABLE: [(&[Act], &[Act]); 3] = [
     (
         &[],
@@ -133,7 +133,7 @@ fn a_direction_goes_by_the_table(rt: HostRuntime) -> Result<(), Fail> {
     Ok(())
 }
 
-// Whether each direction but that from 3 to 5 is open.
+// Returns whether each direction but that from 3 to 5 is open.
 fn others_are_open(links: &Links<u32>) -> bool {
     for at in 0..1024u16 {
         let (a, b) = (at / 32, at % 32);
@@ -144,27 +144,28 @@ fn others_are_open(links: &Links<u32>) -> bool {
     true
 }
 
-// Whether the direction is held with two messages, and each other is open. It takes the newest.
+// Returns whether the direction holds two messages, and each other is open. Takes the newest
+// message.
 fn take_held(alloc: Global, links: &mut Links<u32>) -> Result<bool, NoMemory> {
     let acts = [Act::Is(LinkState::Held, 2), Act::Unkeep(8)];
     Ok(others_are_open(links) && all_go(links, &acts)?)
 }
 
-// Whether a copy of held links is equal, and leaves them alone.
+// Returns whether a copy of held links is equal, and a change of it leaves them alone.
 fn is_copied(alloc: Global) -> Result<bool, NoMemory> {
     let mut links = after(alloc, &HELD)?;
     let mut copy = links.copy(alloc, |message: &u32| Ok(*message))?;
     Ok(take_held(alloc, &mut copy)? && take_held(alloc, &mut links)?)
 }
 
-// Whether held links that were kept for later are as they were.
+// Returns whether held links that were packed and opened are unchanged.
 fn is_kept(alloc: Global) -> Result<bool, NoMemory> {
     let packed = after(alloc, &HELD)?.pack(alloc, |message: &u32| Ok(*message))?;
     let mut opened = packed.open(alloc, |message: &u32| Ok(*message))?;
     take_held(alloc, &mut opened)
 }
 
-// Messages that a trait copies.
+// A message that copies itself by a trait.
 trait Message: Drop + Sized {
     fn copy_of(alloc: Global, message: &Self) -> Result<Self, NoMemory>
         ensures { IfOk result (λ copy. copy ≡ message.now) };
@@ -182,7 +183,7 @@ fn copy_of<M: Message>(alloc: Global, links: &Links<M>) -> Result<Links<M>, NoMe
     links.copy(alloc, |message| M::copy_of(alloc, message))
 }
 
-// Whether a copy that a trait makes of cut links is equal.
+// Returns whether a copy of cut links by a trait is equal.
 fn is_copied_by_a_trait(alloc: Global) -> Result<bool, NoMemory> {
     let copy = copy_of(alloc, &after(alloc, &CUT)?)?;
     Ok(is_in(&copy, LinkState::Cut, 0) && others_are_open(&copy))
@@ -211,7 +212,7 @@ const QUICK: Way = Way {
     loss: 3,
 };
 
-// Whether the way from 3 to 5 is the one, and each other way is the other.
+// Returns whether the way from 3 to 5 is `one`, and each other way is `other`.
 fn only_one_is(ways: &Ways, one: Way, other: Way) -> bool {
     for at in 0..1024u16 {
         let (a, b) = (at / 32, at % 32);

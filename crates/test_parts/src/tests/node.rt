@@ -1,10 +1,10 @@
-//! Who is a server, and the effects of a reaction in their order.
+//! Which hosts are servers, and the effects of a reaction in order.
 ghost use Rattle.std.specs.Prelude.{◌≡◌};
 
 use sim_node::{Effect, Effects, Setup};
 use std::test::Fail;
 
-// What is asked for.
+// An effect to ask for.
 #[derive(Clone, Copy)]
 enum Asked {
     Send(u16, u32),
@@ -18,20 +18,20 @@ enum Asked {
 enum Act {
     Ask(Asked),
     Take(Asked),
-    // There is no effect to take.
+    // There is no effect left.
     TakeNone,
-    // How many there are.
+    // The number of effects.
     Count(usize),
 }
 
-/// Two servers and two clients, each of the clients with three operations.
+/// Two servers and two clients, each client with three operations.
 const FOUR_HOSTS: Setup = Setup {
     servers: 2,
     hosts: 4,
     ops: [3; 32],
 };
 
-// Asks for it, and says whether there was room.
+// Asks for an effect, and returns whether there was room.
 fn ask(effects: &mut Effects<u32>, asked: Asked) -> bool
     requires { effects.old.hosts ≡ 4 }
     ensures { effects.new.hosts ≡ 4 }
@@ -52,7 +52,7 @@ fn ask(effects: &mut Effects<u32>, asked: Asked) -> bool
     true
 }
 
-// Whether the effect is what was asked for.
+// Returns whether the effect is this one.
 fn is(effect: &Effect<u32>, asked: Asked) -> bool {
     match (effect, asked) {
         (Effect::Send { to, msg }, Asked::Send(host, sent)) => *to == host && *msg == sent,
@@ -65,7 +65,7 @@ fn is(effect: &Effect<u32>, asked: Asked) -> bool {
     }
 }
 
-// Does the act, and says whether the answer is the wanted one.
+// Carries out an act, and returns whether the answer is the expected one.
 fn goes(effects: &mut Effects<u32>, act: Act) -> bool
     requires { effects.old.hosts ≡ 4 }
     ensures { effects.new.hosts ≡ 4 }
@@ -81,7 +81,7 @@ fn goes(effects: &mut Effects<u32>, act: Act) -> bool
     }
 }
 
-// Whether each act is answered as it says.
+// Returns whether all acts have the expected answers.
 fn all_go(effects: &mut Effects<u32>, acts: &[Act]) -> bool
     requires { effects.old.hosts ≡ 4 }
     ensures { effects.new.hosts ≡ 4 }
@@ -93,7 +93,7 @@ fn all_go(effects: &mut Effects<u32>, acts: &[Act]) -> bool
     well
 }
 
-// Effects come in order, and the room for them is used again; there is room for forty.
+// Effects come in order, and their room is used again; there is room for forty.
 const PLAYS: [&[Act]; 4] = [
     &[
         Act::Ask(Asked::Send(3, 7)),

@@ -1,4 +1,4 @@
-//! The order in which items are taken, and that each change is taken back.
+//! The order in which items are taken, and the undo of each change.
 ghost use Rattle.std.specs.Prelude.{◌≡◌, IfOk};
 
 use sim_queue::{Item, NoMemory, Queue};
@@ -10,26 +10,26 @@ type Seen = (u64, u64, char);
 
 #[derive(Clone, Copy)]
 enum Act {
-    // An item, and the serial that it gets.
+    // Inserts an item, which gets this serial.
     Insert(u64, char, u64),
-    // The same, what is first then, and the insertion taken back.
+    // Inserts an item, checks which item is first, and undoes the insertion.
     InsertAndBack(u64, char, u64, Seen),
     First(Option<Seen>),
     TakeFirst(Option<Seen>),
-    // Takes the first item, then sees this one first, inserts one and takes that back, and puts the
-    // first back.
+    // Takes the first item, checks which item is first, inserts an item and undoes that, and puts
+    // the first back.
     TakeFirstAndBack(Seen, Seen),
-    // What is taken by its serial.
+    // Takes an item by its serial.
     Take(u64, Option<Seen>),
     // Takes an item by its serial and puts it back.
     TakeAndBack(u64),
-    // The least serial, of at least this one, of an item whose body is not this.
+    // The least serial, from a number on, of an item without this body.
     NextBut(u64, char, Option<u64>),
-    // How many are pending, and the next serial.
+    // The number of items, and the next serial.
     Counts(usize, u64),
 }
 
-// Four items: those of the serials 1 and 3 are due first, then that of 2, then that of 0.
+// Four items: serials 1 and 3 are due first, then 2, then 0.
 const FOUR: [Act; 4] = [
     Act::Insert(30, 'a', 0),
     Act::Insert(10, 'b', 1),
@@ -65,7 +65,8 @@ fn insert(queue: &mut Queue<char>, due: u64, body: char) -> Result<Option<u64>, 
     Ok(Some(queue.insert(due, body)?))
 }
 
-// The serial that an inserted item got, what was first then, and what was taken back.
+// Inserts an item and undoes that. Returns the serial that it got, the first item then, and the
+// item that the undo returned.
 fn insert_and_back(
     queue: &mut Queue<char>,
     due: u64,
@@ -82,8 +83,8 @@ fn insert_and_back(
     Ok(Some((serial, then, seen(item))))
 }
 
-// What is taken first, and what is first then; before it is put back an item is inserted and taken
-// back.
+// Takes the first item, and puts it back after an insertion and its undo. Returns the item and the
+// one that was first then.
 fn take_first_and_back(queue: &mut Queue<char>) -> Result<Option<(Seen, Option<Seen>)>, NoMemory> {
     let Some(item) = queue.take_first() else {
         return Ok(None);
@@ -104,7 +105,7 @@ fn take_and_back(queue: &mut Queue<char>, serial: u64) -> Result<bool, NoMemory>
     Ok(taken == serial)
 }
 
-// Does the act, and says whether the answer is the wanted one.
+// Carries out an act, and returns whether the answer is the expected one.
 fn goes(queue: &mut Queue<char>, act: Act) -> Result<bool, NoMemory> {
     let well = match act {
         Act::Insert(due, body, serial) => insert(queue, due, body)? == Some(serial),
@@ -126,7 +127,7 @@ fn goes(queue: &mut Queue<char>, act: Act) -> Result<bool, NoMemory> {
     Ok(well)
 }
 
-// A queue of the four items.
+// Makes a queue of the four items.
 fn four(alloc: Global) -> Result<Queue<char>, NoMemory> {
     let mut queue = Queue::new(alloc);
     for act in &FOUR {
@@ -135,7 +136,7 @@ fn four(alloc: Global) -> Result<Queue<char>, NoMemory> {
     Ok(queue)
 }
 
-// Whether each act is answered as it says.
+// Returns whether all acts have the expected answers.
 fn all_go(queue: &mut Queue<char>, acts: &[Act]) -> Result<bool, NoMemory> {
     let mut well = true;
     for act in acts {
@@ -144,14 +145,14 @@ fn all_go(queue: &mut Queue<char>, acts: &[Act]) -> Result<bool, NoMemory> {
     Ok(well)
 }
 
-// Whether each act on a queue of the four items is answered as it says, and then exactly the four
-// are there, unless the acts say that they are not.
+// Returns whether all acts on a queue of the four items have the expected answers, and exactly the
+// four are pending after them if `has_four`.
 fn plays(alloc: Global, acts: &[Act], has_four: bool) -> Result<bool, NoMemory> {
     let mut queue = four(alloc)?;
     Ok(all_go(&mut queue, acts)? && (!has_four || all_go(&mut queue, &HAS_FOUR)?))
 }
 
-// The acts on a queue of the four items, and whether these are there in the end.
+// The acts on a queue of the four items, and whether these are pending in the end.
 const PLAYS: [(&[Act], bool); 4] = [
     (
         &[
@@ -205,8 +206,8 @@ fn four_items_go_by_their_rows(rt: HostRuntime) -> Result<(), Fail> {
     Ok(())
 }
 
-// Acts on a queue with no items. The second is of sparse dues: 300 goes to a list in which 556
-// comes later, while 44 and another 300 go before it.
+// Acts on an empty queue. The second has sparse dues: 300 goes to a list to which 556 is added
+// later, while 44 and another 300 go before it.
 const OTHERS: [&[Act]; 2] = [
     &[
         Act::First(None),
@@ -260,8 +261,8 @@ fn none(_body: &char) -> Result<char, NoMemory>
     Err(NoMemory)
 }
 
-// Whether a queue of which no body can be copied is neither copied nor kept, nor opened where it is
-// kept.
+// Returns whether a queue whose bodies can't be copied is neither copied nor packed, nor opened
+// once packed.
 fn wants_bodies(alloc: Global, queue: &Queue<char>) -> Result<bool, NoMemory> {
     let packed = queue.pack(alloc, same)?;
     Ok(
@@ -271,14 +272,14 @@ fn wants_bodies(alloc: Global, queue: &Queue<char>) -> Result<bool, NoMemory> {
     )
 }
 
-// Whether a queue that was copied, and its copy that was kept and opened, have the four items.
+// Returns whether a copy of a queue, and its copy that was packed and opened, have the four items.
 fn is_copied(alloc: Global) -> Result<bool, NoMemory> {
     let mut copy = four(alloc)?.copy(alloc, same)?;
     let mut opened = copy.pack(alloc, same)?.open(alloc, same)?;
     Ok(all_go(&mut copy, &HAS_FOUR)? && all_go(&mut opened, &HAS_FOUR)?)
 }
 
-// How many items a queue has from which one is taken, and its copy that was made before.
+// Returns the number of items of a queue from which one is taken, and of its copy made before.
 fn left_in_copy(alloc: Global) -> Result<(usize, usize), NoMemory> {
     let mut queue = four(alloc)?;
     let copy = queue.copy(alloc, same)?;
@@ -294,7 +295,7 @@ fn copies_are_apart(rt: HostRuntime) -> Result<(), Fail> {
     Ok(())
 }
 
-// Whether the four items are there after many insertions that were taken back.
+// Returns whether the four items are pending after many insertions that were undone.
 fn forgets(alloc: Global) -> Result<bool, NoMemory> {
     let mut queue = four(alloc)?;
     for due in 100..400 {

@@ -1,7 +1,7 @@
 //! Drawn words against those of another implementation of ChaCha20. The expected words are those of
-//! the package `cryptography` of Python: the keystream under the seed as key, its 16 bytes of nonce
-//! being a block counter of 0 and then the stream's number, each of 8 bytes, read as 32-bit numbers
-//! (all little-endian).
+//! the package `cryptography` of Python: the keystream under the seed as key, with 16 bytes of
+//! nonce: a block counter of 0 and then the stream's number, each of 8 bytes, read as 32-bit
+//! numbers (all little-endian).
 use sim_streams::{STREAMS, Streams};
 
 const ZEROS: [u8; 32] = [0; 32];
@@ -13,9 +13,9 @@ const COUNTED: [u8; 32] = [
 
 #[derive(Clone, Copy)]
 enum Act {
-    // The next word of the stream.
+    // Draws the next word of the stream.
     Draw(u16, u32),
-    // This many words back.
+    // Undoes this many draws.
     Undraw(u16, u64),
     // The place of the stream.
     Place(u16, u64),
@@ -36,7 +36,7 @@ fn undraw(streams: &mut Streams, stream: u16, words: u64) -> bool {
     true
 }
 
-// Does the act, and says whether the answer is the wanted one.
+// Carries out an act, and returns whether the answer is the expected one.
 fn goes(streams: &mut Streams, act: Act) -> bool {
     match act {
         Act::Draw(stream, word) => draw(streams, stream) == Some(word),
@@ -45,7 +45,7 @@ fn goes(streams: &mut Streams, act: Act) -> bool {
     }
 }
 
-// Whether each act is answered as it says.
+// Returns whether all acts have the expected answers.
 fn all_go(streams: &mut Streams, acts: &[Act]) -> bool {
     let mut well = true;
     for act in acts {
@@ -104,7 +104,7 @@ fn words_by_place(rt: HostRuntime) {
     }
 }
 
-// Draws the words again, from this many words back on, and says whether they are the same.
+// Undoes this many draws and draws the words again. Returns whether they are the same.
 fn drawn_again(streams: &mut Streams, words: &[u32], back: usize) -> bool {
     let Some(from) = words.len().checked_sub(back) else {
         return false;

@@ -1,8 +1,8 @@
-//! Command lines, and what is told where they make no request.
+//! Command lines, and the messages for those that make no request.
 use sim_job::{FaultPlan, Job, LineError, Request, Team, request};
 use std::process::Abort;
 
-// The words make this request.
+// Returns whether the words make this request.
 fn requests(rt: &HostRuntime, words: &[&str], job: Job<'_>, file: Option<&str>) -> bool {
     match request(rt.alloc(), words) {
         Ok(asked) => asked == Request { job, file },
@@ -10,12 +10,12 @@ fn requests(rt: &HostRuntime, words: &[&str], job: Job<'_>, file: Option<&str>) 
     }
 }
 
-// The words ask for this job over standard input.
+// Returns whether the words ask for this job over standard input.
 fn asks(rt: &HostRuntime, words: &[&str], job: Job<'_>) -> bool {
     requests(rt, words, job, None)
 }
 
-// The words that end with a file's name ask for a job over this file.
+// Returns whether words that end with a file's name ask for a job over this file.
 fn reads(rt: &HostRuntime, words: &[&str], file: &str) -> bool {
     match request(rt.alloc(), words) {
         Ok(asked) => asked.file == Some(file),
@@ -23,7 +23,7 @@ fn reads(rt: &HostRuntime, words: &[&str], file: &str) -> bool {
     }
 }
 
-// Help is told, with all these texts in it.
+// Returns whether the words give the help, with all these texts in it.
 fn helps(rt: &HostRuntime, words: &[&str], texts: &[&str]) -> bool {
     match request(rt.alloc(), words) {
         Err(LineError::Help(told)) => texts.iter().all(|text| told.as_str().contains(*text)),
@@ -31,7 +31,7 @@ fn helps(rt: &HostRuntime, words: &[&str], texts: &[&str]) -> bool {
     }
 }
 
-// Usage is told, with this mistake.
+// Returns whether the words give the usage, with this mistake.
 fn blames(rt: &HostRuntime, words: &[&str], mistake: &str) -> bool {
     match request(rt.alloc(), words) {
         Err(LineError::Usage(told)) => {
@@ -41,7 +41,7 @@ fn blames(rt: &HostRuntime, words: &[&str], mistake: &str) -> bool {
     }
 }
 
-// The exit status of words that make no request.
+// Returns the exit status of words that make no request.
 fn status_of(rt: &HostRuntime, words: &[&str]) -> Option<u8> {
     let Err(fault) = request(rt.alloc(), words) else {
         return None;

@@ -66,7 +66,7 @@ name = "x"
 ops = 4
 "#;
 
-// A sweep over this many seeds, of 200 events each, finds this of a condition.
+// Checks that a sweep over this many seeds, of 200 events each, finds this for a condition.
 fn finds<R: Threads + Wait + Sync + Clock + Eprint + Abort>(
     rt: &R,
     alloc: Global,
@@ -163,7 +163,7 @@ fn sweeps_of_a_backup(rt: HostRuntime) {
     finds(&rt, alloc, PRIMARY_BACKUP, 20, all_done, "none\n");
 }
 
-// The words are no condition of the scenario.
+// Checks that the words are no condition of the scenario.
 fn is_bad<R: Threads + Wait + Sync + Clock + Eprint + Abort>(rt: &R, alloc: Global, cond: &str) {
     let job = sweep(2, 0, 1, 200, cond);
     let is_told = ends(rt, alloc, job, ABD, Status::BadRequest, "bad condition\n");

@@ -35,7 +35,7 @@ step
 look
 "#;
 
-// A search by this many workers.
+// Returns a search by this many workers.
 fn search(workers: u64, lo: u64, hi: u64, cond: &str) -> Job<'_>
     requires { (1 ≤ workers) × (workers ≤ 16) }
     ensures { HasFewWorkers result }
@@ -52,7 +52,7 @@ fn search(workers: u64, lo: u64, hi: u64, cond: &str) -> Job<'_>
     }
 }
 
-// A sweep by this many workers.
+// Returns a sweep by this many workers.
 pub fn sweep(workers: u64, first: u64, count: u64, events: u64, cond: &str) -> Job<'_>
     requires { (1 ≤ workers) × (workers ≤ 16) }
     ensures { HasFewWorkers result }
@@ -77,7 +77,7 @@ pub fn sweep(workers: u64, first: u64, count: u64, events: u64, cond: &str) -> J
     }
 }
 
-// A job over an input ends so, and writes this.
+// Returns whether a job over an input ends with this status, and writes this.
 pub fn ends<R: Threads + Wait + Sync + Clock + Eprint>(
     rt: &R,
     alloc: Global,
@@ -94,7 +94,7 @@ pub fn ends<R: Threads + Wait + Sync + Clock + Eprint>(
     ended == status && written.as_slice() == want.as_bytes()
 }
 
-// The job of this many workers over the base scenario ends so, and writes this.
+// Checks that the job over the base scenario ends with this status, and writes this.
 fn is_answered<R: Threads + Wait + Sync + Clock + Eprint + Abort>(
     rt: &R,
     alloc: Global,
@@ -141,7 +141,8 @@ fn sweeps_of_the_base_scenario(rt: HostRuntime) {
     }
 }
 
-// A search up to a place and a sweep over this many seeds are refused for the same fault.
+// Checks that a search up to a place and a sweep over this many seeds are refused for the same
+// fault.
 fn are_refused<R: Threads + Wait + Sync + Clock + Eprint + Abort>(
     rt: &R,
     alloc: Global,
@@ -156,14 +157,14 @@ fn are_refused<R: Threads + Wait + Sync + Clock + Eprint + Abort>(
         Status::BadRequest
     };
     let found = ends(rt, alloc, search(2, 0, hi, cond), input, status, want);
-    // Places up to 7 are too many, and so are no seeds too few.
+    // Place 7 is past the end of the run. For a sweep, no seeds are a bad range.
     let seeds = if hi == 7 { 0 } else { 1 };
     let swept = ends(rt, alloc, sweep(2, 0, seeds, 6, cond), input, status, want);
     assert!(rt; found && swept, "{cond}: {want}");
 }
 
-// A scenario's fault is told before words that are no condition, these before a range's, and that
-// before a host or probe that is not there.
+// A scenario's fault is reported before bad words of a condition, these before a bad range, and
+// that before a host or probe that does not exist.
 #[test]
 fn faults_come_in_order(rt: HostRuntime) {
     let alloc = rt.alloc();

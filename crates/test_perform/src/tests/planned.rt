@@ -1,4 +1,4 @@
-//! Sweeps over runs whose events are planned, from the words of the command line on.
+//! Sweeps over runs whose events are planned, from the words of the command line.
 use super::conditions::{ABD, PRIMARY_BACKUP};
 use super::hunts::ends;
 use sim_cli::Shipped;
@@ -29,7 +29,7 @@ ops = 3
 bounce a
 "#;
 
-// The words ask for a job that ends so over an input, and writes this.
+// Checks that the words ask for a job that ends with this status over an input, and writes this.
 fn is_answered<R: Threads + Wait + Sync + Clock + Eprint + Abort>(
     rt: &R,
     alloc: Global,
@@ -45,7 +45,7 @@ fn is_answered<R: Threads + Wait + Sync + Clock + Eprint + Abort>(
     assert!(rt; is, "{want}");
 }
 
-// A sweep with a fault in eight events, from seed 0 on, finds this.
+// Checks that a sweep with a fault in eight events, from seed 0 on, finds this.
 fn finds<R: Threads + Wait + Sync + Clock + Eprint + Abort>(
     rt: &R,
     alloc: Global,
@@ -138,7 +138,7 @@ fn faults_that_break_what_clients_are_promised(rt: HostRuntime) {
     );
 }
 
-// The script bounces a host, whose first event is then that fault, and not a step.
+// The script bounces a host. So the first event of each run is that fault, and not a step.
 #[test]
 fn runs_that_begin_with_a_script(rt: HostRuntime) {
     let alloc = rt.alloc();
@@ -193,7 +193,7 @@ fn numbers_past_their_limits(rt: HostRuntime) {
     }
 }
 
-// What is written over an input for these words, which ask for an input for a play.
+// Returns the output over an input of a job that these words ask for, which is an input for a play.
 fn written<R: Threads + Wait + Sync + Clock + Eprint + Abort>(
     rt: &R,
     alloc: Global,
@@ -213,7 +213,7 @@ fn written<R: Threads + Wait + Sync + Clock + Eprint + Abort>(
     }
 }
 
-// The lines of an input's script that are no steps.
+// Returns the lines of an input's script that are no steps.
 fn faults(alloc: Global, input: &str) -> Result<String, AllocError> {
     let mut faults = String::new(alloc);
     let mut is_script = false;
@@ -227,8 +227,8 @@ fn faults(alloc: Global, input: &str) -> Result<String, AllocError> {
     Ok(faults)
 }
 
-// The run that the sweep finds is written and made small: it fails at the same place, and four
-// faults are left.
+// The run that the sweep finds is written and shrunk: it fails at the same place, and four faults
+// are left.
 #[test]
 fn the_run_of_a_seed_made_small(rt: HostRuntime) -> Result<(), Fail> {
     let alloc = rt.alloc();

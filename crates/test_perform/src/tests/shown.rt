@@ -1,4 +1,4 @@
-//! The log and the page of a run, from the words of the command line on.
+//! The log and the page of a run, from the words of the command line.
 use super::hunts::ends;
 use sim_cli::Shipped;
 use sim_job::request;
@@ -10,7 +10,7 @@ use std::sync::Wait;
 use std::test::Fail;
 use std::thread::Threads;
 
-// Two pings over links of 10 ms, of which the second answer is held and let go.
+// Two pings over links of 10 ms. The second answer is held and released.
 const INPUT: &str = r#"format = 1
 seed = "0000000000000000000000000000000000000000000000000000000000000000"
 protocol = "echo"
@@ -48,7 +48,7 @@ const ROWS: &str = "\
 {\"clock\":20,\"place\":5,\"rows\":[[\"hold\",20,0,1],[\"link\",0,1,\"held\"],[\"link\",1,0,\"held\"]]}
 ";
 
-// The words ask for a job that ends so over the input, and writes this.
+// Checks that the words ask for a job that ends with this status over the input, and writes this.
 fn is_answered<R: Threads + Wait + Sync + Clock + Eprint + Abort>(
     rt: &R,
     alloc: Global,

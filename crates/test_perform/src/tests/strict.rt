@@ -1,4 +1,4 @@
-//! Strict plays, searches, sweeps and shrinkings, from the words of the command line on.
+//! Strict plays, searches, sweeps and shrinks, from the words of the command line.
 use super::hunts::ends;
 use sim_job::request;
 use sim_perform::Status;
@@ -26,7 +26,8 @@ ops = 2
 ---
 "#;
 
-// The words ask for a job that ends so over the scenario and a script, and writes this.
+// Checks that the words ask for a job that ends with this status over the scenario and a script,
+// and writes this.
 fn is_answered<R: Threads + Wait + Sync + Clock + Eprint + Abort>(
     rt: &R,
     alloc: Global,

@@ -1,5 +1,5 @@
-//! The plays of the folder `examples` and what they answer, byte by byte. Those that tear a write
-//! are in `torn`.
+//! The plays of the folder `examples` and their answers, byte by byte. `torn` has those that tear a
+//! write.
 use super::scenes::status_of;
 use sim_cli::Status;
 use std::alloc::Global;
@@ -412,7 +412,7 @@ run 1000
 const ABORTED_ANSWERS: &str = "place 11 clock 45 all done
 ";
 
-// The play of an input writes just this.
+// Checks that the play of an input writes exactly this.
 pub fn plays(rt: &impl Abort, alloc: Global, input: &str, want: &str) {
     let status = status_of(alloc, input.as_bytes(), b"", want.as_bytes());
     assert_eq!(rt; status, Some(Status::Well), "{want}");

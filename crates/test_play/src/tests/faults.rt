@@ -1,11 +1,11 @@
-//! Scenarios that are none, and plays without a script.
+//! Texts that are no scenarios, and plays without a script.
 use super::scenes::{FORMAT_1, FORMAT_2, Scene, TWO_PINGS, push_times, scenario, status_of};
 use sim_cli::Status;
 use std::alloc::Global;
 use std::process::Abort;
 use std::test::Fail;
 
-/// Wants the line of a fault, with this after the scenario.
+/// Checks the line of a fault, with this text after the scenario.
 fn is_bad_before(
     rt: &impl Abort,
     alloc: Global,
@@ -19,7 +19,7 @@ fn is_bad_before(
     Ok(())
 }
 
-/// Wants the line of a fault, with a script after the scenario and without.
+/// Checks the line of a fault, with a script after the scenario and without.
 fn is_bad(rt: &impl Abort, alloc: Global, text: &[u8], want: &str) -> Result<(), Fail> {
     is_bad_before(rt, alloc, text, "", want)?;
     let end = if text.is_empty() || text.ends_with(b"\n") {
@@ -42,8 +42,9 @@ const TWICE: &str =
 const ITSELF: &str =
     "[[link]]\nsource = \"w\"\ntarget = \"w\"\nlatency_min = 3\nlatency_max = 3\nloss = 0\n";
 
-/// What is wrong in a scenario's text, a row a line: its format, its links, what stands in place of
-/// what, and the fault. A text and no table, since the prover takes a text as one value.
+/// Faults in a scenario's text, a row a line: its format, its links, a piece of text and its
+/// replacement, and the fault. This is a text and no table, since the prover takes a text as one
+/// value.
 const EDITS: &str = r#"one | none | seed = "00 | seed = "0 | 6 seed
 one | none | format = 1 | format = "1" | 5 format
 one | none | format = 1 | format = 3 | 8 format
@@ -59,7 +60,7 @@ one | one | tick | tick | 3 link
 one, disks | one | tick | tick | 3 disk_latency
 three, disks | one | tick | tick | 3 disk_latency"#;
 
-/// The lines for the format of this name.
+/// Returns the lines for the format of this name.
 fn format_of(name: &str) -> Option<&'static str> {
     match name {
         "one" => Some(FORMAT_1),
@@ -71,7 +72,7 @@ fn format_of(name: &str) -> Option<&'static str> {
     }
 }
 
-/// The tables of links of this name.
+/// Returns the tables of links of this name.
 fn links_of(name: &str) -> Option<&'static str> {
     match name {
         "none" => Some(""),
@@ -83,7 +84,7 @@ fn links_of(name: &str) -> Option<&'static str> {
     }
 }
 
-/// Wants the fault of a row.
+/// Checks the fault of a row.
 fn tells_edit(rt: &impl Abort, alloc: Global, row: &str) -> Result<(), Fail> {
     let mut fields = row.split(" | ");
     let (Some(format), Some(links)) = (fields.next(), fields.next()) else {

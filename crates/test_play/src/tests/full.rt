@@ -7,8 +7,8 @@ use std::alloc::{AllocError, Global};
 use std::process::Abort;
 use std::test::Fail;
 
-/// A play that fills a table: a line several times, and a script; and how the answers begin, a text
-/// several times, and other answers.
+/// A play that fills a table. Its input is a line several times, and a script; its answers are a
+/// text several times, and others.
 #[derive(Clone, Copy)]
 struct Full {
     scene: Scene,
@@ -26,7 +26,7 @@ const DEAF: Scene = Scene {
     ..TWO_SERVERS
 };
 
-/// 64 branches, of which one late one is traced.
+/// 64 branches; a late one is traced.
 const BRANCHES: Full = Full {
     scene: TWO_PINGS,
     line: "branch 0\n",
@@ -38,7 +38,7 @@ const BRANCHES: Full = Full {
     want: "made 1; made 2; made 3; made 4; made 5; made 6; made 7; made 8; made 9; made 10; made 11; made 12; made 13; made 14; made 15; made 16; made 17; made 18; made 19; made 20; made 21; made 22; made 23; made 24; made 25; made 26; made 27; made 28; made 29; made 30; made 31; made 32; made 33; made 34; made 35; made 36; made 37; made 38; made 39; made 40; made 41; made 42; made 43; made 44; made 45; made 46; made 47; made 48; made 49; made 50; made 51; made 52; made 53; made 54; made 55; made 56; made 57; made 58; made 59; made 60; made 61; made 62; made 63; refused 8 BranchesFull; place 1 clock 0; refused 1 UnknownBranch; place 1 clock 0; {\"branch\":60,\"events\":[\"crash a\"]}",
 };
 
-/// 8 watches of a branch.
+/// 8 watches on a branch.
 const WATCHES: Full = Full {
     scene: TWO_PINGS,
     line: "watch up a\n",
@@ -62,7 +62,7 @@ const COMMANDS: Full = Full {
     want: "not taken HistoryFull",
 };
 
-/// 65,536 events of a branch.
+/// 65,536 events on a branch.
 const EVENTS: Full = Full {
     scene: DEAF,
     line: "",
@@ -86,7 +86,7 @@ const TRACE: Full = Full {
     want: "]}",
 };
 
-/// 4,096 messages that are held.
+/// 4,096 held messages.
 const MESSAGES: Full = Full {
     scene: TWO_SERVERS,
     line: "",
@@ -98,7 +98,7 @@ const MESSAGES: Full = Full {
     want: "place 1 clock 0; place 5001 clock 999400; place 5001 clock 999400 serial 5001 net 0 torn 0 pending 1 held 4096; place 5002 clock 999400; place 5002 clock 999400 serial 9097 net 0 torn 0 pending 4097 held 0; place 5001 clock 999400; place 5001 clock 999400 serial 5001 net 0 torn 0 pending 1 held 4096",
 };
 
-/// The line this many times, and the script.
+/// Returns the line this many times, and the script.
 fn script_of(alloc: Global, row: &Full) -> Result<String, AllocError> {
     let mut script = String::from_str(alloc, "---\n")?;
     push_times(&mut script, row.line, row.times)?;
@@ -106,7 +106,7 @@ fn script_of(alloc: Global, row: &Full) -> Result<String, AllocError> {
     Ok(script)
 }
 
-/// How the answers begin, the repeated answer, and the other answers.
+/// Returns the first answers, the repeated answer, and the other answers.
 fn answers_of(alloc: Global, row: &Full) -> Result<String, AllocError> {
     let mut answers = String::from_str(alloc, row.head)?;
     push_times(&mut answers, row.answer, row.answers)?;
@@ -114,7 +114,7 @@ fn answers_of(alloc: Global, row: &Full) -> Result<String, AllocError> {
     Ok(answers)
 }
 
-/// With one checkpoint and one window alone, since these plays are long.
+/// Checks the play with only one checkpoint and one window, since it is long.
 fn fills(rt: &impl Abort, alloc: Global, row: &Full) -> Result<(), AllocError> {
     let text = scenario(alloc, FORMAT_1, row.scene, 1024, 2)?;
     let script = script_of(alloc, row)?;

@@ -1,4 +1,4 @@
-//! Lines that are bad, and lines as they come.
+//! Bad lines, and unusual lines that are not bad.
 use super::scenes::{push_times, status_of};
 use super::streams::HEAD;
 use sim_cli::Status;
@@ -82,7 +82,7 @@ fn refuses_lines_that_are_no_commands(rt: HostRuntime) -> Result<(), Fail> {
     Ok(())
 }
 
-/// A scenario, and lines of all forms: a line has at most 256 bytes and is read whatever its
+/// A scenario, and lines of all forms. A line has at most 256 bytes and is read whatever its
 /// spaces; other lines are bad and change nothing.
 const LINES: &[u8] = b"format = 1
 seed = \"0000000000000000000000000000000000000000000000000000000000000000\"
@@ -133,7 +133,7 @@ bad line
 place 0 clock 0
 ";
 
-/// Adds what stands first, a piece this many times, and the end of the line.
+/// Adds the text `first`, a piece this many times, and the end of the line.
 fn push_line(
     text: &mut String,
     first: &str,

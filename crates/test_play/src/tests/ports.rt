@@ -1,10 +1,10 @@
-//! A reader and a writer that own nothing: the one gives two texts, the other compares what it
-//! takes with a third.
+//! A reader and a writer that own nothing: the reader gives two texts, and the writer compares the
+//! bytes that it gets with a third.
 use std::io;
 use std::io::{ErrorKind, Read, Write};
 
 /// Gives two texts, one after the other, at most a given number of bytes a read. After a given
-/// number of reads it fails once; whoever reads on is given more.
+/// number of reads it fails once; later reads succeed again.
 #[derive(Clone, Copy)]
 pub struct Pieces<'a> {
     pub rest: &'a [u8],
@@ -14,7 +14,7 @@ pub struct Pieces<'a> {
 }
 
 impl<'a> Pieces<'a> {
-    /// A byte a read, and no failure.
+    /// Makes a reader of one byte a read that never fails.
     pub fn new(rest: &'a [u8], more: &'a [u8]) -> Pieces<'a> {
         Pieces {
             rest,
@@ -44,13 +44,13 @@ impl Read for Pieces<'_> {
     }
 }
 
-/// Compares what it takes with what is to come, at most a given number of bytes a write. After a
-/// given number of writes, or of flushes, it fails once; whoever writes on has more taken.
+/// Compares the bytes that it gets with the expected ones, at most a given number of bytes a write.
+/// After a given number of writes, or of flushes, it fails once; later writes succeed again.
 #[derive(Clone, Copy)]
 pub struct Narrow<'a> {
     pub to_come: &'a [u8],
     pub is_same: bool,
-    /// How much was still to come at the last flush.
+    /// How many bytes were still expected at the last flush.
     pub to_flush: usize,
     pub most: usize,
     pub writes_left: usize,
@@ -69,26 +69,26 @@ impl<'a> Narrow<'a> {
         }
     }
 
-    /// It took all, and nothing else.
+    /// Returns whether it got all expected bytes, and nothing else.
     pub fn is_done(&self) -> bool {
         self.is_same && self.to_come.is_empty()
     }
 
-    /// The beginning of the answers that it took.
+    /// Returns the part of the answers that it got.
     pub fn told(&self, answers: &'a [u8]) -> &'a [u8] {
         answers
             .split_at(answers.len().saturating_sub(self.to_come.len()))
             .0
     }
 
-    /// It took just so much of the answers, or all where they are no longer.
+    /// Returns whether it got exactly `len` bytes of the answers, or all if they are shorter.
     pub fn took(&self, answers: &[u8], len: usize) -> bool {
         self.is_same && self.to_come.len() == answers.len().saturating_sub(len)
     }
 }
 
 impl<'a> Narrow<'a> {
-    /// It takes all that it is given, in one write.
+    /// Makes a writer that takes any number of bytes in one write.
     pub fn wide(answers: &'a [u8]) -> Narrow<'a> {
         Narrow {
             most: usize::MAX,

@@ -12,7 +12,7 @@ const SECOND: &[&str] = &[FORMAT_2];
 
 const SLOW: &[&str] = &[SLOW_DISKS];
 
-/// Pings that come at once.
+/// Many pings at once.
 const MANY_PINGS: Scene = Scene {
     least: 0,
     greatest: 0,
@@ -40,14 +40,14 @@ const DEAF_LINK: Scene = Scene {
     ..TWO_PINGS
 };
 
-/// All that can happen to the two pings.
+/// The commands for all that can happen to the two pings.
 const FIRST_RUN: &str = "step; step; step; step; step; step; step; look";
 
 const FIRST_ANSWERS: &str =
     "place 1 clock 0; place 2 clock 0; place 3 clock 10; place 4 clock 20; place 5 clock 30; place 6 clock 40; refused 7 Idle; place 6 clock 40 serial 6 net 8 torn 0 pending 0 held 0";
 
-/// A row a line: the formats, the scene, the script, and what is written for it. A text and no
-/// table, since the prover takes a text as one value.
+/// A row a line: the formats, the scene, the script, and its output. This is a text and no table,
+/// since the prover takes a text as one value.
 const ROWS: &str =
     r#"both | two_pings | step; step; step; step; step; step; step; look | place 1 clock 0; place 2 clock 0; place 3 clock 10; place 4 clock 20; place 5 clock 30; place 6 clock 40; refused 7 Idle; place 6 clock 40 serial 6 net 8 torn 0 pending 0 held 0
 # 2917185654 mod 10 is 4, and 3848953152 mod 10 is 2.
@@ -78,7 +78,7 @@ slow | two_servers | run 100 | place 9 clock 50 all done
 second | fast_link | step; step; look next; step; look next | place 1 clock 0; place 2 clock 0; due 3 serial 2 host a message; place 3 clock 3; due 13 serial 3 host w message
 second | deaf_link | step; step; step; look | place 1 clock 0; place 2 clock 0; refused 7 Idle; place 2 clock 0 serial 2 net 2 torn 0 pending 0 held 0"#;
 
-/// What is asked after the first run, with what is written.
+/// Commands after the first run, with their output.
 const AFTER_FIRST_RUN: &str =
     r#"back 6; look; forward 6; look | place 0 clock 0; place 0 clock 0 serial 2 net 0 torn 0 pending 2 held 0; place 6 clock 40; place 6 clock 40 serial 6 net 8 torn 0 pending 0 held 0
 goto 5; goto 1; goto 4; goto 2 | place 5 clock 30; place 1 clock 0; place 4 clock 20; place 2 clock 0
@@ -91,7 +91,7 @@ look host w; look probe a served; look probe w next; look next | w up done yes d
 run 5; goto 3; run 1; tick; rewind 0; watch done w | refused 7 Idle; place 3 clock 10; refused 4 NotAtEnd; refused 4 NotAtEnd; place 3 clock 10; made 0
 back 1; back 2; look next; look host w | place 5 clock 30; place 3 clock 10; due 20 serial 3 host w message; w up done no draws 1 stable 0 unsynced 0"#;
 
-/// The formats of this name.
+/// Returns the formats of this name.
 fn formats_of(name: &str) -> Option<&'static [&'static str]> {
     match name {
         "both" => Some(BOTH),
@@ -101,7 +101,7 @@ fn formats_of(name: &str) -> Option<&'static [&'static str]> {
     }
 }
 
-/// The scene of this name.
+/// Returns the scene of this name.
 fn scene_of(name: &str) -> Option<Scene> {
     match name {
         "deaf_link" => Some(DEAF_LINK),
@@ -131,7 +131,7 @@ fn plays_row(rt: &impl Abort, alloc: Global, row: &str) -> Result<(), Fail> {
     Ok(plays(rt, alloc, formats, scene, script, want)?)
 }
 
-/// Plays the first run, and then what is asked after it.
+/// Plays the first run, and then the commands after it.
 fn plays_after(rt: &impl Abort, alloc: Global, more: &str, told: &str) -> Result<(), AllocError> {
     let script = format!(in alloc; "{FIRST_RUN}; {more}")?;
     let want = format!(in alloc; "{FIRST_ANSWERS}; {told}")?;

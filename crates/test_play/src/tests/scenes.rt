@@ -6,16 +6,15 @@ use std::process::Abort;
 
 const SEED: &str = "0000000000000000000000000000000000000000000000000000000000000000";
 
-/// The lines for the format in two scenarios that say the same.
+/// The lines for the format in two scenarios with the same meaning.
 pub const FORMAT_1: &str = "format = 1\n";
 
 pub const FORMAT_2: &str = "format = 2\ndisk_latency = 0\n";
 
-/// A disk that takes 5 ms for a sync.
+/// Disks whose syncs take 5 ms.
 pub const SLOW_DISKS: &str = "format = 2\ndisk_latency = 5\n";
 
-/// How many events lie between two checkpoints, and how many can be undone by their records. None
-/// changes a byte of what is written.
+/// Intervals and windows. None of them changes a byte of the output.
 const GRAINS: [(u32, u32); 15] = [
     (1, 1),
     (1, 2),
@@ -34,9 +33,8 @@ const GRAINS: [(u32, u32); 15] = [
     (1024, 4096),
 ];
 
-/// What differs from one scenario to another: its protocol, its latencies (ms) and its loss in a
-/// thousand, its servers, how many hosts these and its client `w` are, the operations of this
-/// client, and its links.
+/// What differs between scenarios: the protocol, the latencies (ms) and the loss in a thousand, the
+/// servers, the number of hosts with the client `w`, the operations of this client, and the links.
 #[derive(Clone, Copy)]
 pub struct Scene {
     pub protocol: &'static str,
@@ -110,8 +108,7 @@ fn push_client(
     write!(text, "[[client]]\nname = \"w\"\nops = {ops}\n")
 }
 
-/// The scenario, with the lines for its format, this many events between two checkpoints, and this
-/// many that can be undone.
+/// Returns the scenario, with the lines for its format, this interval and this window.
 pub fn scenario(
     alloc: Global,
     format: &str,
@@ -135,7 +132,7 @@ pub fn push_times(text: &mut String, piece: &str, times: u32) -> Result<(), Allo
     Ok(())
 }
 
-/// Adds the lines that are parted by `; `, each with its end.
+/// Adds the lines that are separated by `; `, each with its end.
 pub fn push_lines(text: &mut String, parted: &str) -> Result<(), AllocError> {
     for line in parted.split("; ") {
         text.push_str(line)?;
@@ -144,7 +141,7 @@ pub fn push_lines(text: &mut String, parted: &str) -> Result<(), AllocError> {
     Ok(())
 }
 
-/// How the play of two texts ends, one after the other, where just this is written.
+/// Returns the status of the play of two texts, one after the other, if it writes exactly this.
 pub fn status_of(alloc: Global, head: &[u8], script: &[u8], want: &[u8]) -> Option<Status> {
     let mut reader = Pieces::new(head, script);
     reader.most = 65_536;
@@ -153,7 +150,7 @@ pub fn status_of(alloc: Global, head: &[u8], script: &[u8], want: &[u8]) -> Opti
     writer.is_done().then_some(status)
 }
 
-/// Wants that just this is written, whatever the checkpoint and the window.
+/// Checks that exactly this is written, for each interval and window.
 fn plays_at_each(
     rt: &impl Abort,
     alloc: Global,
@@ -170,7 +167,7 @@ fn plays_at_each(
     Ok(())
 }
 
-/// The lines of a script, and then back to the start.
+/// Returns the lines of a script, and then those that go back to the start.
 fn script_of(alloc: Global, parted: &str) -> Result<String, AllocError> {
     let mut script = String::from_str(alloc, "---\n")?;
     push_lines(&mut script, parted)?;
@@ -178,7 +175,7 @@ fn script_of(alloc: Global, parted: &str) -> Result<String, AllocError> {
     Ok(script)
 }
 
-/// The lines of the answers, and then those of the start, where all is as it was.
+/// Returns the lines of the answers, and then those at the start, where all is as before.
 fn answers_of(alloc: Global, hosts: u32, parted: &str) -> Result<String, AllocError> {
     let mut answers = String::new(alloc);
     push_lines(&mut answers, parted)?;
@@ -189,8 +186,8 @@ fn answers_of(alloc: Global, hosts: u32, parted: &str) -> Result<String, AllocEr
     Ok(answers)
 }
 
-/// Plays the lines of a script in each of these formats, and wants these lines, whatever the
-/// checkpoint and the window. Then back to the start, where all is as it was.
+/// Plays the lines of a script in each of these formats, and checks its answers, for each interval
+/// and window. Then goes back to the start, where all is as before.
 pub fn plays(
     rt: &impl Abort,
     alloc: Global,

@@ -1,5 +1,4 @@
-//! Plays whose reader gives, and whose writer takes, a byte at a time, and fails at each call in
-//! turn.
+//! Plays whose reader and writer handle one byte a call, and fail at each call in turn.
 ghost use Rattle.std.specs.Prelude.{codes, [], ◌∷◌};
 
 use super::ports::{Narrow, Pieces};
@@ -16,14 +15,14 @@ use std::process::Abort;
 pub const HEAD: &[u8] =
     b"format = 1\nseed = \"0000000000000000000000000000000000000000000000000000000000000000\"\nprotocol = \"echo\"\ntick = 100\nlatency_min = 10\nlatency_max = 10\nloss = 0\nservers = [\"a\"]\ncheckpoint = 4\nwindow = 2\n[[client]]\nname = \"w\"\nops = 2\n---\n";
 
-/// The first run: all that can happen in the scenario.
+/// The commands of the first run: all that can happen in the scenario.
 const FIRST_RUN: &[u8] = b"step\nstep\nstep\nstep\nstep\nstep\nstep\nlook\n";
 
 const FIRST_ANSWERS: &[u8] =
     b"place 1 clock 0\nplace 2 clock 0\nplace 3 clock 10\nplace 4 clock 20\nplace 5 clock 30\nplace 6 clock 40\nrefused 7 Idle\nplace 6 clock 40 serial 6 net 8 torn 0 pending 0 held 0\n";
 
-/// A scenario of a primary, a backup and a client, on disks that take 5 ms; the line `---`; and two
-/// lines that are passed over.
+/// A scenario of a primary, a backup and a client, on disks whose syncs take 5 ms; the line `---`;
+/// and two lines that are skipped.
 const DISKS_HEAD: &[u8] = br#"format = 2
 seed = "000102030405060708090a0b0c0d0e0f101112131415161718191a1b1c1d1e1f"
 protocol = "primary_backup"
@@ -43,8 +42,7 @@ ops = 2
 
 "#;
 
-/// A script with each command, of which some are refused, on three branches. Its last line has no
-/// end.
+/// A script with each command on three branches. Some are refused. Its last line has no end.
 const EACH_COMMAND: &[u8] = br#"look next
 step
 run 5
@@ -99,7 +97,7 @@ goto 99
 up p
 look"#;
 
-/// A line for each of them. Another program than this one gave the same.
+/// The answers, a line for each command. Another program wrote the same.
 const EACH_ANSWER: &[u8] = br#"due 0 serial 0 host p start
 place 1 clock 0
 place 6 clock 27
@@ -155,14 +153,14 @@ bad line
 place 15 clock 95 serial 21 net 16 torn 0 pending 3 held 0
 "#;
 
-/// A play: a scenario up to its line `---`, a script, and what answers it.
+/// A play: a scenario up to its line `---`, a script, and its answers.
 #[derive(Clone, Copy)]
 struct Example {
     head: &'static [u8],
     script: &'static [u8],
     answers: &'static [u8],
-    /// How often the answers are flushed where each byte takes a read: before each line of the
-    /// script, and at the end.
+    /// How often the answers are flushed if each byte takes a read: before each line of the script,
+    /// and at the end.
     flushes: usize,
 }
 
@@ -190,7 +188,7 @@ impl Example {
         self.head.len().saturating_add(self.script.len())
     }
 
-    /// How many lines answer what this many reads of a byte gave: one for each whole line, and one
+    /// Returns how many lines answer the bytes of this many reads: one for each whole line, and one
     /// for the rest if the reads came to the end.
     fn answered_lines(&self, reads: usize) -> usize {
         if reads > self.len() {
@@ -202,7 +200,7 @@ impl Example {
     }
 }
 
-/// How many lines end in a text.
+/// Returns the number of line ends in a text.
 fn line_ends(text: &[u8]) -> usize {
     text.iter().filter(|byte| **byte == b'\n').count()
 }
@@ -214,7 +212,7 @@ fn plays_a_byte_at_a_time(rt: HostRuntime) {
         let mut writer = Narrow::new(example.answers);
         let status = play::<Shipped, _, _>(rt.alloc(), &mut reader, &mut writer);
         assert_eq!(rt; (status, status.number()), (Status::Well, 0));
-        // Before each line that takes a read, and at the end, all is flushed.
+        // All is flushed before each line that takes a read, and at the end.
         assert!(rt; writer.took(example.answers, example.answers.len()) && writer.to_flush == 0);
         assert_eq!(rt;
             1_000_usize.saturating_sub(writer.flushes_left),
@@ -223,8 +221,8 @@ fn plays_a_byte_at_a_time(rt: HostRuntime) {
     }
 }
 
-/// A play whose reader fails after this many reads of a byte: whole lines are written, as many as
-/// there are to be, and all flushed.
+/// Checks a play whose reader fails after this many reads of a byte: it writes the answers of the
+/// whole lines, and flushes them.
 fn a_read_fails<A: Abort + Drop>(rt: &A, alloc: Global, example: &Example, reads: usize) {
     let mut reader = example.reader();
     reader.reads_left = reads;
@@ -258,8 +256,8 @@ fn answers_whole_lines_up_to_a_failed_read(rt: HostRuntime) {
     }
 }
 
-/// A play, whose reader gives this many bytes a read, ends as its writer fails after this many
-/// writes of a byte.
+/// Checks that a play, whose reader gives this many bytes a read, ends when its writer fails after
+/// this many writes of a byte.
 fn a_write_fails<A: Abort + Drop>(
     rt: &A,
     alloc: Global,
@@ -281,8 +279,8 @@ fn a_write_fails<A: Abort + Drop>(
     assert_eq!(rt; status, want, "at write {writes}");
 }
 
-/// Each write of the answers fails in turn, where they are written line by line, and where they are
-/// gathered.
+/// Each write of the answers fails in turn, if they are written line by line, and if they are
+/// buffered.
 #[test]
 fn stops_at_a_failed_write(rt: HostRuntime) {
     for (example, most) in [(FIRST, 1), (EACH, 1), (FIRST, 100_000)] {
@@ -294,7 +292,8 @@ fn stops_at_a_failed_write(rt: HostRuntime) {
 
 const TWO_STEPS: &[u8] = b"place 1 clock 0\nplace 2 clock 0\n";
 
-/// A play whose writer fails after this many flushes ends there, and just this is written.
+/// Checks that a play whose writer fails after this many flushes ends there, and has written
+/// exactly this.
 fn a_flush_fails<A: Abort + Drop>(
     rt: &A,
     alloc: Global,
@@ -312,8 +311,8 @@ fn a_flush_fails<A: Abort + Drop>(
     assert!(rt; writer.took(want, want.len()), "at flush {flushes}");
 }
 
-/// Where the script takes a read, where its next line does, at the end of the input, and for a
-/// fault.
+/// A flush fails before the script takes a read, before its next line does, at the end of the
+/// input, and for a fault.
 #[test]
 fn stops_at_a_failed_flush(rt: HostRuntime) {
     let alloc = rt.alloc();
@@ -334,7 +333,7 @@ fn a_writer_that_takes_nothing_has_failed(rt: HostRuntime) {
     assert!(rt; writer.took(FIRST_ANSWERS, 0));
 }
 
-/// Gives this many marks of a comment, a byte a read.
+/// A reader of this many `#`, one byte a read.
 #[derive(Clone, Copy)]
 struct Marks {
     left: usize,
@@ -351,7 +350,7 @@ impl Read for Marks {
     }
 }
 
-/// A play of a text that is no scenario, of which one byte is given a read, leaves so much of it.
+/// Checks that a play of a text that is no scenario, read byte by byte, leaves this much of it.
 fn leaves<A: Abort + Drop>(rt: &A, alloc: Global, input: &[u8], left: usize, want: &[u8]) {
     let mut reader = Pieces::new(input, b"");
     let mut writer = Narrow::new(want);
@@ -416,7 +415,7 @@ impl Subject for Pings {
 const PINGS_HEAD: &[u8] =
     b"format = 1\nseed = \"0000000000000000000000000000000000000000000000000000000000000000\"\nprotocol = \"pings\"\ntick = 100\nlatency_min = 10\nlatency_max = 10\nloss = 0\nservers = [\"a\"]\ncheckpoint = 4\nwindow = 2\n[[client]]\nname = \"w\"\nops = 2\n---\n";
 
-/// A play over the two subjects writes this, and ends so.
+/// Checks that a play over the two subjects writes this, and ends with this status.
 fn plays_two<A: Abort + Drop>(rt: &A, alloc: Global, head: &[u8], want: &[u8], status: Status) {
     let mut reader = Pieces::new(head, b"step\nlook probe w pings\n");
     let mut writer = Narrow::new(want);

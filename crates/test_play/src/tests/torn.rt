@@ -1,4 +1,4 @@
-//! The plays of the folder `examples` in which a crash tears a write, and what they answer, byte by
+//! The plays of the folder `examples` in which a crash tears a write, and their answers, byte by
 //! byte.
 use super::examples::plays;
 

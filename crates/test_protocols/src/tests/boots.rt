@@ -1,4 +1,4 @@
-//! What servers show that boot from given bytes.
+//! The probes of servers that boot from given bytes.
 ghost use Rattle.std.specs.Prelude.{◌<◌};
 
 use sim_node::{NoMemory, Node, Setup};
@@ -14,7 +14,7 @@ const FOUR_HOSTS: Setup = Setup {
     ops: [2; 32],
 };
 
-// What a probe shows of a host of four that boots from these bytes, copied.
+// Boots one of four hosts from these bytes, copies it, and returns what a probe of the copy shows.
 fn booted<N: Node>(
     alloc: Global,
     me: u16,
@@ -29,7 +29,7 @@ fn booted<N: Node>(
     Ok(node.copy(alloc, meter)?.probe(k))
 }
 
-// The host and the bytes from which it boots, the probe, and what it shows.
+// The host and the bytes from which it boots, the probe, and its value.
 type Row = (u16, &'static [u8], u8, u64);
 
 fn all_show<N: Node>(alloc: Global, rows: &[Row], meter: &mut N::Meter) -> Result<(), Fail> {
@@ -45,7 +45,7 @@ fn all_show<N: Node>(alloc: Global, rows: &[Row], meter: &mut N::Meter) -> Resul
     Ok(())
 }
 
-// A transaction, a flag or a status, and what became of transaction 1.
+// A transaction, a flag or a status, and the outcome of transaction 1.
 const COMMITS: [Row; 6] = [
     (0, &[1, 0, 0, 0, 0, 0, 0, 0, 0, 0], 1, 2),
     (0, &[1, 0, 0, 0, 0, 0, 0, 0, 1, 1], 1, 1),
@@ -55,7 +55,7 @@ const COMMITS: [Row; 6] = [
     (2, &[2, 0, 0, 0, 0, 0, 0, 0, 3, 2], 1, 0),
 ];
 
-// A number, a writer, and of a value what a torn write has left.
+// A number, a writer, and the bytes of a value that a torn write has left.
 const REGISTER: &[u8] = &[2, 1, 0, 0, 0, 0, 0, 0, 3, 0, 0, 0, 0, 0, 0, 0, 9, 1];
 
 #[test]
@@ -68,7 +68,7 @@ fn servers_show_what_they_booted(rt: HostRuntime) -> Result<(), Fail> {
         (1, REGISTER, 2, 265),
     ];
     all_show::<AbdRegister<Tally>>(rt.alloc(), &registers, &mut meter)?;
-    // How many puts it has applied is at byte 128.
+    // The number of puts applied is at byte 128.
     let mut bytes = [0; 137];
     bytes[128] = 7;
     bytes[136] = 20;

@@ -37,10 +37,11 @@ const FIVE_HOSTS: Setup = Setup {
     ops: [2; 32],
 };
 
-// The hosts, the seed's byte 24 (the others are 0), how long a sync takes (ms), and the acts.
+// The hosts, the seed's byte 24 (the others are 0), the latency of a sync (ms), and the acts.
 type Play = (Setup, u8, u32, &'static [Act]);
 
-// A way of 10 ms that loses nothing, and for five hosts one of 5 to 45 ms that loses one in ten.
+// Returns a way of 10 ms that loses nothing, or for five hosts one of 5 to 45 ms that loses one
+// message in ten.
 fn way(hosts: u16) -> Way {
     if hosts < 5 {
         return steady(10);
@@ -65,7 +66,7 @@ fn setting(setup: Setup, byte: u8, disk_latency: u32) -> Setting {
     }
 }
 
-// A cluster goes through each play, and back.
+// Checks that a cluster goes through each play, and back.
 fn all_play<N: Node>(alloc: Global, rows: &[Play], meter: &mut N::Meter) -> Result<(), Fail> {
     for (setup, byte, disk_latency, acts) in rows {
         let scenario = setting(*setup, *byte, *disk_latency).scenario()?;
@@ -74,11 +75,11 @@ fn all_play<N: Node>(alloc: Global, rows: &[Play], meter: &mut N::Meter) -> Resu
     Ok(())
 }
 
-// What a rough run comes to: how many events it has, the clock (ms), the serials, the words of the
+// The end of a rough run: its number of events, the clock (ms), the serials, the words of the
 // network and of torn writes, and the value on which the servers agree.
 type End = (u32, u64, u64, u64, u64, u64);
 
-// A rough run: each server in turn crashes and starts again, and then nothing is pending any more.
+// Returns a rough run: each server in turn crashes and starts again, until nothing is pending.
 fn rough(probe: u8, end: End) -> [Act; 20] {
     let (events, clock, serial, net, torn, value) = end;
     [
@@ -105,7 +106,7 @@ fn rough(probe: u8, end: End) -> [Act; 20] {
     ]
 }
 
-// A cluster of five hosts comes to these ends, where a sync takes 0, 5 and 50 ms.
+// Checks that a cluster of five hosts comes to these ends, with syncs of 0, 5 and 50 ms.
 fn all_end<N: Node>(
     alloc: Global,
     probe: u8,
@@ -120,7 +121,7 @@ fn all_end<N: Node>(
 }
 
 const BACKUPS: [Play; 2] = [
-    // A put is answered and spread again.
+    // A put is answered, and sent to the backups again.
     (
         THREE_HOSTS,
         0,
@@ -208,9 +209,9 @@ const PARTICIPANTS: [Play; 2] = [
             Act::Probe(1, 1, Some(2)),
         ],
     ),
-    // The coordinator's second write is torn after its ninth byte: it comes back with its commit
-    // flag, and with a transaction 1 that is open, so it presumes that it was aborted; but it tells
-    // the participant to commit.
+    // The coordinator's second write is torn after its ninth byte. It boots with its commit flag
+    // and an open transaction 1, and presumes that it was aborted; but it tells the participant to
+    // commit.
     (
         THREE_HOSTS,
         5,

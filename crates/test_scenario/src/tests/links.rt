@@ -1,4 +1,4 @@
-//! Texts of format 2: their links, and the time that a sync takes.
+//! Texts of format 2: their links, and the latency of a sync.
 
 ghost use Rattle.sim_scenario.specs.Hosts.{IsNumbered};
 
@@ -356,7 +356,7 @@ latency_max = 2
 loss = 250
 "#;
 
-/// A way of one latency that loses no message.
+/// Returns a way of one latency that loses no message.
 fn steady(latency: u32) -> Way {
     Way {
         latency_min: latency,
@@ -365,7 +365,7 @@ fn steady(latency: u32) -> Way {
     }
 }
 
-/// Both formats say the same where syncs take no time and there is no link.
+/// Checks that both formats mean the same if syncs take no time and there is no link.
 pub fn both_formats(alloc: Global) -> Result<(), Fail> {
     let text = text_with(alloc, LINES, "")?;
     let one = scenario(alloc, text.as_str())?;
@@ -376,7 +376,7 @@ pub fn both_formats(alloc: Global) -> Result<(), Fail> {
     ways_are(&two.ways, steady(10), &[])
 }
 
-/// The numbers that a text says.
+/// Returns the numbers of a text.
 fn numbers(said: &ScenarioText) -> (u32, u32, u16, u32, u32) {
     (
         said.tick,
@@ -399,7 +399,7 @@ fn say_the_same(two: &ScenarioText, one: &ScenarioText) -> Result<(), Fail>
     same(&two.ops, &one.ops, "ops")
 }
 
-/// Links change their own directions alone.
+/// Checks that links change only their own directions.
 pub fn ways_of_links(alloc: Global) -> Result<(), Fail> {
     let text = text_with(alloc, LINES_2, TWO_LINKS)?;
     let said = scenario(alloc, text.as_str())?;

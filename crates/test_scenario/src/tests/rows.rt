@@ -1,6 +1,5 @@
-//! Tables of texts. A row says the number and the key of the fault that is wanted, or 0 where the
-//! text is a scenario, and then of each changed line the key of the line and what stands in its
-//! place.
+//! Tables of texts. A row has the number and the key of the expected fault, or 0 if the text is a
+//! scenario, and then for each changed line its key and its replacement.
 
 /// Texts that are not TOML.
 pub const NOT_TOML: &str = r#"
@@ -378,7 +377,7 @@ name = "x"
 ops = 2
 "#;
 
-/// The same said in other ways.
+/// The same values written in other ways.
 pub const OTHER_WAYS: &str = r#"
 > 0 @client
 client = [{ name = "w", ops = 2 }]
@@ -405,7 +404,7 @@ servers = [
 ]
 "#;
 
-/// 32 hosts and 33 of them, which comes before two equal names.
+/// 32 hosts and 33 of them; a wrong number of hosts is found before two equal names.
 pub const HOST_COUNTS: &str = r#"
 > 0 @servers
 servers = ["a0", "a1", "a2", "a3", "a4", "a5", "a6", "a7", "a8", "a9", "a10", "a11", "a12", "a13", "a14", "a15", "a16", "a17", "a18", "a19", "a20", "a21", "a22", "a23", "a24", "a25", "a26", "a27", "a28", "a29", "a30"]
@@ -419,9 +418,9 @@ name = "a0"
 ops = 2
 "#;
 
-/// Two lines changed, each a fault: the first fault of the order is answered. What is not TOML
+/// Two changed lines, each a fault: the first fault in the order is reported. What is not TOML
 /// comes before all others, an unknown key of the text before one of a client, and that before a
-/// missing key and a wrong type; then the keys in the order of the table; of servers their types,
+/// missing key and a wrong type; then the keys in the order of the table; for servers their types,
 /// their number and their names; clients before equal names.
 pub const PAIRS: &str = r#"
 > 2 text @format

@@ -1,4 +1,4 @@
-//! What a text says.
+//! The values of a text.
 
 ghost use Rattle.std.specs.Prelude.{IfOk};
 ghost use Rattle.sim_scenario.specs.Hosts.{IsNumbered};
@@ -11,7 +11,7 @@ use std::alloc::Global;
 use std::fmt::Debug;
 use std::test::Fail;
 
-/// Two values are the same, or the test fails.
+/// Fails unless two values are equal.
 pub fn same<T: PartialEq + Debug>(seen: &T, wanted: &T, what: &str) -> Result<(), Fail> {
     if seen == wanted {
         return Ok(());
@@ -19,7 +19,7 @@ pub fn same<T: PartialEq + Debug>(seen: &T, wanted: &T, what: &str) -> Result<()
     Err(Fail::new(format_args!("{what}: {seen:?}, not {wanted:?}")))
 }
 
-/// The scenario of a text.
+/// Reads the scenario of a text.
 pub fn scenario(alloc: Global, text: &str) -> Result<ScenarioText, Fail>
     ensures { IfOk result (λ s. IsNumbered s.names) }
 {
@@ -29,7 +29,8 @@ pub fn scenario(alloc: Global, text: &str) -> Result<ScenarioText, Fail>
     }
 }
 
-/// The hosts have these names, in the order of their numbers, and no host has the other.
+/// Checks that the hosts have these names, in the order of their numbers, and no host has the
+/// other.
 pub fn names_are(hosts: &IndexMap<String, u16>, names: &[&str], other: &str) -> Result<(), Fail>
     requires { IsNumbered hosts.now }
 {
@@ -44,7 +45,7 @@ pub fn names_are(hosts: &IndexMap<String, u16>, names: &[&str], other: &str) -> 
     same(&host_number(hosts, other), &None, other)
 }
 
-/// The way from host a to host b, where some ways are others than the rest.
+/// Returns the expected way from host a to host b, if some ways differ from the rest.
 fn wanted(rest: Way, others: &[(u16, u16, Way)], a: u16, b: u16) -> Way {
     for (from, to, way) in others {
         if *from == a && *to == b {
@@ -54,7 +55,7 @@ fn wanted(rest: Way, others: &[(u16, u16, Way)], a: u16, b: u16) -> Way {
     rest
 }
 
-/// All ways are the same but for some.
+/// Checks that all ways are the same but for some.
 pub fn ways_are(ways: &Ways, rest: Way, others: &[(u16, u16, Way)]) -> Result<(), Fail> {
     for a in 0..32 {
         for b in 0..32 {

@@ -1,11 +1,11 @@
-//! Texts, and what is answered to them.
+//! Texts, and the answers to them.
 
 use super::protocols::Shipped;
 use sim_scenario::read;
 use std::alloc::{AllocError, Global};
 use std::test::Fail;
 
-/// The lines of a text that is a scenario, each below its key, which stands after an `@`.
+/// The lines of a text that is a scenario, each below its key, which follows an `@`.
 pub const LINES: &str = r#"
 @format
 format = 1
@@ -33,7 +33,7 @@ name = "w"
 ops = 2
 "#;
 
-/// What stands in place of a key's line, where it is changed: each change is the key after an `@`,
+/// Returns the replacement of a key's line, if it is changed. Each change is the key after an `@`,
 /// and below it the lines.
 fn changed<'a>(changes: &'a str, key: &str) -> Option<&'a str> {
     for change in changes.split('@') {
@@ -46,7 +46,7 @@ fn changed<'a>(changes: &'a str, key: &str) -> Option<&'a str> {
     None
 }
 
-/// The text of these lines, some of them changed.
+/// Returns the text of these lines, some of them changed.
 pub fn text_with(alloc: Global, lines: &str, changes: &str) -> Result<String, AllocError> {
     let mut text = String::new(alloc);
     for entry in lines.split('@') {
@@ -57,7 +57,7 @@ pub fn text_with(alloc: Global, lines: &str, changes: &str) -> Result<String, Al
     Ok(text)
 }
 
-/// The text with CR and LF at the end of each line.
+/// Returns the text with CR and LF at the end of each line.
 pub fn with_crlf(alloc: Global, lines: &str) -> Result<String, AllocError> {
     let mut text = String::new(alloc);
     for line in lines.lines() {
@@ -67,7 +67,7 @@ pub fn with_crlf(alloc: Global, lines: &str) -> Result<String, AllocError> {
     Ok(text)
 }
 
-/// A scenario with a comment behind it, so that it has this many bytes, and then an end.
+/// Returns a scenario with a comment after it, of this many bytes in all, and then an end.
 pub fn padded(alloc: Global, len: usize, end: &str) -> Result<String, AllocError> {
     let mut text = text_with(alloc, LINES, "")?;
     text.push_str("#")?;
@@ -78,7 +78,8 @@ pub fn padded(alloc: Global, len: usize, end: &str) -> Result<String, AllocError
     Ok(text)
 }
 
-/// Whether the text is refused with this number and key, or is a scenario where `0` is wanted.
+/// Returns whether the text is refused with this number and key, or is a scenario if `wanted` is
+/// `0`.
 pub fn is_answered(alloc: Global, text: &str, wanted: &str) -> bool {
     match read::<Shipped>(alloc, text) {
         Ok(_) => wanted == "0",
@@ -89,8 +90,8 @@ pub fn is_answered(alloc: Global, text: &str, wanted: &str) -> bool {
     }
 }
 
-/// Each row of a table holds: the text with its changes is answered as it says. A row stands after
-/// a `>`, what is wanted before its first `@`.
+/// Checks each row of a table: the text with its changes has the expected answer. A row follows a
+/// `>`; its answer comes before its first `@`.
 pub fn rows_hold(alloc: Global, lines: &str, table: &str) -> Result<(), Fail> {
     for row in table.split('>') {
         if let Some((wanted, changes)) = row.split_once('@') {

@@ -1,4 +1,4 @@
-//! Meters of which each waits, in its first turn, for the other's.
+//! Meters that wait for each other in their first turn.
 ghost use Rattle.std.specs.Prelude.{◌≡◌, IfOk, vec_len};
 
 use crate::tests::meeting::Meeting;
@@ -6,7 +6,7 @@ use sim_node::{Meter, NoMemory};
 use sim_tally::Tally;
 use std::alloc::Global;
 
-/// A meter that comes to a meeting in its first turn, under a number.
+/// A meter that comes to a meeting in its first turn, with a number.
 #[derive(Drop)]
 pub struct Comer<'a> {
     tally: Tally,
@@ -16,7 +16,7 @@ pub struct Comer<'a> {
 }
 
 impl<'a> Comer<'a> {
-    /// One that has come already, and waits for nobody.
+    /// Makes a meter that has come already, and waits for nobody.
     pub fn late(meeting: &'a Meeting) -> Comer<'a> {
         Comer {
             tally: Tally::new(),
@@ -56,7 +56,7 @@ impl<'a> Meter for Comer<'a> {
     }
 }
 
-/// Two meters that wait for each other.
+/// Makes two meters that wait for each other.
 pub fn comers<'a>(alloc: Global, meeting: &'a Meeting) -> Result<Vec<Comer<'a>>, NoMemory>
     ensures { IfOk result (λ v. vec_len v ≡ 2) }
 {

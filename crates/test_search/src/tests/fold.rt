@@ -6,7 +6,7 @@ use sim_world::{Event, Scenario, World};
 use std::alloc::Global;
 use std::test::Fail;
 
-// The client's next operation, as its probe tells it.
+// Returns the client's next operation, as its probe shows it.
 fn next(world: &World<Echo<Tally>>, client: u16) -> u64 {
     if world.hosts() <= client {
         return 0;
@@ -14,8 +14,8 @@ fn next(world: &World<Echo<Tally>>, client: u16) -> u64 {
     world.probe(client, 0).unwrap_or(0)
 }
 
-/// A client's next operation at each place of the run of this many steps, or of as many as can
-/// happen.
+/// Returns a client's next operation at each place of the run of this many steps, or of as many as
+/// can happen.
 pub fn nexts(
     alloc: Global,
     scenario: &Scenario,
@@ -37,7 +37,7 @@ pub fn nexts(
     Ok(seen)
 }
 
-/// The first place from `lo` to `hi` at which the number is above this.
+/// Returns the first place from `lo` to `hi` at which the number is above `most`.
 pub fn first_above(seen: &[u64], lo: u32, hi: u32, most: u64) -> Option<u32> {
     for place in lo..hi {
         if seen.get(place as usize).is_some_and(|&next| most < next) {
@@ -50,8 +50,8 @@ pub fn first_above(seen: &[u64], lo: u32, hi: u32, most: u64) -> Option<u32> {
     }
 }
 
-/// The first seed of `count` from number 0 on whose run of this many steps has such a place, and
-/// its first.
+/// Returns the first of `count` seeds from number 0 on whose run of this many steps has such a
+/// place, and the first such place.
 pub fn first_seed(
     alloc: Global,
     scenario: &Scenario,

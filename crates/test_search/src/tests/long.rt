@@ -11,7 +11,7 @@ use std::sync::Wait;
 use std::test::Fail;
 use std::thread::Threads;
 
-// A search finds what a walk over these numbers does, by 1, 9 and 16 workers.
+// Checks that a search by 1, 9 and 16 workers finds the same as a walk over these numbers.
 fn finds<R: Threads + Wait + Sync + Abort>(
     rt: &R,
     alloc: Global,
@@ -31,7 +31,7 @@ fn finds<R: Threads + Wait + Sync + Abort>(
     Ok(())
 }
 
-// The same over these places, for several numbers.
+// Checks the same over these places, for several numbers.
 fn finds_each<R: Threads + Wait + Sync + Abort>(
     rt: &R,
     alloc: Global,
@@ -54,7 +54,8 @@ fn places_of_a_long_run(rt: HostRuntime) -> Result<(), Fail> {
     finds_each(&rt, rt.alloc(), &run, seen.as_slice())
 }
 
-// A sweep finds what plain folds of these runs of so many steps do, by 1, 2 and 9 workers.
+// Checks that a sweep by 1, 2 and 9 workers finds the same as plain folds of these runs of `steps`
+// steps.
 fn sweeps<R: Threads + Wait + Sync + Abort>(
     rt: &R,
     alloc: Global,

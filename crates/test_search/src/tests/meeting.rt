@@ -7,7 +7,7 @@ use std::thread::yield_now;
 
 const LOOKS: u32 = 10_000_000;
 
-/// Where two wait for each other, and how many of them saw the other come.
+/// A meeting of two, and how many of them saw the other come.
 #[derive(Drop)]
 pub struct Meeting {
     zero: AtomicBool,
@@ -24,12 +24,12 @@ impl Meeting {
         }
     }
 
-    /// How many of the two saw the other.
+    /// Returns how many of the two saw the other.
     pub fn met(&self) -> u64 {
         self.met.load(SeqCst)
     }
 
-    /// Numbers 0 and 1 wait for each other; any other goes on.
+    /// Lets numbers 0 and 1 wait for each other; any other goes on.
     pub fn come(&self, number: u64) {
         let (mine, other) = match number {
             0 => (&self.zero, &self.one),

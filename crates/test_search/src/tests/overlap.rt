@@ -1,4 +1,4 @@
-//! Two workers of a search, and of a sweep, are at work at once.
+//! Two workers of a search, and of a sweep, work at once.
 use crate::tests::comers::{Comer, comers};
 use crate::tests::meeting::Meeting;
 use crate::tests::scenes::{echoes, frozen_run, next_at_most};

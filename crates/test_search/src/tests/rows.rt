@@ -1,4 +1,4 @@
-//! Worked searches and sweeps of a run of six steps, also those that are refused.
+//! Worked searches and sweeps of a run of six steps, also refused ones.
 ghost use Rattle.std.specs.Prelude.{◌≤◌};
 
 use crate::tests::scenes::{echoes, frozen_run, next_at_most, tallies};
@@ -15,12 +15,12 @@ use std::sync::atomic::Ordering::SeqCst;
 use std::test::Fail;
 use std::thread::Threads;
 
-// The run of the six steps that can happen.
+// Returns the run of the six steps that can happen.
 fn six_steps(alloc: Global) -> Result<Frozen<Echo<Tally>>, Fail> {
     frozen_run(alloc, &echoes()?, 7, &mut Tally::new())
 }
 
-// How often each of two pieces was entered, and a thousand for each time that it was left.
+// For two pieces: 1 for each time that it was entered, and 1,000 for each time that it was left.
 #[derive(Drop)]
 struct Counts {
     first: AtomicU64,
@@ -42,7 +42,7 @@ impl Counts {
         };
     }
 
-    // Both pieces were entered and left once.
+    // Returns whether both pieces were entered and left once.
     fn are_even(&self) -> bool {
         self.first.load(SeqCst) == 1_001 && self.second.load(SeqCst) == 1_001
     }
@@ -58,8 +58,8 @@ impl Gate for Counts {
     }
 }
 
-// The first place at which the client's next operation is above this number, as this many workers
-// find it. Each of the two pieces is entered and left once.
+// Checks which place this many workers find first at which the client's next operation is above
+// this number. Each of the two pieces is entered and left once.
 fn finds<R: Threads + Wait + Sync + Abort>(
     rt: &R,
     alloc: Global,
@@ -89,7 +89,7 @@ fn places_of_a_run(rt: HostRuntime) -> Result<(), Fail> {
     Ok(())
 }
 
-// A search for a place at which the host is down.
+// Returns why a search for a place at which the host is down is refused.
 fn is_refused<R: Threads + Wait + Sync + Abort>(
     rt: &R,
     alloc: Global,
@@ -117,7 +117,7 @@ fn searches_that_are_refused(rt: HostRuntime) -> Result<(), Fail> {
     Ok(())
 }
 
-// The seeds of a sweep and how many steps their runs have.
+// The seeds of a sweep, and the number of steps of their runs.
 #[derive(Clone, Copy)]
 struct Seeds {
     first: u64,
@@ -125,7 +125,7 @@ struct Seeds {
     events: u64,
 }
 
-// How a sweep by this many workers ends.
+// Returns the result of a sweep by this many workers.
 fn swept<R: Threads + Wait + Sync>(
     rt: &R,
     alloc: Global,
@@ -147,7 +147,7 @@ fn swept<R: Threads + Wait + Sync>(
     ))
 }
 
-// Sweeps by 1, 2 and 16 workers find this.
+// Checks that sweeps by 1, 2 and 16 workers find this.
 fn sweeps<R: Threads + Wait + Sync + Abort>(
     rt: &R,
     alloc: Global,
@@ -178,7 +178,7 @@ fn seeds_of_echo(rt: HostRuntime) -> Result<(), Fail> {
     sweeps(&rt, rt.alloc(), seeds_from(7, 2, 3), 1, None)
 }
 
-// A sweep for a place at which the host is down has no answer, for this reason.
+// Checks that a sweep for a place at which the host is down fails for this reason.
 fn is_no_sweep<R: Threads + Wait + Sync + Abort>(
     rt: &R,
     alloc: Global,

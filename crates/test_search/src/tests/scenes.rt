@@ -11,8 +11,8 @@ use sim_world::{Event, Scenario};
 use std::alloc::Global;
 use std::test::Fail;
 
-/// One server and one client of echo, which has two operations; each message takes 10 ms. A
-/// checkpoint stands at each fourth event.
+/// Returns a scenario of one server and one client of echo, which has two operations; each message
+/// takes 10 ms. The interval is four events.
 pub fn echoes() -> Result<Scenario, Fail> {
     let ways = Ways::all(Way {
         latency_min: 10,
@@ -27,9 +27,9 @@ pub fn echoes() -> Result<Scenario, Fail> {
     Ok(Scenario::new([0; 32], 100, ways, 0, setup, 4, 2)?)
 }
 
-/// One server of echo and its clients, of a thousand operations each; a message takes 1 to 100 ms,
-/// and this many in a thousand are lost: a client whose message was lost goes no further.
-/// Checkpoints are as far apart as can be.
+/// Returns a scenario of one server of echo and its clients, of a thousand operations each. A
+/// message takes 1 to 100 ms, and this many in a thousand are lost: a client whose message was lost
+/// goes no further. The interval is the greatest.
 pub fn crowd(hosts: u16, loss: u32) -> Result<Scenario, Fail> {
     let ways = Ways::all(Way {
         latency_min: 1,
@@ -44,7 +44,7 @@ pub fn crowd(hosts: u16, loss: u32) -> Result<Scenario, Fail> {
     Ok(Scenario::new([7; 32], 100, ways, 0, setup, 1_024, 64)?)
 }
 
-/// The client's next operation is at most this.
+/// Returns the condition that the client's next operation is at most this.
 pub fn next_at_most(client: u16, n: u64) -> Result<Cond, Fail> {
     let most = Comparison {
         op: Op::LessOrEqual,
@@ -53,7 +53,7 @@ pub fn next_at_most(client: u16, n: u64) -> Result<Cond, Fail> {
     Ok(Cond::new().and(Term::Cmp(client, 0, most))?)
 }
 
-/// A meter for each worker.
+/// Makes a meter for each worker.
 pub fn tallies(alloc: Global, workers: u32) -> Result<Vec<Tally>, NoMemory>
     ensures { IfOk result (λ v. vec_len v ≡ workers) }
 {
@@ -64,7 +64,7 @@ pub fn tallies(alloc: Global, workers: u32) -> Result<Vec<Tally>, NoMemory>
     Ok(meters)
 }
 
-// Adds a step at the end, where one can happen.
+// Adds a step at the end, if one can happen.
 fn add<M: Meter>(alloc: Global, tape: &mut Tape<Echo<M>>, meter: &mut M) -> Result<bool, NoMemory> {
     if tape.place() != tape.len() || 65_536 <= tape.len() {
         return Ok(false);
@@ -77,7 +77,7 @@ fn add<M: Meter>(alloc: Global, tape: &mut Tape<Echo<M>>, meter: &mut M) -> Resu
     Ok(true)
 }
 
-/// The run of this many steps, or of as many as can happen.
+/// Returns the run of this many steps, or of as many as can happen.
 pub fn frozen_run<M: Meter>(
     alloc: Global,
     scenario: &Scenario,

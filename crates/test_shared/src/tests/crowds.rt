@@ -16,7 +16,7 @@ use test_support::TWO_ECHOES;
 
 type Echoes = Echo<Tally>;
 
-// A book of one server and one client of echo, which has two operations.
+// Makes a book of one server and one client of echo, which has two operations.
 fn echo_book(alloc: Global) -> Result<Book<Echoes>, Fail>
     ensures { IfOk result (λ b. b.history ≡ []) }
 {
@@ -24,7 +24,7 @@ fn echo_book(alloc: Global) -> Result<Book<Echoes>, Fail>
     Ok(Book::new(alloc, &scenario, Tally::new())?)
 }
 
-// The place that a reply tells.
+// Returns the place of a reply.
 fn place_of(reply: &Reply) -> Option<u32> {
     match reply {
         Reply::Moved { place, .. } | Reply::Seen { place, .. } => Some(*place),
@@ -34,10 +34,10 @@ fn place_of(reply: &Reply) -> Option<u32> {
 
 const SESSIONS: u8 = 8;
 
-/// How many commands each session gives.
+/// The number of commands of each session.
 const CALLS: u32 = 2_000;
 
-/// Which branches the sessions walk on.
+/// The branches that the sessions walk on.
 #[derive(Clone, Copy)]
 enum Ground {
     OneForAll,
@@ -53,7 +53,7 @@ impl Ground {
     }
 }
 
-// A step, a look and a step back, by turns.
+// Returns a step, a look and a step back, in turns.
 fn turn_of(turn: u32, branch: u32) -> Command {
     match turn % 3 {
         0 => Command::Step(branch),
@@ -62,7 +62,7 @@ fn turn_of(turn: u32, branch: u32) -> Command {
     }
 }
 
-// A session walks on a branch, and keeps its receipts with those of the others.
+// Walks on a branch from a session, and keeps its receipts with those of the others.
 fn walk<R: Wait>(
     rt: &R,
     shared: &Shared<Echoes>,
@@ -84,7 +84,7 @@ fn walk<R: Wait>(
     }
 }
 
-// A session makes a branch for each of the others.
+// Makes a branch for each of the other sessions.
 fn make_branches<R: Wait>(
     rt: &R,
     shared: &Shared<Echoes>,
@@ -99,7 +99,7 @@ fn make_branches<R: Wait>(
     Ok(())
 }
 
-// All sessions walk, each in a thread of its own.
+// Lets all sessions walk, each in a thread of its own.
 fn walk_all<R: Threads + Wait + Sync>(
     rt: &R,
     alloc: Global,
@@ -117,12 +117,12 @@ fn walk_all<R: Threads + Wait + Sync>(
     Ok((shared.close(seats), kept.into_inner()))
 }
 
-// The number, and the place that was told.
+// Returns the number and the place of a receipt.
 fn told(entry: &Receipt) -> (u32, Option<u32>) {
     (entry.number, place_of(&entry.reply))
 }
 
-// Each session's receipts are its entries in the history, in order.
+// Returns whether each session's receipts are its entries in the history, in order.
 fn are_all_entries(history: &History<Echoes>, kept: &[Receipt]) -> bool {
     (0..SESSIONS).all(|session| {
         let entries = history
@@ -135,8 +135,9 @@ fn are_all_entries(history: &History<Echoes>, kept: &[Receipt]) -> bool {
     })
 }
 
-// On a branch of its own each session is where its own commands led: a step ahead, and from its
-// first step back on at the start, where a step is refused. Session 7 made the branches first.
+// Returns whether a receipt on a branch of its session's own has the place to which its commands
+// led: one step ahead, and from its first step back on the start, where a step is refused. Session
+// 7 made the branches first.
 fn is_led(receipt: &Receipt) -> bool {
     let before = if receipt.session == 7 { 7 } else { 0 };
     let place = match receipt.number.wrapping_sub(before) {
@@ -173,7 +174,7 @@ fn a_freeze_gives_a_run(rt: HostRuntime) -> Result<(), Fail> {
     Ok(())
 }
 
-// A session looks until it is told that it may not, and keeps why.
+// Looks until a command is not taken, and keeps the reason.
 fn look_on<R: Wait>(
     rt: &R,
     shared: &Shared<Echoes>,

@@ -1,4 +1,4 @@
-//! Calls of a tape whose conditions are looked at first, and what fails a test.
+//! Calls of a tape whose preconditions are checked first, and helpers that fail a test.
 use sim_node::Node;
 use sim_tape::{Frozen, Tape};
 use sim_world::{Event, Query, Refusal, View};
@@ -6,7 +6,7 @@ use std::alloc::Global;
 use std::fmt::Debug;
 use std::test::Fail;
 
-/// Two values are the same, or the test fails.
+/// Fails unless two values are equal.
 pub fn same<T: PartialEq + Debug>(seen: &T, wanted: &T, what: &str) -> Result<(), Fail> {
     if seen == wanted {
         return Ok(());
@@ -14,7 +14,7 @@ pub fn same<T: PartialEq + Debug>(seen: &T, wanted: &T, what: &str) -> Result<()
     Err(Fail::new(format_args!("{what}: {seen:?}, not {wanted:?}")))
 }
 
-/// Adds an event at the end, where it can happen.
+/// Adds an event at the end, if it can happen.
 pub fn add<N: Node>(
     alloc: Global,
     tape: &mut Tape<N>,
@@ -29,7 +29,7 @@ pub fn add<N: Node>(
     Ok(tape.add(alloc, event, meter)?)
 }
 
-/// Whether an event can happen at the place.
+/// Returns whether an event can happen at the place, and if not, why.
 pub fn can<N: Node>(
     alloc: Global,
     tape: &mut Tape<N>,
@@ -80,7 +80,7 @@ pub fn forward<N: Node>(
     Ok(tape.forward(alloc, count, meter)?)
 }
 
-/// Goes forward by an event of which no record is kept.
+/// Goes forward by an event without keeping a record.
 pub fn pass<N: Node>(alloc: Global, tape: &mut Tape<N>, meter: &mut N::Meter) -> Result<(), Fail> {
     if !tape.warm() {
         return Err(Fail::from("cold"));
@@ -91,7 +91,7 @@ pub fn pass<N: Node>(alloc: Global, tape: &mut Tape<N>, meter: &mut N::Meter) ->
     Ok(tape.pass(alloc, meter)?)
 }
 
-/// A tape of the first events.
+/// Makes a tape of the first events.
 pub fn split<N: Node>(alloc: Global, tape: &Tape<N>, to: u32) -> Result<Tape<N>, Fail> {
     if tape.len() < to {
         return Err(Fail::from("past the end"));
@@ -108,7 +108,7 @@ pub fn truncate<N: Node>(tape: &mut Tape<N>, to: u32) -> Result<(), Fail> {
     Ok(())
 }
 
-/// Sets the place alone.
+/// Sets only the place.
 pub fn rest<N: Node>(tape: &mut Tape<N>, to: u32) -> Result<(), Fail> {
     if tape.len() < to {
         return Err(Fail::from("past the end"));
@@ -117,7 +117,7 @@ pub fn rest<N: Node>(tape: &mut Tape<N>, to: u32) -> Result<(), Fail> {
     Ok(())
 }
 
-/// A tape of a frozen run, at a place.
+/// Makes a tape of a frozen run, at a place.
 pub fn tape_at<N: Node>(
     alloc: Global,
     frozen: &Frozen<N>,
@@ -130,7 +130,7 @@ pub fn tape_at<N: Node>(
     Ok(frozen.tape(alloc, place, meter)?)
 }
 
-/// The view of the whole world at the place.
+/// Returns the view of the whole world at the place.
 pub fn summary<N: Node>(
     alloc: Global,
     tape: &mut Tape<N>,
@@ -140,7 +140,7 @@ pub fn summary<N: Node>(
     Ok(tape.here().look(Query::Summary))
 }
 
-/// The view of what comes next at the place.
+/// Returns the view of the first pending occurrence at the place.
 pub fn next<N: Node>(
     alloc: Global,
     tape: &mut Tape<N>,

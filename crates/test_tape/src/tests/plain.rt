@@ -1,4 +1,4 @@
-//! A plain run of events: the worlds after each, made by steps from the start alone.
+//! A plain run of events: the world after each, made only by steps from the start.
 use super::calls::same;
 use sim_echo::Echo;
 use sim_node::Node;
@@ -10,14 +10,14 @@ use test_support::Counts;
 
 pub type EchoWorld = World<Echo<Counts>>;
 
-/// An event of a plain run, and whether a node reacted in it.
+/// An event of a plain run, and whether a node reacted to it.
 #[derive(Clone, Copy)]
 struct Happened {
     event: Event,
     acted: bool,
 }
 
-/// What happened, and the world after each of these events, the start first.
+/// The events, and the world after each of them, with the start first.
 #[derive(Drop)]
 pub struct Plain {
     alloc: Global,
@@ -26,7 +26,7 @@ pub struct Plain {
     meter: Counts,
 }
 
-// How many hosts run.
+// Returns how many hosts run.
 fn running<N: Node>(world: &World<N>) -> u64 {
     let mut count: u64 = 0;
     for host in 0..world.hosts() {
@@ -37,7 +37,7 @@ fn running<N: Node>(world: &World<N>) -> u64 {
     count
 }
 
-// The world after an event that can happen.
+// Returns the world after an event that can happen.
 fn after<N: Node>(
     alloc: Global,
     world: &World<N>,
@@ -54,7 +54,7 @@ fn after<N: Node>(
 }
 
 impl Plain {
-    /// No event.
+    /// Makes a run of no events.
     pub fn new(alloc: Global, scenario: &Scenario) -> Result<Plain, Fail> {
         let mut meter = Counts::new();
         let start = World::start(alloc, scenario, &mut meter)?;
@@ -68,12 +68,12 @@ impl Plain {
         })
     }
 
-    /// How many events there are.
+    /// Returns the number of events.
     pub fn len(&self) -> u32 {
         self.happened.len().min(65_536) as u32
     }
 
-    // The event at a place.
+    // Returns the event at a place.
     fn event(&self, place: u32) -> Option<Event> {
         match self.happened.get(place as usize) {
             Some(one) => Some(one.event),
@@ -81,7 +81,7 @@ impl Plain {
         }
     }
 
-    /// A list has the events of this run and no other.
+    /// Checks that a list has exactly the events of this run.
     pub fn has_events(&self, list: &EventList) -> Result<(), Fail> {
         let len = self.len();
         same(&list.len(), &len, "events")?;
@@ -91,7 +91,7 @@ impl Plain {
         Ok(())
     }
 
-    /// The world after the first events.
+    /// Returns the world after the first events.
     pub fn world(&self, place: u32) -> Result<&EchoWorld, Fail> {
         match self.worlds.get(place as usize) {
             Some(world) => Ok(world),
@@ -99,7 +99,7 @@ impl Plain {
         }
     }
 
-    /// In how many of the events from a place up to another a node reacted.
+    /// Returns in how many of the events from a place up to another a node reacted.
     pub fn acted(&self, from: u32, to: u32) -> u64 {
         let mut count: u64 = 0;
         for place in from..to {
@@ -110,7 +110,7 @@ impl Plain {
         count
     }
 
-    /// How many hosts run after the first events.
+    /// Returns how many hosts run after the first events.
     pub fn running(&self, place: u32) -> Result<u64, Fail> {
         Ok(running(self.world(place)?))
     }

@@ -8,24 +8,24 @@ use std::alloc::Global;
 use std::test::Fail;
 use test_support::{Counts, TWO_ECHOES};
 
-/// An act on a tape, or what is seen of it.
+/// An act on a tape, or a check of it.
 #[derive(Clone, Copy)]
 pub enum Act {
-    /// An event is added.
+    /// Adds an event.
     Add(Event),
-    /// A step is added, which leads to this time of the clock.
+    /// Adds a step, which leads to this time of the clock.
     Step(u64),
-    /// This many events back.
+    /// Goes this many events back.
     Back(u32),
-    /// This many events forward.
+    /// Goes this many events forward.
     Forward(u32),
-    /// The events past the place are dropped.
+    /// Drops the events past the place.
     Cut,
-    /// The place is a number of events, of this many, at this time of the clock.
+    /// The place, the number of events, and the clock.
     Place(u32, u32, u64),
     /// The view of the whole world at a place: clock, serial, net, pending, held.
     Summary(u32, u64, u64, u64, u32, u32),
-    /// A message to host 0 comes next, due at 0.
+    /// A message to host 0 is the first pending, due at 0.
     Message,
     /// No step can happen.
     Idle,
@@ -44,15 +44,15 @@ pub struct Scene {
     meter: Counts,
 }
 
-// Six events, the last of which is a step.
+// Checks that these are six events, and the last one is a step.
 fn are_six_steps(events: &EventList) -> Result<(), Fail> {
     same(&events.len(), &6, "events")?;
     same(&events.get(5), &Some(Event::Step), "the last event")?;
     same(&events.get(6), &None, "past the last event")
 }
 
-// A frozen run has the limits of a scene at intervals of four events, and the events of the first
-// run.
+// Checks that a frozen run has the limits of a scene at intervals of four events, and the events of
+// the first run.
 fn is_the_first_run<N: Node>(alloc: Global, frozen: &Frozen<N>) -> Result<(), Fail> {
     same(&frozen.interval(), &4, "interval")?;
     same(&frozen.hosts(), &2, "hosts")?;
@@ -60,7 +60,7 @@ fn is_the_first_run<N: Node>(alloc: Global, frozen: &Frozen<N>) -> Result<(), Fa
 }
 
 impl Scene {
-    /// A tape of no events.
+    /// Makes a tape of no events.
     pub fn new(alloc: Global, interval: u32, window: u32) -> Result<Scene, Fail> {
         let mut meter = Counts::new();
         let mut setting = TWO_ECHOES;
@@ -70,7 +70,7 @@ impl Scene {
         Ok(Scene { alloc, tape, meter })
     }
 
-    /// A branch of the first events, which is cold, with a meter of its own.
+    /// Makes a cold branch of the first events, with a meter of its own.
     pub fn branch(&self, to: u32, clock: u64) -> Result<Scene, Fail> {
         let tape = calls::split(self.alloc, &self.tape, to)?;
         same(&tape.warm(), &false, "warm")?;
@@ -83,13 +83,14 @@ impl Scene {
         Ok(branch)
     }
 
-    /// The first run, frozen, gives tapes, also once the tape that it came from has no events.
+    /// Checks that the frozen first run makes tapes, also after the tape that it came from has lost
+    /// its events.
     pub fn gives_tapes(&mut self) -> Result<(), Fail> {
         let frozen = self.tape.freeze(self.alloc)?;
         self.takes_tapes(&frozen)
     }
 
-    // The frozen first run gives tapes.
+    // Checks that the frozen first run makes tapes.
     fn takes_tapes(&mut self, frozen: &Frozen<Echo<Counts>>) -> Result<(), Fail> {
         is_the_first_run(self.alloc, frozen)?;
         calls::truncate(&mut self.tape, 0)?;
@@ -98,7 +99,7 @@ impl Scene {
         self.thaws(frozen, 6, (2, 2, 0), 40)
     }
 
-    // A frozen run gives a warm tape at a place, which takes this many turns and copies.
+    // Checks that a frozen run makes a warm tape at a place, which takes this much work.
     fn thaws(
         &mut self,
         frozen: &Frozen<Echo<Counts>>,
@@ -113,7 +114,7 @@ impl Scene {
         self.is_at(place, 6, clock)
     }
 
-    // The place, the length and the clock.
+    // Checks the place, the length and the clock.
     fn is_at(&self, place: u32, len: u32, clock: u64) -> Result<(), Fail> {
         same(&self.tape.place(), &place, "place")?;
         same(&self.tape.len(), &len, "length")?;
@@ -158,7 +159,7 @@ impl Scene {
         self.is_at(to, 6, clock)
     }
 
-    // Does an act.
+    // Carries out an act.
     fn act(&mut self, act: Act) -> Result<(), Fail> {
         match act {
             Act::Add(event) => self.add(event),
@@ -194,7 +195,7 @@ impl Scene {
         }
     }
 
-    /// Does acts in turn.
+    /// Carries out acts in turn.
     pub fn acts(&mut self, acts: &[Act]) -> Result<(), Fail> {
         for act in acts {
             self.act(*act)?;

@@ -1,4 +1,4 @@
-//! Walks of a tape at random, beside a plain run of its events.
+//! Random walks of a tape, beside a plain run of its events.
 use super::calls::{self, same};
 use super::plain::Plain;
 use sim_echo::Echo;
@@ -9,8 +9,8 @@ use std::mem;
 use std::test::Fail;
 use test_support::{Counts, Dice, event_at_random, looks};
 
-/// A tape, and what it is to show: the plain run of its events, the place, whether it is warm, and
-/// by how many events at least it can go back by their records.
+/// A tape and its expected state: the plain run of its events, the place, whether it is warm, and
+/// its least reach.
 #[derive(Drop)]
 pub struct Walk {
     alloc: Global,
@@ -32,7 +32,7 @@ enum Way {
     BackOrForward,
 }
 
-/// What a tape does to go to a place.
+/// What a tape does to get to a place.
 #[derive(Clone, Copy)]
 enum Means {
     TakeBack,
@@ -40,7 +40,7 @@ enum Means {
     MakeAnew,
 }
 
-// At most this many turns, and just this many copies and undos.
+// Checks for at most this many turns, and exactly this many copies and undos.
 fn is_work(
     work: (u64, u64, u64),
     turns: u64,
@@ -52,7 +52,7 @@ fn is_work(
 }
 
 impl Walk {
-    /// A walk that begins at the start.
+    /// Makes a walk at the start.
     pub fn new(alloc: Global, scenario: &Scenario) -> Result<Walk, Fail> {
         let mut meter = Counts::new();
         let plain = Plain::new(alloc, scenario)?;
@@ -71,7 +71,7 @@ impl Walk {
         })
     }
 
-    // The place and the length are those of the plain run, and so is each event.
+    // Checks that the place, the length and each event are those of the plain run.
     fn has_same_events(&self) -> Result<(), Fail> {
         let len = self.plain.len();
         same(&self.tape.place(), &self.place, "place")?;
@@ -80,7 +80,7 @@ impl Walk {
         self.plain.has_events(&list)
     }
 
-    // The clock, and on a warm tape all that one sees of the world, are those of the plain run.
+    // Checks that the clock and, on a warm tape, all views are those of the plain run.
     fn has_same_world(&self) -> Result<(), Fail> {
         let world = self.plain.world(self.place)?;
         same(&self.tape.clock(), &world.clock(), "clock")?;
@@ -92,7 +92,7 @@ impl Walk {
         Ok(())
     }
 
-    // The tape is what it is to be.
+    // Checks that the tape is as expected.
     fn is_same(&self) -> Result<(), Fail> {
         self.has_same_events()?;
         self.has_same_world()
@@ -113,7 +113,7 @@ impl Walk {
         }
     }
 
-    // What the tape is to do to go to a place.
+    // Returns what the tape should do to get to a place.
     fn means(&self, to: u32, way: Way) -> Means {
         if !self.warm {
             return Means::MakeAnew;
@@ -127,14 +127,14 @@ impl Walk {
         }
     }
 
-    // How many hosts run at the checkpoint at or below a place.
+    // Returns how many hosts run at the checkpoint at or below a place.
     fn running_below(&self, place: u32) -> Result<u64, Fail> {
         self.plain
             .running(place.saturating_sub(place % self.interval.max(1)))
     }
 
-    // This is the work of going to a place by these means: just the undos, at most a turn for each
-    // event, or at most what makes the world anew from its checkpoint.
+    // Checks the work of going to a place by these means: exactly the undos, at most a turn for
+    // each event, or at most what makes the world from its checkpoint.
     fn is_work_of(&self, to: u32, means: Means, work: (u64, u64, u64)) -> Result<(), Fail> {
         let (turns, copies, undos) = work;
         match means {
@@ -156,7 +156,7 @@ impl Walk {
         }
     }
 
-    // By how many events at least the tape can go back at a place to which it went by these means.
+    // Returns the least reach of the tape at a place to which it went by these means.
     fn reach_at(&self, to: u32, means: Means) -> u32 {
         match means {
             Means::TakeBack => self.reach.saturating_sub(self.place.saturating_sub(to)),
@@ -168,7 +168,7 @@ impl Walk {
         }
     }
 
-    // Goes to a place, and looks at the work.
+    // Goes to a place, and checks the work.
     fn go(&mut self, to: u32, way: Way) -> Result<(), Fail> {
         let before = self.meter.counted();
         self.turn_to(to, way)?;
@@ -180,7 +180,7 @@ impl Walk {
         Ok(())
     }
 
-    // The copies of an event that led to the place.
+    // Returns the copies for an event that led to the place.
     fn copies(&self) -> Result<u64, Fail> {
         if self.place % self.interval.max(1) == 0 {
             return self.plain.running(self.place);
@@ -188,7 +188,7 @@ impl Walk {
         Ok(0)
     }
 
-    // Adds an event at the end, where the tape is, and looks at the work.
+    // Adds an event at the end, which is the place, and checks the work.
     fn add_event(&mut self, event: Event) -> Result<(), Fail> {
         let before = self.meter.counted();
         calls::add(self.alloc, &mut self.tape, event, &mut self.meter)?;
@@ -203,7 +203,7 @@ impl Walk {
         Ok(())
     }
 
-    // Adds an event at random at the end, and looks at the work.
+    // Adds a random event at the end, and checks the work.
     fn add(&mut self) -> Result<(), Fail> {
         let end = self.plain.len();
         if self.place != end {
@@ -213,21 +213,22 @@ impl Walk {
         self.add_event(event)
     }
 
-    // The tape is at a place, without records.
+    // Notes that the tape is at a place, without records.
     fn is_put(&mut self, to: u32, warm: bool) {
         self.place = to;
         self.warm = warm;
         self.reach = 0;
     }
 
-    // The place was set alone.
+    // Notes that only the place was set.
     fn set(&mut self, to: u32) {
         if to != self.place {
             self.is_put(to, false);
         }
     }
 
-    // Goes on with a branch of the first events. Its origin stays as it was, and goes on by itself.
+    // Goes on with a branch of the first events. Checks that its origin is unchanged, and goes on
+    // by itself.
     fn branch(&mut self, to: u32) -> Result<(), Fail> {
         let mut branch = calls::split(self.alloc, &self.tape, to)?;
         self.is_same()?;
@@ -238,15 +239,15 @@ impl Walk {
         Ok(())
     }
 
-    // The work of making the world anew at a place.
+    // Checks the work of making the world at a place.
     fn is_made_anew(&self, to: u32, before: (u64, u64, u64)) -> Result<(), Fail> {
         let turns = u64::from(self.interval.saturating_sub(1));
         let (seen, copies) = (self.meter.since(before), self.running_below(to)?);
         is_work(seen, turns, copies, 0, "the work of making a world anew")
     }
 
-    // Goes on with a tape of the frozen run, at a place. The frozen run stays as it was when its
-    // tape went on.
+    // Goes on with a tape of the frozen run, at a place. Checks that the frozen run is unchanged
+    // after its tape went on.
     fn freeze(&mut self, to: u32) -> Result<(), Fail> {
         let len = self.plain.len();
         let before = self.meter.counted();
@@ -283,7 +284,7 @@ impl Walk {
         self.is_made_anew(self.place, before)
     }
 
-    // Goes forward by an event without a record, where there is one, and looks at the work.
+    // Goes forward by an event without a record, if there is one, and checks the work.
     fn pass(&mut self) -> Result<(), Fail> {
         self.warm_up()?;
         if self.place == self.plain.len() {
@@ -307,19 +308,19 @@ impl Walk {
         Ok(())
     }
 
-    // Sets the place alone.
+    // Sets only the place.
     fn rest(&mut self, to: u32) -> Result<(), Fail> {
         calls::rest(&mut self.tape, to)?;
         self.set(to);
         Ok(())
     }
 
-    // A number of events up to all.
+    // Returns a random number of events up to all.
     fn some_place(&mut self) -> u32 {
         self.dice.below(self.plain.len().min(65_536) + 1)
     }
 
-    // A call at random of those that leave the events.
+    // Makes a random call that leaves the events alone.
     fn move_about(&mut self) -> Result<(), Fail> {
         let len = self.plain.len();
         let any = self.some_place();
@@ -345,7 +346,7 @@ impl Walk {
         self.plain.truncate(self.place);
     }
 
-    // A call at random, after which the tape is what it is to be.
+    // Makes a random call, and checks the tape.
     fn turn(&mut self) -> Result<(), Fail> {
         let any = self.some_place();
         match self.dice.below(20) {
@@ -362,7 +363,7 @@ impl Walk {
         self.is_same()
     }
 
-    /// Adds this many events at random.
+    /// Adds this many random events.
     pub fn adds(&mut self, count: u32) -> Result<(), Fail> {
         for _event in 0..count {
             self.add()?;
@@ -370,7 +371,7 @@ impl Walk {
         Ok(())
     }
 
-    /// This many calls at random.
+    /// Makes this many random calls.
     pub fn turns(&mut self, count: u32) -> Result<(), Fail> {
         for _call in 0..count {
             self.turn()?;

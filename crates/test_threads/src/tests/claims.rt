@@ -11,7 +11,7 @@ use std::sync::atomic::{AtomicBool, AtomicU64};
 use std::test::Fail;
 use std::thread::{Threads, yield_now};
 
-// Each number above `most` is a finding. It counts the scans.
+// A row of numbers, each above `most` a finding. It counts the scans.
 #[derive(Drop)]
 struct Row<'a> {
     numbers: &'a [u32],
@@ -46,7 +46,7 @@ fn row_of(numbers: &[u32], most: u32) -> Row<'_>
     }
 }
 
-// As many meters as there are workers.
+// Makes as many meters as there are workers.
 fn units(alloc: Global, workers: u32) -> Result<Vec<()>, NoMemory>
     ensures { IfOk result (λ v. vec_len v ≡ workers) }
 {
@@ -59,7 +59,7 @@ fn units(alloc: Global, workers: u32) -> Result<Vec<()>, NoMemory>
 
 const NUMBERS: [u32; 8] = [3, 1, 4, 1, 5, 9, 2, 6];
 
-// Adds to each piece's number once as it is entered, and 1,000 as it is left.
+// For each piece: 1 for each time that it was entered, and 1,000 for each time that it was left.
 #[derive(Drop)]
 struct Counts {
     pieces: [AtomicU64; 8],
@@ -87,7 +87,7 @@ impl Counts {
         }
     }
 
-    // Each piece was entered and left once.
+    // Returns whether each piece was entered and left once.
     fn are_even(&self) -> bool {
         for count in &self.pieces {
             if count.load(SeqCst) != 1_001 {
@@ -108,7 +108,8 @@ impl Gate for Counts {
     }
 }
 
-// This many workers find this, and enter and leave each piece once. How many scans that took.
+// Checks that this many workers find this, and enter and leave each piece once. Returns the number
+// of scans.
 fn scans_of<R: Threads + Wait + Sync + Abort>(
     rt: &R,
     alloc: Global,
@@ -183,7 +184,7 @@ fn a_scan_that_wants_memory_fails_the_search(rt: HostRuntime) -> Result<(), Fail
 
 const LOOKS: u32 = 10_000_000;
 
-// Two that wait for each other, and how many of them saw the other come.
+// A meeting of two, and how many of them saw the other come.
 #[derive(Drop)]
 struct Meeting {
     zero: AtomicBool,
@@ -200,7 +201,7 @@ fn new_meeting() -> Meeting {
 }
 
 impl Meeting {
-    // The first two pieces wait for each other.
+    // Lets the first two pieces wait for each other.
     fn come(&self, piece: u64) {
         let (mine, other) = match piece {
             0 => (&self.zero, &self.one),

@@ -21,7 +21,7 @@ enum Ask {
     Freeze(u32),
 }
 
-// A command of a session, with the place after it, or none where it was refused.
+// A command of a session, with the place after it, or `None` if it was refused.
 #[derive(Clone, Copy, PartialEq, Eq, Debug)]
 struct Note {
     session: u8,
@@ -55,7 +55,7 @@ impl Plain {
     }
 }
 
-// How many notes the session has.
+// Returns how many notes the session has.
 fn notes_of(notes: &[Note], session: u8) -> u32
     requires { length notes.now ≤ 120 }
     ensures { result ≡ count_by (λ e. e.session == session) notes.now }
@@ -63,7 +63,7 @@ fn notes_of(notes: &[Note], session: u8) -> u32
     notes.iter().filter(|e| e.session == session).count() as u32
 }
 
-// The place after a command, or none where it is refused.
+// Returns the place after a command, or `None` if it is refused.
 fn place_after(place: u32, ask: Ask) -> Option<u32> {
     match ask {
         Ask::Step => Some(place.wrapping_add(1)),
@@ -125,7 +125,7 @@ impl Freezes for Plain {
 
     ghost freezing = { λ b. Freeze b };
 
-    // the place, just where the note has one
+    // the place, exactly if the note has one
     ghost gives = { λ s e f. f ≡ e.place };
 
     fn freeze(&mut self, session: u8, branch: u32) -> Result<(Note, Option<u32>), Full> {
@@ -134,7 +134,7 @@ impl Freezes for Plain {
     }
 }
 
-// A session asks once, and keeps the receipt.
+// Makes a call from a session, and keeps the receipt.
 fn ask_once<R: Wait>(
     rt: &R,
     lock: &Lock<Plain>,
@@ -154,7 +154,7 @@ fn ask_once<R: Wait>(
     Ok(())
 }
 
-// A session asks all these, and keeps its receipts.
+// Makes all these calls from a session, and keeps its receipts.
 fn ask_all<R: Wait>(
     rt: &R,
     alloc: Global,
@@ -172,7 +172,7 @@ fn ask_all<R: Wait>(
     Ok((seat, receipts))
 }
 
-// Each receipt is an entry of the history.
+// Returns whether each receipt is an entry of the history.
 fn find_all(history: &History<Plain>, receipts: &[Note]) -> bool
     requires { All (λ r. HasEntry (λ e. e.session) (λ e. e.number) history.now.entries.items r)
         receipts.now }
@@ -185,7 +185,7 @@ fn find_all(history: &History<Plain>, receipts: &[Note]) -> bool
     true
 }
 
-// Two sessions at once, and then the receipts of both, the history and the place.
+// Runs two sessions at once. Returns the history and the receipts of both.
 fn ask_both<R: Threads + Wait + Sync>(
     rt: &R,
     alloc: Global,

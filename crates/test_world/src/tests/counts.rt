@@ -1,4 +1,4 @@
-//! What a meter of numbers counts at run time.
+//! The counts of a meter at run time.
 use super::{CRASH, TWO_ECHOES};
 use sim_echo::Echo;
 use sim_node::Node;
@@ -7,7 +7,7 @@ use std::alloc::Global;
 use std::test::Fail;
 use test_support::{Counts, applied, looks, ran};
 
-// The world after a step, which is taken back.
+// Takes a step, and undoes it.
 fn steps_and_back<N: Node>(
     alloc: Global,
     world: World<N>,
@@ -17,7 +17,7 @@ fn steps_and_back<N: Node>(
     Ok(next.undo(alloc, undo, meter)?)
 }
 
-// Whether a copy of a world shows the same, and so does one that was kept for later and opened.
+// Returns whether a copy of a world shows the same, and so does one that was packed and opened.
 fn is_copied<N: Node>(alloc: Global, world: &World<N>, meter: &mut N::Meter) -> Result<bool, Fail> {
     let seen = looks(alloc, world)?;
     let copied = looks(alloc, &world.copy(alloc, meter)?)?;
@@ -25,8 +25,8 @@ fn is_copied<N: Node>(alloc: Global, world: &World<N>, meter: &mut N::Meter) -> 
     Ok(copied == seen && opened == seen)
 }
 
-// What is counted at the start, after a step and back, after two copies, and after two copies more
-// of a world in which one of two hosts was stopped.
+// Returns the counts at the start, after a step and its undo, after two copies, and after two more
+// copies of a world in which one of two hosts is stopped.
 fn counted(alloc: Global) -> Result<[(u64, u64, u64); 4], Fail> {
     let mut meter = Counts::new();
     let world = World::<Echo<Counts>>::start(alloc, &TWO_ECHOES.scenario()?, &mut meter)?;

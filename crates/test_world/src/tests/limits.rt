@@ -1,5 +1,5 @@
-//! What happens at the limit of 4,096 messages in flight and held, to memory of records, and of the
-//! number of a scenario.
+//! The limit of 4,096 messages in flight and held, the memory of records, and the number of a
+//! scenario.
 use super::{BOUNCE, HOLD, Scribe, TWO_ECHOES, scribes};
 use sim_echo::Echo;
 use sim_node::Node;
@@ -9,7 +9,7 @@ use std::alloc::Global;
 use std::test::Fail;
 use test_support::{Setting, applied, ran};
 
-// The world after its client started anew this many times, each time at once.
+// Returns the world after its client started again this many times, each time at once.
 fn started_anew<N: Node>(
     alloc: Global,
     world: World<N>,
@@ -34,8 +34,8 @@ fn summary(clock: u64, serial: u64, net: u64, torn: u64, pending: u32, held: u32
     }
 }
 
-// What is seen of a run whose client starts anew this many times, while all that it sends is held
-// but the first message.
+// Returns the summary of a run whose client starts again this many times, while all its messages
+// but the first are held.
 fn holds(alloc: Global, times: u32) -> Result<View, Fail> {
     let mut meter = Tally::new();
     let world = World::<Echo<Tally>>::start(alloc, &TWO_ECHOES.scenario()?, &mut meter)?;
@@ -55,8 +55,8 @@ fn a_message_beyond_4096_is_dropped(rt: HostRuntime) -> Result<(), Fail> {
     Ok(())
 }
 
-// What is seen after a step whose record, of a sync and two timers, is no longer wanted; then after
-// another step.
+// Returns the views after a step whose record, of a sync and two timers, is no longer needed, and
+// after another step.
 fn seen_after_reuse(alloc: Global) -> Result<(View, View), Fail> {
     let mut meter = Tally::new();
     let scenario = scribes(2, 0, 0).scenario()?;
@@ -75,7 +75,7 @@ fn a_record_gives_its_memory(rt: HostRuntime) -> Result<(), Fail> {
     Ok(())
 }
 
-// What comes next after both hosts of echo have started.
+// Returns the first pending occurrence after both hosts of echo have started.
 fn after_both_starts(alloc: Global, scenario: &Scenario) -> Result<View, Fail> {
     let mut meter = Tally::new();
     let world = World::<Echo<Tally>>::start(alloc, scenario, &mut meter)?;
@@ -83,7 +83,7 @@ fn after_both_starts(alloc: Global, scenario: &Scenario) -> Result<View, Fail> {
     Ok(world.look(Query::Next))
 }
 
-// The first message of a scenario with this seed, and of that which has this number.
+// Returns the first message of a scenario with this seed, and of the same with this number.
 fn first_messages(alloc: Global, seed: [u8; 32], number: u64) -> Result<(View, View), Fail> {
     let mut setting = TWO_ECHOES;
     setting.seed = seed;
@@ -93,7 +93,7 @@ fn first_messages(alloc: Global, seed: [u8; 32], number: u64) -> Result<(View, V
     Ok((after_both_starts(alloc, &scenario)?, numbered))
 }
 
-// The number stands in the last eight bytes of the seed, low byte first.
+// The number is in the last eight bytes of the seed, low byte first.
 #[test]
 fn a_scenario_is_numbered(rt: HostRuntime) -> Result<(), Fail> {
     let mut written = [9; 32];

@@ -1,4 +1,4 @@
-//! Plays: what happens in small runs, and what is seen then.
+//! Plays: events of small runs, and checks of the world after them.
 use super::{STEP, Scribe, Tally, scribes};
 use sim_echo::Echo;
 use sim_links::{LinkState, Way};
@@ -75,7 +75,7 @@ const ECHO_PLAYS: [EchoPlay; 15] = [
             Act::Link(1, 0, LinkState::Through, 0),
         ],
     ),
-    // A release is taken back.
+    // A release is undone.
     (
         10,
         0,
@@ -90,8 +90,8 @@ const ECHO_PLAYS: [EchoPlay; 15] = [
             Act::Summary(0, 4, 2, 0, 1, 0),
         ],
     ),
-    // A release goes there first. The ping is under way, then its pong is held, and the ping of a
-    // client that starts anew.
+    // A release of 0 and 1 starts with the direction from 0 to 1: with a held pong, before the held
+    // ping of a client that starts again.
     (
         10,
         0,
@@ -161,7 +161,7 @@ const ECHO_PLAYS: [EchoPlay; 15] = [
             Act::Host(0, true, 1, 0, 0),
         ],
     ),
-    // A running host starts anew.
+    // A running host starts again.
     (
         10,
         0,
@@ -173,7 +173,8 @@ const ECHO_PLAYS: [EchoPlay; 15] = [
             Act::Next(0, 2, 0, Kind::Start),
         ],
     ),
-    // Faults that cannot happen are refused: a host that is not there comes before one host twice.
+    // Faults that cannot happen are refused: a host that does not exist comes before one host
+    // twice.
     (
         10,
         0,
@@ -203,7 +204,7 @@ const ECHO_PLAYS: [EchoPlay; 15] = [
             Act::Refused(Event::Fault(Fault::RepairOneway(0, 0)), Refusal::SameHost),
         ],
     ),
-    // The clock goes on within bounds.
+    // The clock advances within bounds.
     (
         10,
         0,
@@ -222,7 +223,7 @@ const ECHO_PLAYS: [EchoPlay; 15] = [
     ),
 ];
 
-// Two hosts of echo go through the acts, and back.
+// Checks that two hosts of echo go through the acts, and back.
 fn echo_plays(alloc: Global, play: &EchoPlay) -> Result<(), Fail> {
     let (latency_max, loss, acts) = *play;
     let mut setting = TWO_ECHOES;
@@ -274,13 +275,12 @@ fn a_large_cluster_plays(rt: HostRuntime) -> Result<(), Fail> {
     plays::<Echo<Tally>>(rt.alloc(), &LARGE.scenario()?, &acts, &mut Tally::new())
 }
 
-// The number by which two scribes go, the offset of their writes, how long a sync takes (ms), and
-// the acts.
+// The number of two scribes, the offset of their writes, the latency of a sync (ms), and the acts.
 type ScribePlay = (u16, u16, u32, &'static [Act]);
 
 const SCRIBE_PLAYS: [ScribePlay; 7] = [
-    // A crash draws for each write. The first word for torn writes is 3604955119, which is 1 modulo
-    // 3: all four bytes are kept.
+    // A crash draws a word for each write. The first word for torn writes is 3604955119, which is 1
+    // modulo 3: all four bytes are kept.
     (
         0,
         0,
@@ -293,7 +293,7 @@ const SCRIBE_PLAYS: [ScribePlay; 7] = [
             Act::Host(0, false, 1, 4, 0),
         ],
     ),
-    // A sync takes its time, and does not come where its host was stopped.
+    // A sync takes its time, and does not come if its host was stopped.
     (
         1,
         0,
@@ -317,7 +317,7 @@ const SCRIBE_PLAYS: [ScribePlay; 7] = [
             Act::Next(5, 3, 1, Kind::Sync),
         ],
     ),
-    // A timer goes in place of another, and with its host.
+    // A timer replaces another, and goes with its host.
     (
         2,
         0,
@@ -346,7 +346,7 @@ const SCRIBE_PLAYS: [ScribePlay; 7] = [
     (0, 4_093, 0, &[STEP, Act::Host(0, true, 1, 0, 0)]),
 ];
 
-// Two scribes go through the acts, and back.
+// Checks that two scribes go through the acts, and back.
 fn scribe_plays(alloc: Global, play: &ScribePlay) -> Result<(), Fail> {
     let (number, offset, disk_latency, acts) = *play;
     let scenario = scribes(number, offset, disk_latency).scenario()?;

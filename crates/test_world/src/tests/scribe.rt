@@ -6,9 +6,9 @@ use sim_node::{Effects, Input, Meter, NoMemory, Node, Setup};
 use std::alloc::Global;
 use std::marker::{Model, PhantomData};
 
-/// A host that writes 11 22 33 44 (hex) as it starts, at the offset that the operations of host 2
-/// give. What it asks for further goes by the operations of host 0: at 0 nothing, at 1 a sync, else
-/// a sync and a timer, at which it does all this again.
+/// A host that writes 11 22 33 44 (hex) when it starts, at the offset that host 2's operations
+/// give. Host 0's operations say what it asks for next: nothing for 0, a sync for 1, else a sync
+/// and a timer. At the timer it does all this again.
 #[derive(Drop)]
 pub struct Scribe<T> {
     setup: Setup,
@@ -30,7 +30,7 @@ pub enum ScribeUndo {
 }
 
 impl<T> Scribe<T> {
-    // It writes, and asks for more.
+    // Writes, and asks for the further effects.
     fn write(&self, effects: &mut Effects<u8>)
         requires { effects.old ≡ record { hosts = self.now.hosts; list = [] } }
         ensures { effects.new ≡ record { hosts = self.now.hosts; list = writing self.now } }

@@ -1,4 +1,4 @@
-//! Walks of a few thousand events at random, each taken back.
+//! Walks of a few thousand random events, each undone.
 use super::{Scribe, Tally, scribes};
 use sim_echo::Echo;
 use sim_links::Way;
@@ -26,7 +26,7 @@ const FOUR_ECHOES: Setting = Setting {
     window: 2,
 };
 
-/// Any events.
+/// A course of random events.
 #[derive(Drop)]
 struct Random {
     dice: Dice,
@@ -38,7 +38,7 @@ impl Course for Random {
     }
 }
 
-// A step for good leads an equal world to one that shows the same.
+// Returns whether a step for good leads an equal world to one that shows the same.
 fn is_passed<N: Node>(
     alloc: Global,
     copy: World<N>,
@@ -54,7 +54,7 @@ fn is_passed<N: Node>(
     Ok(host < next.hosts() && seen == looks(alloc, next)?)
 }
 
-// The world after an event at random. Where it is a step, it is passed too.
+// Returns the world after a random event. If it is a step, checks a step for good too.
 fn after_any<N: Node>(
     alloc: Global,
     world: World<N>,
@@ -70,7 +70,7 @@ fn after_any<N: Node>(
     Ok(next)
 }
 
-// Goes 150 events there and back: the world shows the same.
+// Goes 150 events there and back, and checks that the world shows the same.
 fn long_round<N: Node>(
     alloc: Global,
     world: World<N>,
@@ -85,7 +85,7 @@ fn long_round<N: Node>(
     Ok(back)
 }
 
-// Walks both ways from 20 places that lie five events after one another.
+// Walks both ways from 20 places, five events apart.
 fn walks<N: Node>(alloc: Global, world: World<N>, meter: &mut N::Meter) -> Result<u32, Fail> {
     let mut random = Random { dice: Dice::new(7) };
     let mut now = world;
