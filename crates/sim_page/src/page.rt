@@ -1,4 +1,7 @@
 //! Writes a page, event by event.
+ghost use Rattle.std.specs.List.{list_all};
+ghost use Rattle.std.specs.Prelude.{◌==◌, not, IsTrue};
+
 use crate::data::{Data, number, string};
 use crate::log::rows_before;
 use crate::template::{AFTER, BEFORE};
@@ -31,6 +34,13 @@ pub(crate) struct Frame<'a> {
     /// The heading.
     pub title: &'a str,
     pub opened: &'a Opened,
+}
+
+// Adds a member, and drops its value.
+fn add(data: &mut Data, name: &str, value: Result<Value, NoMemory>) -> Result<(), NoMemory>
+    requires { IsTrue (list_all (λ b. not (b == 60)) name.now) }
+{
+    data.member(name, &value?)
 }
 
 impl Frame<'_> {
@@ -80,13 +90,13 @@ impl Frame<'_> {
     // Writes the members before the rows.
     fn head(&self, data: &mut Data, events: &EventList, probes: u8) -> Result<(), NoMemory> {
         data.put("{\"format\":1")?;
-        data.member("title", &string(self.alloc, self.title)?)?;
-        data.member("about", &self.about()?)?;
-        data.member("input", &self.input(events)?)?;
-        data.member("hosts", &self.hosts()?)?;
-        let servers = self.opened.scenario.servers();
-        data.member("servers", &number(u64::from(servers)))?;
-        data.member("probes", &self.probes(probes)?)?;
+        add(data, "title", string(self.alloc, self.title))?;
+        add(data, "about", self.about())?;
+        add(data, "input", self.input(events))?;
+        add(data, "hosts", self.hosts())?;
+        let servers = number(u64::from(self.opened.scenario.servers()));
+        add(data, "servers", Ok(servers))?;
+        add(data, "probes", self.probes(probes))?;
         data.put(",\n\"log\":[\n")
     }
 }
@@ -158,8 +168,8 @@ where
             holds.push(Value::Array(holding))?;
         }
         data.put("\n]")?;
-        data.member("conditions", &Value::Array(conditions))?;
-        data.member("holds", &Value::Array(holds))?;
+        add(&mut data, "conditions", Ok(Value::Array(conditions)))?;
+        add(&mut data, "holds", Ok(Value::Array(holds)))?;
         data.put("\n}\n")?;
         Ok(data)
     }

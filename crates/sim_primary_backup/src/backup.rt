@@ -9,31 +9,39 @@ ghost use Rattle.sim_primary_backup.specs.PrimaryBackupRecords.{restored_cell};
 use crate::{BackupMsg, CellBefore, Store};
 use sim_node::{Effects, Input, Setup};
 
+/// A put that the primary asks to apply.
+#[derive(Clone, Copy)]
+struct Apply {
+    number: u64,
+    cell: u8,
+    val: u64,
+}
+
 impl Store {
     /// Handles a put from the primary. If the put is applied, returns what the cell held.
     fn told(
         &mut self,
         from: u16,
-        m: u64,
-        cell: u8,
-        val: u64,
+        put: Apply,
         setup: &Setup,
         effects: &mut Effects<BackupMsg>,
     ) -> CellBefore
         requires from { from < setup.now.hosts }
         requires placed { IsPlacedStore self.old.progress }
         requires empty { effects.old ≡ asked_for setup.now [] }
-        ensures state { self.new ≡ (told from m cell val self.old).0 }
+        ensures state { self.new ≡ (told from put.number put.cell put.val self.old).0 }
         ensures placed { IsPlacedStore self.new.progress }
-        ensures effects { effects.new ≡ asked_for setup.now (told from m cell val self.old).1 }
+        ensures effects { effects.new ≡ asked_for setup.now
+            (told from put.number put.cell put.val self.old).1 }
         ensures cell { IsPlacedCell result }
         ensures back { restored_cell result self.new.cells ≡ self.old.cells }
     {
-        if m as u128 == self.progress.applied as u128 + 1 {
-            return self.apply(m, cell % 16, val, effects);
+        let Apply { number, cell, val } = put;
+        if number as u128 == self.progress.applied as u128 + 1 {
+            return self.apply(number, cell % 16, val, effects);
         }
-        if m <= self.progress.applied && self.progress.unsure == 0 {
-            effects.send(from, BackupMsg::Ack(m));
+        if number <= self.progress.applied && self.progress.unsure == 0 {
+            effects.send(from, BackupMsg::Ack(number));
         }
         CellBefore::Same
     }
@@ -74,8 +82,15 @@ impl Store {
             }
             Input::Message {
                 sender,
-                msg: BackupMsg::Apply(cell, m, val),
-            } => self.told(*sender, *m, *cell, *val, setup, effects),
+                msg: BackupMsg::Apply(cell, number, val),
+            } => {
+                let put = Apply {
+                    number: *number,
+                    cell: *cell,
+                    val: *val,
+                };
+                self.told(*sender, put, setup, effects)
+            }
             _ => CellBefore::Same,
         }
     }

@@ -51,27 +51,28 @@ fn put_value(end: &mut Ending, value: Option<u64>)
     }
 }
 
-/// Puts the place and its counts before the end.
-fn put_summary(
-    end: &mut Ending,
-    place: u32,
-    clock: u64,
-    serial: u64,
+/// The numbers of words drawn for the network and for torn writes, of pending occurrences and of
+/// held messages.
+#[derive(Clone, Copy)]
+struct Counts {
     net: u64,
     torn: u64,
     pending: u32,
     held: u32,
-)
+}
+
+/// Puts, before the end, the place, the clock, the next serial and the counts there.
+fn put_summary(end: &mut Ending, place: u32, clock: u64, serial: u64, counts: Counts)
     requires { 191 ≤ end.old.room }
     ensures { end.new.text ≡ spaced (field (codes "place") place ∷ field (codes "clock") clock
-        ∷ field (codes "serial") serial ∷ field (codes "net") net
-        ∷ field (codes "torn") torn ∷ field (codes "pending") pending ∷ field (codes "held") held
-        ∷ []) ++ end.old.text }
+        ∷ field (codes "serial") serial ∷ field (codes "net") counts.net
+        ∷ field (codes "torn") counts.torn ∷ field (codes "pending") counts.pending
+        ∷ field (codes "held") counts.held ∷ []) ++ end.old.text }
 {
-    end.put_field(" held ", u64::from(held));
-    end.put_field(" pending ", u64::from(pending));
-    end.put_field(" torn ", torn);
-    end.put_field(" net ", net);
+    end.put_field(" held ", u64::from(counts.held));
+    end.put_field(" pending ", u64::from(counts.pending));
+    end.put_field(" torn ", counts.torn);
+    end.put_field(" net ", counts.net);
     end.put_field(" serial ", serial);
     end.put_field(" clock ", clock);
     end.put_field("place ", u64::from(place));
@@ -124,7 +125,13 @@ pub fn tell_view(
             pending,
             held,
         } => {
-            put_summary(end, place, clock, serial, net, torn, pending, held);
+            let counts = Counts {
+                net,
+                torn,
+                pending,
+                held,
+            };
+            put_summary(end, place, clock, serial, counts);
             Ok(())
         }
         View::Next(next) => tell_next(text, end, names, next),

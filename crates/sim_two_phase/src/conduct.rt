@@ -84,22 +84,23 @@ impl Conduct {
     fn voted_yes(
         &mut self,
         from: u16,
-        client: u16,
-        number: u64,
+        asker: Owed,
         votes: HostSet,
         setup: &Setup,
         effects: &mut Effects<CommitMsg>,
     )
         requires setup { IsSetup setup.now }
-        requires client { client < setup.now.hosts }
+        requires client { asker.client < setup.now.hosts }
         requires from { from < setup.now.hosts }
         requires placed { IsPlacedConduct setup.now.hosts self.old }
         requires empty { effects.old ≡ asked_for setup.now [] }
-        ensures state { self.new ≡ (voted_yes from client number votes setup.now self.old).0 }
+        ensures state { self.new
+            ≡ (voted_yes from asker.client asker.number votes setup.now self.old).0 }
         ensures placed { IsPlacedConduct setup.now.hosts self.new }
         ensures effects { effects.new ≡ asked_for setup.now
-            (voted_yes from client number votes setup.now self.old).1 }
+            (voted_yes from asker.client asker.number votes setup.now self.old).1 }
     {
+        let Owed { client, number } = asker;
         let votes = votes.joined(from);
         if votes.has_servers_from(1, setup) {
             self.commit(client, number, setup, effects);
@@ -167,7 +168,8 @@ impl Conduct {
         } = self.phase
         {
             if agrees {
-                self.voted_yes(from, client, number, votes, setup, effects);
+                let asker = Owed { client, number };
+                self.voted_yes(from, asker, votes, setup, effects);
             } else {
                 self.voted_no(client, number, setup, effects);
             }

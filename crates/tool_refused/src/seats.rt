@@ -24,17 +24,23 @@ fn look<R: Wait>(rt: &R, shared: &Shared<Nodes>, seat: &mut Seat<Nodes>) -> Resu
     Ok(())
 }
 
+// The lines of the answers so far, and the names that they are written with.
+#[derive(Drop)]
+struct Answers<'a> {
+    alloc: Global,
+    names: &'a Names,
+    text: String,
+}
+
 // Makes the call of a line, and adds the line of its answer. If it wants memory, the other
 // session's call is made, and then it is repeated. Returns how many calls were taken.
 fn call<R: Wait>(
     rt: &R,
-    alloc: Global,
     shared: &Shared<Nodes>,
     seat: &mut Seat<Nodes>,
     other: &mut Seat<Nodes>,
-    names: &Names,
+    answers: &mut Answers<'_>,
     line: &str,
-    text: &mut String,
 ) -> Result<usize, Trouble>
     requires here { IsAt shared.now seat.old }
     requires there { IsAt shared.now other.old }
@@ -43,12 +49,13 @@ fn call<R: Wait>(
 {
     let mut taken = 0usize;
     for _attempt in 0..TRIES {
-        let turn = shared.call(rt, seat, command(alloc, names, line)?);
+        let asked = command(answers.alloc, answers.names, line)?;
+        let turn = shared.call(rt, seat, asked);
         if turn.is_ok() {
             taken = taken.checked_add(1).ok_or(Trouble::Wrong)?;
         }
         if !wants_memory(&turn) {
-            tell(alloc, text, names, &turn)?;
+            tell(answers.alloc, &mut answers.text, answers.names, &turn)?;
             return Ok(taken);
         }
         look(rt, shared, other)?;
@@ -61,12 +68,10 @@ fn call<R: Wait>(
 // calls were taken.
 fn call_all<R: Wait>(
     rt: &R,
-    alloc: Global,
     shared: &Shared<Nodes>,
     zero: &mut Seat<Nodes>,
     one: &mut Seat<Nodes>,
-    names: &Names,
-    text: &mut String,
+    answers: &mut Answers<'_>,
 ) -> Result<usize, Trouble>
     requires zero { IsAt shared.now zero.old }
     requires one { IsAt shared.now one.old }
@@ -75,7 +80,7 @@ fn call_all<R: Wait>(
 {
     let mut taken = 0usize;
     for line in SCRIPT.lines() {
-        let calls = call(rt, alloc, shared, zero, one, names, line, text)?;
+        let calls = call(rt, shared, zero, one, answers, line)?;
         taken = taken.checked_add(calls).ok_or(Trouble::Wrong)?;
     }
     Ok(taken)
@@ -93,14 +98,18 @@ pub fn lines<R: Wait>(rt: &R, alloc: Global) -> Result<String, Trouble> {
     let Some(mut zero) = seats.pop() else {
         unreachable!()
     };
-    let mut text = String::new(alloc);
-    let taken = call_all(rt, alloc, &shared, &mut zero, &mut one, &names, &mut text)?;
+    let mut answers = Answers {
+        alloc,
+        names: &names,
+        text: String::new(alloc),
+    };
+    let taken = call_all(rt, &shared, &mut zero, &mut one, &mut answers)?;
     if seats.push(zero).is_err() || seats.push(one).is_err() {
         return Err(Trouble::NoMemory);
     }
     let history = shared.close(seats);
     if history.entries.len() == taken {
-        Ok(text)
+        Ok(answers.text)
     } else {
         Err(Trouble::Wrong)
     }
