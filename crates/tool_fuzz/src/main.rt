@@ -3,6 +3,15 @@
 //!
 //! `tool_fuzz COUNT FIRST` tries `COUNT` cases from number `FIRST` on, by default 300 from 0, and
 //! reports the first that differs.
+//!
+//! Why it is built this way:
+//!
+//! - Proofs say that the program meets its definitions. The folds here are a second account of what
+//!   was meant, so a definition and code that share a mistake differ from them.
+//! - A case is made from its number alone, so a case that differs can be run again by that number.
+//! - The folds share with the program only the calls of the world, the type of a scenario and the
+//!   names of the probes.
+//! - The gate runs few cases. docs/TESTING.md says how to run many.
 #![tactic(auto)]
 
 mod answering;

@@ -4,6 +4,13 @@
 //! A command that wanted memory must leave all branches unchanged, and the next command goes on. So
 //! the output in the end does not depend on which allocations were refused. The program ends well
 //! if all of this holds.
+//!
+//! Why it is built this way:
+//!
+//! - No contract can say that memory was refused, so a body that gives up is still proved. Here each
+//!   command and each job must succeed when it is given again.
+//! - `rt try --fail-alloc N` refuses the allocation of number N, and `1..` each in turn. All of these
+//!   runs must print the same text.
 #![tactic(auto)]
 
 mod book;
