@@ -1,5 +1,6 @@
 //! What the next step will do, told before it happens.
-ghost use Rattle.std.specs.Prelude.{◌≡◌, ℕ, ◌+◌, ◌<◌, ◌≤◌, ◌^◌, nat_le, length, option_copied, IfOk, OnOk, IsSome, Some, if◌then◌else◌};
+ghost use Rattle.std.specs.Prelude.{◌≡◌, ℕ, ◌+◌, ◌<◌, ◌≤◌, ◌^◌, nat_le, length, option_copied};
+ghost use Rattle.std.specs.Prelude.{IfOk, OnOk, IsSome, Some, if◌then◌else◌};
 ghost use Rattle.sim_streams.specs.Word.{stream_of, word};
 ghost use Rattle.sim_queue.specs.Pending.{first};
 ghost use Rattle.sim_disk.specs.Disk as disk;
@@ -8,7 +9,8 @@ ghost use Rattle.sim_node.specs.Seen.{seen, IsStored};
 ghost use Rattle.sim_node.specs.Work.{copied, turned};
 ghost use Rattle.sim_world.specs.World.{World as WorldValue, host_at, place};
 ghost use Rattle.sim_world.specs.Events.{rules, effect as carried, next, sent_open, sent};
-ghost use Rattle.sim_world.specs.Account.{after_told, all_told, fate_of, next_reaction, open_fate, sent_fate, tears, told_if};
+ghost use Rattle.sim_world.specs.Account.{after_told, all_told, fate_of, next_reaction, open_fate};
+ghost use Rattle.sim_world.specs.Account.{sent_fate, tears, told_if};
 ghost use Rattle.sim_world.specs.Acts.{acts};
 ghost use Rattle.sim_world.specs.declared.Event.TheVariants as event;
 ghost use Rattle.sim_world.specs.inside.Index.{IsCounted, IsIndex};
@@ -83,8 +85,8 @@ impl<M> ToldEffect<M> {
     }
 }
 
-/// What a reaction will be: the word that is drawn for it, the node after it, and its effects in order, each
-/// with what becomes of it.
+/// What a reaction will be: the word that is drawn for it, the node after it, and its effects in
+/// order, each with what becomes of it.
 #[derive(Drop)]
 pub struct Reaction<N: Node> {
     word: u32,
@@ -188,7 +190,8 @@ impl Ledger {
     fn sync(&mut self, latency: u32) -> Fate
         requires clock { self.old.clock < 2 ^ 40 }
         requires serial { self.old.serial < 2 ^ 40 }
-        ensures fate { result ≡ Fate.Asked (self.old.clock + latency) self.old.serial self.old.unasked }
+        ensures fate { result ≡ Fate.Asked (self.old.clock + latency) self.old.serial
+            self.old.unasked }
         ensures after { self.new ≡ record self.old { serial = self.old.serial + 1; unasked = 0 } }
     {
         let (serial, count) = (self.serial, self.unasked);
@@ -210,9 +213,11 @@ impl<N: Node> Parts<N> {
         requires to { to < 32 }
         requires room { HasRoomFor 1 self.now.world ledger.old }
         requires few { ledger.old.messages < 4096 }
-        ensures told { (w : WorldValue N N.Msg) (m : N.Msg) → Follows ledger.old from self.now.world w →
+        ensures told { (w : WorldValue N N.Msg) (m : N.Msg)
+            → Follows ledger.old from self.now.world w →
             (result ≡ open_fate (rules N.laws N.PROBES sc.now) from to w)
-            × Follows ledger.new from self.now.world (sent_open (rules N.laws N.PROBES sc.now) from to m w) }
+            × Follows ledger.new from self.now.world
+            (sent_open (rules N.laws N.PROBES sc.now) from to m w) }
         ensures room { (left : ℕ) → HasRoomFor (left + 1) self.now.world ledger.old
             → HasRoomFor left self.now.world ledger.new }
     {
@@ -232,9 +237,11 @@ impl<N: Node> Parts<N> {
         requires from { from < 32 }
         requires to { to < 32 }
         requires room { HasRoomFor 1 self.now.world ledger.old }
-        ensures told { (w : WorldValue N N.Msg) (m : N.Msg) → Follows ledger.old from self.now.world w →
+        ensures told { (w : WorldValue N N.Msg) (m : N.Msg)
+            → Follows ledger.old from self.now.world w →
             (result ≡ sent_fate (rules N.laws N.PROBES sc.now) from to w)
-            × Follows ledger.new from self.now.world (sent (rules N.laws N.PROBES sc.now) from to m w) }
+            × Follows ledger.new from self.now.world
+            (sent (rules N.laws N.PROBES sc.now) from to m w) }
         ensures room { (left : ℕ) → HasRoomFor (left + 1) self.now.world ledger.old
             → HasRoomFor left self.now.world ledger.new }
     {
@@ -295,7 +302,8 @@ impl<N: Node> Parts<N> {
         requires few { length self.now.world.hosts ≤ 32 }
         requires room { HasRoomFor 40 self.now.world ledger }
         requires hosts { effects.old.hosts ≡ length self.now.world.hosts }
-        ensures { IfOk result (λ told. (w : WorldValue N N.Msg) → Follows ledger h self.now.world w →
+        ensures { IfOk result (λ told.
+            (w : WorldValue N N.Msg) → Follows ledger h self.now.world w →
             told.items ≡ all_told (rules N.laws N.PROBES sc.now) h effects.old.list w) }
     {
         let mut ledger = ledger;
@@ -310,10 +318,10 @@ impl<N: Node> Parts<N> {
 
 // What a node is given to react to: the time (ms), the input, and the word that is drawn.
 #[derive(Drop)]
-struct Cue<'a, M> {
-    clock: u64,
-    input: &'a Input<M>,
-    word: u32,
+pub(crate) struct Cue<'a, M> {
+    pub(crate) clock: u64,
+    pub(crate) input: &'a Input<M>,
+    pub(crate) word: u32,
 }
 
 // A copy of a node that has reacted, with the effects that it asks for.
@@ -393,7 +401,8 @@ impl<N: Node> Parts<N> {
         requires ready { IsReady N.told sc.now.setup self.now.world }
         requires index { IsIndex index.now self.now.world }
         requires asked { AreAsked self.now.world }
-        ensures told { IfOk result (λ t. t ≡ next_reaction (rules N.laws N.PROBES sc.now) self.now.world) }
+        ensures told { IfOk result (λ t.
+            t ≡ next_reaction (rules N.laws N.PROBES sc.now) self.now.world) }
         ensures work { OnOk result (N.Meter.work meter.new
             ≡ told_if (acts self.now.world event.Step) (N.Meter.work meter.old)) }
     {
@@ -433,9 +442,9 @@ fn kept_len(word: u32, len: usize) -> u32
 }
 
 impl<N: Node> World<N> {
-    /// How many bytes a crash of the host keeps of each of its writes that are not stable, the oldest
-    /// first: 0 for a write that is dropped, all for one that is kept whole. The only error is want of
-    /// memory.
+    /// How many bytes a crash of the host keeps of each of its writes that are not stable, the
+    /// oldest first: 0 for a write that is dropped, all for one that is kept whole. The only error
+    /// is want of memory.
     pub fn tears(&self, alloc: Global, host: u16) -> Result<Vec<u32>, NoMemory>
         requires { host < self.now.scenario.setup.hosts }
         ensures { IfOk result (λ kept.
@@ -450,11 +459,11 @@ impl<N: Node> World<N> {
         Ok(kept)
     }
 
-    /// What the next step will do: nothing if nothing is pending, or if the host for which the first
-    /// occurrence is pending is stopped. The world stays as it is. The word, the state after the reaction
-    /// and the fate of each effect are those of the step: they alone determine the world after it.
-    /// The age is below 65,536, as for a step. One copy of a node and one turn are counted where there is
-    /// a reaction. The only error is want of memory.
+    /// What the next step will do: nothing if nothing is pending, or if the host for which the
+    /// first occurrence is pending is stopped. The world stays as it is. The word, the state after
+    /// the reaction and the fate of each effect are those of the step: they alone determine the
+    /// world after it. The age is below 65,536, as for a step. One copy of a node and one turn are
+    /// counted where there is a reaction. The only error is want of memory.
     pub fn next_reaction(
         &self,
         alloc: Global,
@@ -472,6 +481,6 @@ impl<N: Node> World<N> {
         let cluster = &*self.cluster;
         cluster
             .parts
-            .next_reaction(alloc, &cluster.scenario, &cluster.index, meter)
+            .next_reaction(alloc, &cluster.scenario, &cluster.tools.index, meter)
     }
 }

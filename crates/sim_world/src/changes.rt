@@ -1,11 +1,15 @@
 //! The changes of the parts of a world, of which each is kept in a trail that leads back.
-ghost use Rattle.std.specs.Prelude.{◌≡◌, ℕ, ◌+◌, ◌-◌, ◌*◌, ◌^◌, ◌<◌, ◌≤◌, true, List, [], ◌∷◌, ◌++◌, length, IfOk, OnOk, IsOk, IfSome, IsSome, IsFalse, IsTrue, Some, None, slice_index_or, slice_index};
+ghost use Rattle.std.specs.Prelude.{◌≡◌, ℕ, ◌+◌, ◌-◌, ◌*◌, ◌^◌, ◌<◌, ◌≤◌, true, List, [], ◌∷◌};
+ghost use Rattle.std.specs.Prelude.{◌++◌, length, IfOk, OnOk, IsOk, IfSome, IsSome, IsFalse};
+ghost use Rattle.std.specs.Prelude.{IsTrue, Some, None, slice_index_or, slice_index};
 ghost use Rattle.sim_streams.specs.Word.{word, network};
 ghost use Rattle.sim_queue.specs.Pending.{IsQueue};
 ghost use Rattle.sim_links.specs.Link.{link};
 ghost use Rattle.sim_links.specs.declared.LinkState.TheVariants as state;
 ghost use Rattle.sim_disk.specs.Disk as disk;
-ghost use Rattle.sim_world.specs.World.{body_of, Body, host_at, place, drawn, at_time, with_host, with_disk, queued, queued_after, on_world, without, is_timer_of, is_full, held_back, timed, wrote};
+ghost use Rattle.sim_world.specs.World.{body_of, Body, host_at, place, drawn, at_time, with_host};
+ghost use Rattle.sim_world.specs.World.{with_disk, queued, queued_after, on_world, without};
+ghost use Rattle.sim_world.specs.World.{is_timer_of, is_full, held_back, timed, wrote};
 ghost use Rattle.sim_world.specs.Events.{rules, asked};
 ghost use Rattle.sim_world.specs.inside.Index.{IsIndex};
 ghost use Rattle.sim_world.specs.declared.small.Small.TheVariants as small;
@@ -20,9 +24,17 @@ use crate::trail::{Compact, Trail};
 use sim_disk::WriteFault;
 use sim_node::{Input, Node};
 
+/// A message on its way from one host to another.
+#[derive(Drop)]
+pub(crate) struct Letter<M> {
+    pub(crate) from: u16,
+    pub(crate) to: u16,
+    pub(crate) msg: M,
+}
+
 impl<N: Node> Parts<N> {
-    // Queues what is pending for a host, and answers its serial. A sync covers so many writes. What led back before does so with
-    // this at its end.
+    // Queues what is pending for a host, and answers its serial. A sync covers so many writes. What
+    // led back before does so with this at its end.
     #[inline(always)]
     fn enqueue(
         &mut self,
@@ -32,9 +44,15 @@ impl<N: Node> Parts<N> {
         input: Input<N::Msg>,
     ) -> Result<u64, NoMemory>
         requires room { self.old.world.queue.next_serial < 2 ^ 40 }
-        ensures world { OnOk result (self.new ≡ record self.old { world = queued due host (body_of covered input) self.old.world }) }
+        ensures world { OnOk result (
+            self.new ≡ record self.old {
+              world = queued due host
+                  (body_of covered input) self.old.world;
+            }) }
         ensures serial { IfOk result (λ serial. serial ≡ self.old.world.queue.next_serial) }
-        ensures leads { OnOk result ((t : Changes N N.Msg N.Undo) → Extends N.records t self.old.world (added t (small.Queued ∷ [])) self.new.world) }
+        ensures leads { OnOk result (
+            (t : Changes N N.Msg N.Undo) → Extends N.records t self.old.world
+            (added t (small.Queued ∷ [])) self.new.world) }
     {
         let occurrence = Occurrence {
             host,
@@ -55,8 +73,13 @@ impl<N: Node> Parts<N> {
         input: Input<N::Msg>,
     ) -> Result<(), NoMemory>
         requires room { self.old.world.queue.next_serial < 2 ^ 40 }
-        ensures world { OnOk result (self.new ≡ record self.old { world = queued due host (body_of covered input) self.old.world }) }
-        ensures trail { OnOk result (Extends N.records trail.old self.old.world trail.new self.new.world) }
+        ensures world { OnOk result (
+            self.new ≡ record self.old {
+              world = queued due host
+                  (body_of covered input) self.old.world;
+            }) }
+        ensures trail { OnOk result (
+            Extends N.records trail.old self.old.world trail.new self.new.world) }
     {
         self.enqueue(due, host, covered, input)?;
         trail.push_queued()
@@ -68,17 +91,21 @@ impl<N: Node> Parts<N> {
         index: &mut Index,
         trail: &mut Trail<N>,
         due: u64,
-        from: u16,
-        to: u16,
-        msg: N::Msg,
+        letter: Letter<N::Msg>,
     ) -> Result<(), NoMemory>
         requires room { self.old.world.queue.next_serial < 2 ^ 40 }
         requires index { IsIndex index.old self.old.world }
         requires few { IsFalse (is_full self.old.world) }
-        ensures world { OnOk result (self.new ≡ record self.old { world = queued due to (Body.Message from msg) self.old.world }) }
+        ensures world { OnOk result (
+            self.new ≡ record self.old {
+              world = queued due letter.to
+                  (Body.Message letter.from letter.msg) self.old.world;
+            }) }
         ensures index { OnOk result (IsIndex index.new self.new.world) }
-        ensures trail { OnOk result (Extends N.records trail.old self.old.world trail.new self.new.world) }
+        ensures trail { OnOk result (
+            Extends N.records trail.old self.old.world trail.new self.new.world) }
     {
+        let Letter { from, to, msg } = letter;
         let input = Input::Message { sender: from, msg };
         index.in_flight += 1;
         self.queue_up(trail, due, to, 0, input)
@@ -90,18 +117,24 @@ impl<N: Node> Parts<N> {
         index: &mut Index,
         trail: &mut Trail<N>,
         due: u64,
-        from: u16,
-        to: u16,
-        msg: N::Msg,
+        letter: Letter<N::Msg>,
     ) -> Result<(), NoMemory>
         requires room { self.old.world.queue.next_serial < 2 ^ 40 }
         requires index { IsIndex index.old self.old.world }
         requires few { IsFalse (is_full self.old.world) }
-        ensures world { OnOk result (self.new ≡ record self.old { world = queued due to (Body.Message from msg) self.old.world }) }
+        ensures world { OnOk result (
+            self.new ≡ record self.old {
+              world = queued due letter.to
+                  (Body.Message letter.from letter.msg) self.old.world;
+            }) }
         ensures index { OnOk result (IsIndex index.new self.new.world) }
-        ensures items { OnOk result (trail.new ≡ added trail.old (small.Drew 0 2 ∷ small.Queued ∷ [])) }
-        ensures leads { OnOk result ((t : Changes N N.Msg N.Undo) → Extends N.records t self.old.world (added t (small.Queued ∷ [])) self.new.world) }
+        ensures items { OnOk result (
+            trail.new ≡ added trail.old (small.Drew 0 2 ∷ small.Queued ∷ [])) }
+        ensures leads { OnOk result (
+            (t : Changes N N.Msg N.Undo) → Extends N.records t self.old.world
+            (added t (small.Queued ∷ [])) self.new.world) }
     {
+        let Letter { from, to, msg } = letter;
         let input = Input::Message { sender: from, msg };
         self.enqueue(due, to, 0, input)?;
         index.in_flight += 1;
@@ -121,9 +154,11 @@ impl<N: Node> Parts<N> {
         requires host { h < length self.old.world.hosts }
         requires index { IsIndex index.old self.old.world }
         requires none { slice_index_or index.old.timers.items h None ≡ None }
-        ensures world { OnOk result (self.new ≡ on_world (queued_after delay h Body.Timer) self.old) }
+        ensures world { OnOk result (
+            self.new ≡ on_world (queued_after delay h Body.Timer) self.old) }
         ensures index { OnOk result (IsIndex index.new self.new.world) }
-        ensures trail { OnOk result (Extends N.records trail.old self.old.world trail.new self.new.world) }
+        ensures trail { OnOk result (
+            Extends N.records trail.old self.old.world trail.new self.new.world) }
     {
         let due = self.clock + u64::from(delay);
         index.timers[h as usize] = Some(self.queue.next_serial());
@@ -142,10 +177,12 @@ impl<N: Node> Parts<N> {
         requires queue { IsQueue self.old.world.queue }
         requires index { IsIndex index.old self.old.world }
         requires some { slice_index_or index.old.timers.items h None ≡ Some serial }
-        ensures world { OnOk result (self.new ≡ record self.old { world = without (is_timer_of h) self.old.world }) }
+        ensures world { OnOk result (
+            self.new ≡ record self.old { world = without (is_timer_of h) self.old.world }) }
         ensures index { OnOk result (IsIndex index.new self.new.world) }
         ensures none { OnOk result (slice_index_or index.new.timers.items h None ≡ None) }
-        ensures trail { OnOk result (Extends N.records trail.old self.old.world trail.new self.new.world) }
+        ensures trail { OnOk result (
+            Extends N.records trail.old self.old.world trail.new self.new.world) }
     {
         match self.queue.take(serial) {
             Some(item) => {
@@ -166,11 +203,13 @@ impl<N: Node> Parts<N> {
         requires host { h < length self.old.world.hosts }
         requires queue { IsQueue self.old.world.queue }
         requires index { IsIndex index.old self.old.world }
-        ensures world { OnOk result (self.new ≡ record self.old { world = without (is_timer_of h) self.old.world }) }
+        ensures world { OnOk result (
+            self.new ≡ record self.old { world = without (is_timer_of h) self.old.world }) }
         ensures index { OnOk result (IsIndex index.new self.new.world) }
         ensures none { OnOk result (slice_index_or index.new.timers.items h None ≡ None) }
         ensures unset { slice_index_or index.old.timers.items h None ≡ None → IsOk result }
-        ensures trail { OnOk result (Extends N.records trail.old self.old.world trail.new self.new.world) }
+        ensures trail { OnOk result (
+            Extends N.records trail.old self.old.world trail.new self.new.world) }
     {
         match index.timers[h as usize] {
             Some(serial) => self.drop_timer(index, trail, h, serial),
@@ -192,9 +231,11 @@ impl<N: Node> Parts<N> {
         requires host { h < length self.old.world.hosts }
         requires queue { IsQueue self.old.world.queue }
         requires index { IsIndex index.old self.old.world }
-        ensures world { OnOk result (self.new ≡ record self.old { world = timed h delay self.old.world }) }
+        ensures world { OnOk result (
+            self.new ≡ record self.old { world = timed h delay self.old.world }) }
         ensures index { OnOk result (IsIndex index.new self.new.world) }
-        ensures trail { OnOk result (Extends N.records trail.old self.old.world trail.new self.new.world) }
+        ensures trail { OnOk result (
+            Extends N.records trail.old self.old.world trail.new self.new.world) }
     {
         self.take_timer(index, trail, h)?;
         self.queue_timer(index, trail, h, delay)
@@ -210,8 +251,10 @@ impl<N: Node> Parts<N> {
     ) -> Result<(), NoMemory>
         requires clock { self.old.world.clock < 2 ^ 40 }
         requires room { self.old.world.queue.next_serial < 2 ^ 40 }
-        ensures world { OnOk result (self.new ≡ on_world (queued_after sc.now.disk_latency h (Body.Sync count)) self.old) }
-        ensures trail { OnOk result (Extends N.records trail.old self.old.world trail.new self.new.world) }
+        ensures world { OnOk result (
+            self.new ≡ on_world (queued_after sc.now.disk_latency h (Body.Sync count)) self.old) }
+        ensures trail { OnOk result (
+            Extends N.records trail.old self.old.world trail.new self.new.world) }
     {
         let due = self.clock + u64::from(sc.disk_latency());
         self.queue_up(trail, due, h, count, Input::Synced)
@@ -224,7 +267,8 @@ impl<N: Node> Parts<N> {
         ensures world { self.new ≡ record self.old { world = drawn 2 network self.old.world } }
         ensures first { result.0 ≡ word self.old.seed network (place network self.old.world) }
         ensures second { result.1 ≡ word self.old.seed network (place network self.old.world + 1) }
-        ensures leads { (t : Changes N N.Msg N.Undo) → Extends N.records t self.old.world (added t (small.Drew 0 2 ∷ [])) self.new.world }
+        ensures leads { (t : Changes N N.Msg N.Undo)
+            → Extends N.records t self.old.world (added t (small.Drew 0 2 ∷ [])) self.new.world }
     {
         self.streams.draw_two(0)
     }
@@ -235,20 +279,24 @@ impl<N: Node> Parts<N> {
         &mut self,
         index: &mut Index,
         trail: &mut Trail<N>,
-        from: u16,
-        to: u16,
-        msg: N::Msg,
+        letter: Letter<N::Msg>,
     ) -> Result<(), NoMemory>
-        requires from { from < 32 }
-        requires to { to < 32 }
+        requires from { letter.from < 32 }
+        requires to { letter.to < 32 }
         requires links { length self.old.world.links ≡ 1024 }
-        requires held { (link from to self.old.world.links).state ≡ state.Held }
+        requires held { (link letter.from letter.to self.old.world.links).state ≡ state.Held }
         requires index { IsIndex index.old self.old.world }
         requires few { IsFalse (is_full self.old.world) }
-        ensures world { OnOk result (self.new ≡ record self.old { world = held_back from to msg self.old.world }) }
+        ensures world { OnOk result (
+            self.new ≡ record self.old {
+              world = held_back letter.from letter.to letter.msg
+                  self.old.world;
+            }) }
         ensures index { OnOk result (IsIndex index.new self.new.world) }
-        ensures trail { OnOk result (Extends N.records trail.old self.old.world trail.new self.new.world) }
+        ensures trail { OnOk result (
+            Extends N.records trail.old self.old.world trail.new self.new.world) }
     {
+        let Letter { from, to, msg } = letter;
         self.links.keep(from, to, msg)?;
         index.held += 1;
         trail.push(Compact::KeptBack(from, to))
@@ -257,9 +305,14 @@ impl<N: Node> Parts<N> {
     // Marks a host as done.
     pub(crate) fn finish(&mut self, trail: &mut Trail<N>, h: u16) -> Result<(), NoMemory>
         requires { h < length self.old.world.hosts }
-        ensures world { OnOk result (self.new ≡ record self.old { world = with_host h (record (host_at h self.old.world) { done = true }) self.old.world }) }
+        ensures world { OnOk result (
+            self.new ≡ record self.old {
+              world = with_host h
+                  (record (host_at h self.old.world) { done = true }) self.old.world;
+            }) }
         ensures again { IsTrue (host_at h self.old.world).done → IsOk result }
-        ensures trail { OnOk result (Extends N.records trail.old self.old.world trail.new self.new.world) }
+        ensures trail { OnOk result (
+            Extends N.records trail.old self.old.world trail.new self.new.world) }
     {
         let host = &mut self.hosts[h as usize];
         if host.done {
@@ -282,9 +335,11 @@ impl<N: Node> Parts<N> {
         requires some { 0 < length bytes.now }
         requires small { length bytes.now ≤ 64 }
         requires room { length (host_at h self.old.world).disk.writes < 2 ^ 24 }
-        ensures world { OnOk result (self.new ≡ record self.old { world = wrote h offset bytes.now self.old.world }) }
+        ensures world { OnOk result (
+            self.new ≡ record self.old { world = wrote h offset bytes.now self.old.world }) }
         ensures skipped { 4096 < offset + length bytes.now → IsOk result }
-        ensures trail { OnOk result (Extends N.records trail.old self.old.world trail.new self.new.world) }
+        ensures trail { OnOk result (
+            Extends N.records trail.old self.old.world trail.new self.new.world) }
     {
         let host = &mut self.hosts[h as usize];
         let undo = match host.disk.write(offset, bytes) {
@@ -299,8 +354,13 @@ impl<N: Node> Parts<N> {
     fn ask(&mut self, trail: &mut Trail<N>, h: u16) -> Result<u32, NoMemory>
         requires { h < length self.old.world.hosts }
         ensures count { IfOk result (λ n. n ≡ disk.not_asked (host_at h self.old.world).disk) }
-        ensures world { OnOk result (self.new ≡ record self.old { world = with_disk h (disk.all_asked (host_at h self.old.world).disk) self.old.world }) }
-        ensures trail { OnOk result (Extends N.records trail.old self.old.world trail.new self.new.world) }
+        ensures world { OnOk result (
+            self.new ≡ record self.old {
+              world = with_disk h
+                  (disk.all_asked (host_at h self.old.world).disk) self.old.world;
+            }) }
+        ensures trail { OnOk result (
+            Extends N.records trail.old self.old.world trail.new self.new.world) }
     {
         let host = &mut self.hosts[h as usize];
         let (count, undo) = host.disk.ask();
@@ -319,8 +379,13 @@ impl<N: Node> Parts<N> {
         requires host { h < length self.old.world.hosts }
         requires clock { self.old.world.clock < 2 ^ 40 }
         requires room { self.old.world.queue.next_serial < 2 ^ 40 }
-        ensures world { OnOk result (self.new ≡ record self.old { world = asked (rules N.laws N.PROBES sc.now) h self.old.world }) }
-        ensures trail { OnOk result (Extends N.records trail.old self.old.world trail.new self.new.world) }
+        ensures world { OnOk result (
+            self.new ≡ record self.old {
+              world = asked
+                  (rules N.laws N.PROBES sc.now) h self.old.world;
+            }) }
+        ensures trail { OnOk result (
+            Extends N.records trail.old self.old.world trail.new self.new.world) }
     {
         let count = self.ask(trail, h)?;
         self.queue_sync(sc, trail, h, count)

@@ -3,7 +3,8 @@ ghost use Rattle.std.specs.Prelude.{◌≡◌, ◌+◌, ◌<◌, true, option_ma
 ghost use Rattle.sim_queue.specs.Items.{item_of};
 ghost use Rattle.sim_queue.specs.Pending.{first, next_taken, with_serial};
 ghost use Rattle.sim_links.specs.Link.{link};
-ghost use Rattle.sim_world.specs.World.{host_at, in_flight, held_messages, input_of, place, sync_count};
+ghost use Rattle.sim_world.specs.World.{host_at, in_flight, held_messages, input_of, place};
+ghost use Rattle.sim_world.specs.World.{sync_count};
 ghost use Rattle.sim_world.specs.Events.{rules};
 
 use crate::occurrence::Occurrence;
@@ -55,8 +56,8 @@ impl<N: Node> World<N> {
         self.cluster.parts.queue.first()
     }
 
-    /// The least serial, not below `serial`, of a pending occurrence. From 0 on, and then from one above
-    /// each answer, it finds all that is pending in the order in which it was queued.
+    /// The least serial, not below `serial`, of a pending occurrence. From 0 on, and then from one
+    /// above each answer, it finds all that is pending in the order in which it was queued.
     pub fn next_pending(&self, serial: u64) -> Option<u64>
         ensures { result ≡ next_taken serial (λ _. true) self.now.world.queue.items }
     {
@@ -85,7 +86,7 @@ impl<N: Node> World<N> {
     pub fn messages(&self) -> u32
         ensures { result ≡ in_flight self.now.world + held_messages self.now.world }
     {
-        self.cluster.index.in_flight + self.cluster.index.held
+        self.cluster.tools.index.in_flight + self.cluster.tools.index.held
     }
 
     /// The node of a host, or none where the host is stopped.
@@ -113,8 +114,8 @@ impl<N: Node> World<N> {
         self.cluster.parts.links.state(from, to)
     }
 
-    /// The messages that the direction from one host to another holds, the oldest first. Both hosts are
-    /// below 32.
+    /// The messages that the direction from one host to another holds, the oldest first. Both hosts
+    /// are below 32.
     pub fn held(&self, from: u16, to: u16) -> &[N::Msg]
         requires from { from < 32 }
         requires to { to < 32 }

@@ -1,11 +1,14 @@
 //! Events of a world, forwards and backwards.
-ghost use Rattle.std.specs.Prelude.{◌≡◌, ◌≢◌, ℕ, ◌+◌, ◌-◌, ◌^◌, ◌<◌, ◌≤◌, [], ◌++◌, length, IfOk, OnOk, IsOk, IsTrue, IsFalse, IsSome, Some, None, slice_index_or, if◌then◌else◌};
+ghost use Rattle.std.specs.Prelude.{◌≡◌, ◌≢◌, ℕ, ◌+◌, ◌-◌, ◌^◌, ◌<◌, ◌≤◌, [], ◌++◌, length, IfOk};
+ghost use Rattle.std.specs.Prelude.{OnOk, IsOk, IsTrue, IsFalse, IsSome, Some, None};
+ghost use Rattle.std.specs.Prelude.{slice_index_or, if◌then◌else◌};
 ghost use Rattle.std.specs.List.{count_by};
 ghost use Rattle.sim_queue.specs.Pending.{first};
 ghost use Rattle.sim_world.specs.World.{at_time, host_at};
 ghost use Rattle.sim_world.specs.declared.Event.TheVariants as event;
 ghost use Rattle.sim_world.specs.Events.{rules, after, next, refusal_of, stepped};
-ghost use Rattle.sim_world.specs.Acts.{first_host, acts, reactions_of, turns_of, turned_by, turned_if};
+ghost use Rattle.sim_world.specs.Acts.{first_host, acts, reactions_of, turns_of, turned_by};
+ghost use Rattle.sim_world.specs.Acts.{turned_if};
 ghost use Rattle.sim_world.specs.Clock.{clock_after};
 ghost use Rattle.sim_world.specs.Memory.{is_for_stopped};
 ghost use Rattle.sim_world.specs.inside.Index.{IsIndex, beside_of, stopped_host, changing_host};
@@ -17,14 +20,14 @@ ghost use Rattle.sim_world.specs.inside.Trail.{IsTrail, Extends, taken_changes};
 ghost use Rattle.sim_world.specs.inside.Held.{IsHeld, in_hand};
 
 use crate::cluster::Cluster;
-use crate::index::Index;
 use crate::parts::Parts;
 use crate::scenario::Scenario;
+use crate::tools::Tools;
 use crate::trail::{Compact, Trail};
-use crate::undo::{Taken, Undo};
+use crate::undo::Undo;
 use crate::world::World;
 use crate::{Event, Fault, NoMemory};
-use sim_node::{Effects, Node};
+use sim_node::Node;
 use std::alloc::Global;
 
 // The host whose timer a fault can change, else any.
@@ -46,21 +49,22 @@ impl<N: Node> Parts<N> {
     // The clock goes on to a time (ms).
     #[inline(never)]
     fn advance(&mut self, trail: &mut Trail<N>, to: u64) -> Result<(), NoMemory>
-        ensures world { OnOk result (self.new ≡ record self.old { world = at_time to self.old.world }) }
-        ensures trail { OnOk result (Extends N.records trail.old self.old.world trail.new self.new.world) }
+        ensures world { OnOk result (
+            self.new ≡ record self.old { world = at_time to self.old.world }) }
+        ensures trail { OnOk result (
+            Extends N.records trail.old self.old.world trail.new self.new.world) }
     {
         trail.push(Compact::Timed(self.clock))?;
         self.clock = to;
         Ok(())
     }
 
-    // An event. The record gets its small changes alone, and what the event can change of the index as it stood before.
+    // An event. The record gets its small changes alone, and what the event can change of the index
+    // as it stood before.
     fn event(
         &mut self,
-        alloc: Global,
         sc: &Scenario,
-        index: &mut Index,
-        effects: &mut Effects<N::Msg>,
+        tools: &mut Tools<N::Msg>,
         undo: &mut Undo<N>,
         event: Event,
         meter: &mut N::Meter,
@@ -68,44 +72,46 @@ impl<N: Node> Parts<N> {
         requires can { refusal_of (rules N.laws N.PROBES sc.now) event self.old.world ≡ None }
         requires seed { self.old.seed ≡ sc.now.seed }
         requires ready { IsReady N.told sc.now.setup self.old.world }
-        requires index { IsIndex index.old self.old.world }
+        requires index { IsIndex tools.old.index self.old.world }
         requires there { changing_host event self.old.world < length self.old.world.hosts }
-        requires spent { effects.old ≡ record { hosts = sc.now.setup.hosts; list = [] } }
-        ensures world { OnOk result (self.new ≡ record self.old { world = after (rules N.laws N.PROBES sc.now) event self.old.world }) }
+        requires spent { tools.old.effects ≡ record { hosts = sc.now.setup.hosts; list = [] } }
+        ensures world { OnOk result (
+            self.new ≡ record self.old {
+              world = after
+                  (rules N.laws N.PROBES sc.now) event self.old.world;
+            }) }
         ensures stopped { IsTrue (is_for_stopped event self.old.world) → IsOk result }
-        ensures trail { OnOk result (IsTrail N.records undo.new.changes self.old.world self.new.world) }
-        ensures acted { OnOk result (count_by is_reaction undo.new.changes ≡ reactions_of self.old.world event) }
-        ensures beside { OnOk result (undo.new.beside ≡ beside_of index.old (changing_host event self.old.world)) }
-        ensures lawful { OnOk result (IsLawfulEvent N.told (rules N.laws N.PROBES sc.now) event self.old.world) }
-        ensures index { OnOk result (IsIndex index.new self.new.world) }
-        ensures spent { OnOk result (effects.new ≡ effects.old) }
-        ensures work { OnOk result (N.Meter.work meter.new ≡ turned_by (turns_of self.old.world event) (N.Meter.work meter.old)) }
+        ensures trail { OnOk result (
+            IsTrail N.records undo.new.changes self.old.world self.new.world) }
+        ensures acted { OnOk result (
+            count_by is_reaction undo.new.changes ≡ reactions_of self.old.world event) }
+        ensures beside { OnOk result (
+            undo.new.beside ≡ beside_of tools.old.index (changing_host event self.old.world)) }
+        ensures lawful { OnOk result (
+            IsLawfulEvent N.told (rules N.laws N.PROBES sc.now) event self.old.world) }
+        ensures index { OnOk result (IsIndex tools.new.index self.new.world) }
+        ensures spent { OnOk result (tools.new.effects ≡ tools.old.effects) }
+        ensures work { OnOk result (
+            N.Meter.work meter.new ≡ turned_by (turns_of self.old.world event)
+            (N.Meter.work meter.old)) }
     {
-        undo.trail.clear();
         match event {
             Event::Step => {
-                self.step(
-                    alloc,
-                    sc,
-                    index,
-                    effects,
-                    &mut undo.taken,
-                    &mut undo.trail,
-                    &mut undo.beside,
-                    meter,
-                )?;
+                self.step(sc, tools, undo, meter)?;
                 Ok(())
             }
             Event::Advance(to) => {
+                undo.trail.clear();
                 undo.taken = None;
-                undo.beside = index.beside(0);
+                undo.beside = tools.index.beside(0);
                 self.advance(&mut undo.trail, to)?;
                 Ok(())
             }
             Event::Fault(fault) => {
+                undo.trail.clear();
                 undo.taken = None;
-                undo.beside = index.beside(stopped_by(fault));
-                self.fault(alloc, sc, index, &mut undo.trail, fault, meter)?;
+                undo.beside = tools.index.beside(stopped_by(fault));
+                self.fault(sc, &mut tools.index, &mut undo.trail, fault, meter)?;
                 Ok(())
             }
         }
@@ -123,63 +129,66 @@ impl<N: Node> Cluster<N> {
     // An event that can happen. The record becomes the one by which it is taken back.
     fn apply(
         &mut self,
-        alloc: Global,
         event: Event,
         undo: &mut Undo<N>,
         meter: &mut N::Meter,
     ) -> Result<(), NoMemory>
         requires held { IsHeld N.told self.old }
-        requires can { refusal_of (rules N.laws N.PROBES self.old.scenario) event self.old.parts.world ≡ None }
+        requires can { refusal_of (rules N.laws N.PROBES self.old.scenario) event
+            self.old.parts.world ≡ None }
         requires young { self.old.age < 65536 }
         ensures held { OnOk result (IsHeld N.told self.new) }
         ensures answers { OnOk result (
-            AnswersFor (rules N.laws N.PROBES self.old.scenario) N.records undo.new.changes self.old.parts.world event self.new.parts.world) }
+            AnswersFor (rules N.laws N.PROBES self.old.scenario) N.records undo.new.changes
+            self.old.parts.world event self.new.parts.world) }
         ensures scenario { OnOk result (self.new.scenario ≡ self.old.scenario) }
         ensures age { OnOk result (self.new.age ≡ self.old.age + 1) }
-        ensures clock { OnOk result (self.new.parts.world.clock ≡ clock_after event self.old.parts.world) }
+        ensures clock { OnOk result (
+            self.new.parts.world.clock ≡ clock_after event self.old.parts.world) }
         ensures on { OnOk result (self.old.parts.world.clock ≤ self.new.parts.world.clock) }
         ensures stopped { IsTrue (is_for_stopped event self.old.parts.world) → IsOk result }
         ensures leads { OnOk result (LeadsBack N.told N.records undo.new (in_hand self.new)) }
-        ensures acted { OnOk result (count_by is_reaction undo.new.changes ≡ reactions_of self.old.parts.world event) }
-        ensures work { OnOk result (N.Meter.work meter.new ≡ turned_by (turns_of self.old.parts.world event) (N.Meter.work meter.old)) }
+        ensures acted { OnOk result (
+            count_by is_reaction undo.new.changes ≡ reactions_of self.old.parts.world event) }
+        ensures work { OnOk result (
+            N.Meter.work meter.new ≡ turned_by (turns_of self.old.parts.world event)
+            (N.Meter.work meter.old)) }
     {
-        self.parts.event(
-            alloc,
-            &self.scenario,
-            &mut self.index,
-            &mut self.effects,
-            undo,
-            event,
-            meter,
-        )?;
+        self.parts
+            .event(&self.scenario, &mut self.tools, undo, event, meter)?;
         self.age += 1;
         Ok(())
     }
 
     // A step that can happen, without a record. Also returns its host.
     #[inline(always)]
-    fn step_for_good(&mut self, alloc: Global, meter: &mut N::Meter) -> Result<u16, NoMemory>
+    fn step_for_good(&mut self, meter: &mut N::Meter) -> Result<u16, NoMemory>
         requires held { IsHeld N.told self.old }
-        requires can { refusal_of (rules N.laws N.PROBES self.old.scenario) event.Step self.old.parts.world ≡ None }
+        requires can { refusal_of (rules N.laws N.PROBES self.old.scenario) event.Step
+            self.old.parts.world ≡ None }
         requires young { self.old.age < 65536 }
         ensures held { OnOk result (IsHeld N.told self.new) }
-        ensures next { OnOk result (next (rules N.laws N.PROBES self.old.scenario) self.old.parts.world event.Step ≡ Some self.new.parts.world) }
+        ensures next { OnOk result (
+            next (rules N.laws N.PROBES self.old.scenario) self.old.parts.world event.Step
+            ≡ Some self.new.parts.world) }
         ensures host { IfOk result (λ h. h ≡ first_host (first self.old.parts.world.queue.items)) }
         ensures there { IfOk result (λ h. h < 32) }
-        ensures others { IfOk result (λ h. (k : ℕ) → k ≢ h → host_at k self.new.parts.world ≡ host_at k self.old.parts.world) }
+        ensures others { IfOk result (λ h.
+            (k : ℕ) → k ≢ h → host_at k self.new.parts.world ≡ host_at k self.old.parts.world) }
         ensures scenario { OnOk result (self.new.scenario ≡ self.old.scenario) }
         ensures age { OnOk result (self.new.age ≡ self.old.age + 1) }
-        ensures clock { OnOk result (self.new.parts.world.clock ≡ clock_after event.Step self.old.parts.world) }
+        ensures clock { OnOk result (
+            self.new.parts.world.clock ≡ clock_after event.Step self.old.parts.world) }
         ensures on { OnOk result (self.old.parts.world.clock ≤ self.new.parts.world.clock) }
         ensures stopped { IsFalse (acts self.old.parts.world event.Step) → IsOk result }
-        ensures work { OnOk result (N.Meter.work meter.new ≡ turned_if (acts self.old.parts.world event.Step) (N.Meter.work meter.old)) }
+        ensures work { OnOk result (
+            N.Meter.work meter.new ≡ turned_if (acts self.old.parts.world event.Step)
+            (N.Meter.work meter.old)) }
     {
         let host = self.parts.step_for_good(
-            alloc,
             &self.scenario,
-            &mut self.index,
+            &mut self.tools,
             &mut self.forgetful,
-            &mut self.effects,
             meter,
         )?;
         self.age += 1;
@@ -196,24 +205,27 @@ impl<N: Node> Cluster<N> {
         requires held { IsHeld N.told self.old }
         requires leads { LeadsBack N.told N.records undo.old (in_hand self.old) }
         ensures held { OnOk result (IsHeld N.told self.new) }
-        ensures world { OnOk result (self.new.parts.world ≡ back N.records undo.old.changes self.old.parts.world) }
+        ensures world { OnOk result (
+            self.new.parts.world ≡ back N.records undo.old.changes self.old.parts.world) }
         ensures scenario { OnOk result (self.new.scenario ≡ self.old.scenario) }
         ensures age { OnOk result (self.new.age ≡ self.old.age - 1) }
-        ensures work { OnOk result (N.Meter.work meter.new ≡ taken_back undo.old.changes (N.Meter.work meter.old)) }
+        ensures work { OnOk result (
+            N.Meter.work meter.new ≡ taken_back undo.old.changes (N.Meter.work meter.old)) }
     {
         self.parts.take_back_all(alloc, &mut undo.trail, meter)?;
         let taken = undo.taken.take();
         self.parts.take_back_taken(taken)?;
-        self.index.restore(undo.beside);
+        self.tools.index.restore(undo.beside);
         self.age -= 1;
         Ok(())
     }
 }
 
 impl<N: Node> World<N> {
-    /// The world after an event that can happen, and a record by which it is taken back. At most one turn is counted: where a node
-    /// reacts, and where a bounce boots one; no copy and no undo is. The clock never goes back. The age, which is below 65,536,
-    /// rises by one. The only error is want of memory; nothing is left then.
+    /// The world after an event that can happen, and a record by which it is taken back. At most
+    /// one turn is counted: where a node reacts, and where a bounce boots one; no copy and no undo
+    /// is. The clock never goes back. The age, which is below 65,536, rises by one. The only error
+    /// is want of memory; nothing is left then.
     pub fn apply(
         self,
         alloc: Global,
@@ -222,78 +234,94 @@ impl<N: Node> World<N> {
     ) -> Result<(World<N>, Undo<N>), NoMemory>
         requires can { IsSome (next (rules N.laws N.PROBES self.scenario) self.world event) }
         requires young { self.age < 65536 }
-        ensures answers { IfOk result (λ r. AnswersFor (rules N.laws N.PROBES self.scenario) N.records r.1.changes self.world event r.0.world) }
+        ensures answers { IfOk result (λ r.
+            AnswersFor (rules N.laws N.PROBES self.scenario) N.records r.1.changes self.world event
+            r.0.world) }
         ensures clock { IfOk result (λ r. r.0.world.clock ≡ clock_after event self.world) }
         ensures on { IfOk result (λ r. self.world.clock ≤ r.0.world.clock) }
         ensures stopped { IsTrue (is_for_stopped event self.world) → IsOk result }
         ensures scenario { IfOk result (λ r. r.0.scenario ≡ self.scenario) }
         ensures age { IfOk result (λ r. r.0.age ≡ self.age + 1) }
         ensures leads { IfOk result (λ r. LeadsBack N.told N.records r.1 r.0) }
-        ensures acted { IfOk result (λ r. count_by is_reaction r.1.changes ≡ reactions_of self.world event) }
-        ensures work { OnOk result (N.Meter.work meter.new ≡ turned_by (turns_of self.world event) (N.Meter.work meter.old)) }
+        ensures acted { IfOk result (λ r.
+            count_by is_reaction r.1.changes ≡ reactions_of self.world event) }
+        ensures work { OnOk result (
+            N.Meter.work meter.new ≡ turned_by (turns_of self.world event)
+            (N.Meter.work meter.old)) }
     {
         let World { mut cluster } = self;
         let mut undo = Undo::empty(alloc);
         undo.trail.take_memory(&mut cluster.spare);
-        cluster.apply(alloc, event, &mut undo, meter)?;
+        cluster.apply(event, &mut undo, meter)?;
         Ok((World { cluster }, undo))
     }
 
-    /// As `apply`. The record takes the place, and the memory, of one that is no longer wanted; after an error nothing is said
-    /// of it.
+    /// As `apply`. The record takes the place, and the memory, of one that is no longer wanted;
+    /// after an error nothing is said of it.
     pub fn apply_over(
         self,
-        alloc: Global,
+        _alloc: Global,
         event: Event,
         undo: &mut Undo<N>,
         meter: &mut N::Meter,
     ) -> Result<World<N>, NoMemory>
         requires can { IsSome (next (rules N.laws N.PROBES self.scenario) self.world event) }
         requires young { self.age < 65536 }
-        ensures answers { IfOk result (λ w. AnswersFor (rules N.laws N.PROBES self.scenario) N.records undo.new.changes self.world event w.world) }
+        ensures answers { IfOk result (λ w.
+            AnswersFor (rules N.laws N.PROBES self.scenario) N.records undo.new.changes self.world
+            event w.world) }
         ensures clock { IfOk result (λ w. w.world.clock ≡ clock_after event self.world) }
         ensures on { IfOk result (λ w. self.world.clock ≤ w.world.clock) }
         ensures stopped { IsTrue (is_for_stopped event self.world) → IsOk result }
         ensures scenario { IfOk result (λ w. w.scenario ≡ self.scenario) }
         ensures age { IfOk result (λ w. w.age ≡ self.age + 1) }
         ensures leads { IfOk result (λ w. LeadsBack N.told N.records undo.new w) }
-        ensures acted { OnOk result (count_by is_reaction undo.new.changes ≡ reactions_of self.world event) }
-        ensures work { OnOk result (N.Meter.work meter.new ≡ turned_by (turns_of self.world event) (N.Meter.work meter.old)) }
+        ensures acted { OnOk result (
+            count_by is_reaction undo.new.changes ≡ reactions_of self.world event) }
+        ensures work { OnOk result (
+            N.Meter.work meter.new ≡ turned_by (turns_of self.world event)
+            (N.Meter.work meter.old)) }
     {
         let World { mut cluster } = self;
         cluster.take_over(undo);
-        cluster.apply(alloc, event, undo, meter)?;
+        cluster.apply(event, undo, meter)?;
         Ok(World { cluster })
     }
 
-    /// As `apply` of a step, without a record: it can't be taken back. It is faster, and needs no memory for a record. Also returns
-    /// the host of the first pending occurrence; no other host changes. The only error is want of memory; nothing is left then.
+    /// As `apply` of a step, without a record: it can't be taken back. It is faster, and needs no
+    /// memory for a record. Also returns the host of the first pending occurrence; no other host
+    /// changes. The only error is want of memory; nothing is left then.
     #[inline(always)]
     pub fn step_for_good(
         self,
-        alloc: Global,
+        _alloc: Global,
         meter: &mut N::Meter,
     ) -> Result<(World<N>, u16), NoMemory>
         requires can { IsSome (next (rules N.laws N.PROBES self.scenario) self.world event.Step) }
         requires young { self.age < 65536 }
-        ensures next { IfOk result (λ r. next (rules N.laws N.PROBES self.scenario) self.world event.Step ≡ Some r.0.world) }
+        ensures next { IfOk result (λ r.
+            next (rules N.laws N.PROBES self.scenario) self.world event.Step ≡ Some r.0.world) }
         ensures clock { IfOk result (λ r. r.0.world.clock ≡ clock_after event.Step self.world) }
         ensures on { IfOk result (λ r. self.world.clock ≤ r.0.world.clock) }
         ensures host { IfOk result (λ r. r.1 ≡ first_host (first self.world.queue.items)) }
         ensures there { IfOk result (λ r. r.1 < 32) }
-        ensures others { IfOk result (λ r. (h : ℕ) → h ≢ r.1 → host_at h r.0.world ≡ host_at h self.world) }
+        ensures others { IfOk result (λ r.
+            (h : ℕ) → h ≢ r.1 → host_at h r.0.world ≡ host_at h self.world) }
         ensures stopped { IsFalse (acts self.world event.Step) → IsOk result }
         ensures scenario { IfOk result (λ r. r.0.scenario ≡ self.scenario) }
         ensures age { IfOk result (λ r. r.0.age ≡ self.age + 1) }
-        ensures work { OnOk result (N.Meter.work meter.new ≡ turned_if (acts self.world event.Step) (N.Meter.work meter.old)) }
+        ensures work { OnOk result (
+            N.Meter.work meter.new ≡ turned_if (acts self.world event.Step)
+            (N.Meter.work meter.old)) }
     {
         let World { mut cluster } = self;
-        let host = cluster.step_for_good(alloc, meter)?;
+        let host = cluster.step_for_good(meter)?;
         Ok((World { cluster }, host))
     }
 
-    /// The world before an event, by the record that the event gave. One undo is counted where a node reacted in the event,
-    /// else none; no turn and no copy is. The age is lowered by one. The only error is want of memory; nothing is left then.
+    /// The world before an event, by the record that the event gave. One undo is counted where a
+    /// node reacted in the event, else none; no turn and no copy is. The age is lowered by one. The
+    /// only error is want of memory; nothing is left then.
     pub fn undo(
         self,
         alloc: Global,
@@ -301,8 +329,14 @@ impl<N: Node> World<N> {
         meter: &mut N::Meter,
     ) -> Result<World<N>, NoMemory>
         requires { LeadsBack N.told N.records undo self }
-        ensures world { IfOk result (λ w. w ≡ record { world = back N.records undo.changes self.world; scenario = self.scenario; age = self.age - 1 }) }
-        ensures work { OnOk result (N.Meter.work meter.new ≡ taken_back undo.changes (N.Meter.work meter.old)) }
+        ensures world { IfOk result (λ w.
+            w ≡ record {
+              world = back N.records undo.changes self.world;
+              scenario = self.scenario;
+              age = self.age - 1;
+            }) }
+        ensures work { OnOk result (
+            N.Meter.work meter.new ≡ taken_back undo.changes (N.Meter.work meter.old)) }
     {
         let World { mut cluster } = self;
         let mut spent = undo;
@@ -319,15 +353,22 @@ impl<N: Node> World<N> {
         meter: &mut N::Meter,
     ) -> Result<World<N>, NoMemory>
         requires { LeadsBack N.told N.records undo.old self }
-        ensures world { IfOk result (λ w. w ≡ record { world = back N.records undo.old.changes self.world; scenario = self.scenario; age = self.age - 1 }) }
-        ensures work { OnOk result (N.Meter.work meter.new ≡ taken_back undo.old.changes (N.Meter.work meter.old)) }
+        ensures world { IfOk result (λ w.
+            w ≡ record {
+              world = back N.records undo.old.changes self.world;
+              scenario = self.scenario;
+              age = self.age - 1;
+            }) }
+        ensures work { OnOk result (
+            N.Meter.work meter.new ≡ taken_back undo.old.changes (N.Meter.work meter.old)) }
     {
         let World { mut cluster } = self;
         cluster.undo(alloc, undo, meter)?;
         Ok(World { cluster })
     }
 
-    /// A record that is no longer wanted gives its memory to the next event. The world stays as it is.
+    /// A record that is no longer wanted gives its memory to the next event. The world stays as it
+    /// is.
     pub fn reuse(&mut self, undo: Undo<N>)
         ensures { self.new ≡ self.old }
     {

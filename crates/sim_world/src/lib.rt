@@ -1,15 +1,16 @@
 //! A cluster of hosts, run as a world of discrete events.
 //!
 //! One event at a time changes a world: a step takes the first pending occurrence, an advance moves
-//! the clock, a fault crashes a host or changes a link. The same scenario and the same events always
-//! give the same world, and the record of an event takes it back exactly.
+//! the clock, a fault crashes a host or changes a link. The same scenario and the same events
+//! always give the same world, and the record of an event takes it back exactly.
 //!
 //! # Main types
 //!
 //! * [`World`]: what the crates above hold. It boxes a `Cluster` and keeps it sound. Contracts see
 //!   the world's value, its scenario and its age (`InHand` in `specs/Records.antt`).
-//! * `Cluster`: the `Parts`, an `Index`, the shared scenario, the age, and memory to use again.
+//! * `Cluster`: the `Parts`, the `Tools`, the shared scenario, the age, and memory to use again.
 //! * `Parts`: the world proper. The clock, the streams of words, the queue, the links, the hosts.
+//! * `Tools`: what a step works with beside the parts: an `Index`, and room for a node's effects.
 //! * `Index`: counts of messages, and the serial of each host's timer. The parts determine it; it
 //!   stands beside them so that no step searches the queue.
 //! * [`Undo`]: the record of one event. It has what a step took out of the queue (`Taken`), a
@@ -22,8 +23,8 @@
 //! 1. [`World::can`] says whether it can happen (`views.rt`).
 //! 2. [`World::apply`] clears the trail, saves the entries of the index, and calls one of three:
 //!    `step` (`step.rt`), `advance` (`events.rt`), `fault` (`faults.rt`, `crash.rt`).
-//! 3. A step pops the first occurrence. If its host runs, a sync makes writes stable, the host draws
-//!    a word, its node reacts, and the effects are carried out in order (`effects.rt`).
+//! 3. A step pops the first occurrence. If its host runs, a sync makes writes stable, the host
+//!    draws a word, its node reacts, and the effects are carried out in order (`effects.rt`).
 //! 4. Each primitive change of the parts (`changes.rt`) updates the index and pushes one small
 //!    change onto the trail.
 //! 5. [`World::undo`] takes the changes back from the last to the first, each kind by a function of
@@ -33,17 +34,17 @@
 //!
 //! # Why the trail has so many places
 //!
-//! Most steps do the same few things in the same order: a sync, a word, a reaction, messages, writes
-//! with a sync, a timer. The trail keeps these in fields of its own (`trail.rt`, `trail/`), so the
-//! record of such a step needs no memory, and a run forward and back is fast. Anything else, or
-//! anything out of this order, goes into a vector. Contracts see one list of small changes.
+//! Most steps do the same few things in the same order: a sync, a word, a reaction, messages,
+//! writes with a sync, a timer. The trail keeps these in fields of its own (`trail.rt`, `trail/`),
+//! so the record of such a step needs no memory, and a run forward and back is fast. Anything else,
+//! or anything out of this order, goes into a vector. Contracts see one list of small changes.
 //!
 //! # Where to begin
 //!
 //! Read `specs/World.antt` (what a world is) and `specs/Events.antt` (what each event makes of it):
 //! these two are the simulator. `specs/Records.antt` says what a record is and when it leads back.
-//! Callers also need `Limits`, `Clock`, `Acts`, `Memory`, `Looks`, `Seeds` and `Undone`. The files in
-//! `specs/inside/` serve the private functions: bounds, the index, the parts of a trail.
+//! Callers also need `Limits`, `Clock`, `Acts`, `Memory`, `Looks`, `Seeds` and `Undone`. The files
+//! in `specs/inside/` serve the private functions: bounds, the index, the parts of a trail.
 #![tactic(auto)]
 
 mod account;
@@ -66,6 +67,7 @@ mod small;
 mod start;
 mod step;
 mod take_back;
+mod tools;
 mod trail;
 mod undo;
 mod views;
@@ -95,38 +97,43 @@ pub const MAX_WINDOW: u32 = 4_096;
 /// What is done to the hosts and links from outside.
 #[derive(Clone, Copy, Debug, PartialEq, Eq)]
 pub enum Fault {
-    /// The host loses its node, its pending start and timer, and the syncs that have not come yet. Each of its writes that is not
-    /// stable is dropped, kept or torn, by a word of the stream for torn writes. Messages to it stay, and so does its being done.
-    /// Of a stopped host nothing changes.
+    /// The host loses its node, its pending start and timer, and the syncs that have not come yet.
+    /// Each of its writes that is not stable is dropped, kept or torn, by a word of the stream for
+    /// torn writes. Messages to it stay, and so does its being done. Of a stopped host nothing
+    /// changes.
     Crash(u16),
     /// The host crashes where it runs, and boots from its stable bytes; its start is due now.
     Bounce(u16),
-    /// Both directions between the two hosts hold what is sent over them from now on: that from the first to the second, then the
-    /// other. A direction that was cut holds them too. What is in flight still arrives.
+    /// Both directions between the two hosts hold what is sent over them from now on: that from the
+    /// first to the second, then the other. A direction that was cut holds them too. What is in
+    /// flight still arrives.
     Hold(u16, u16),
-    /// Both directions between the two hosts let go what they hold, which arrives now in the order in which it was sent, and are
-    /// open: that from the first to the second, then the other. A direction that is cut stays so.
+    /// Both directions between the two hosts let go what they hold, which arrives now in the order
+    /// in which it was sent, and are open: that from the first to the second, then the other. A
+    /// direction that is cut stays so.
     Release(u16, u16),
-    /// Both directions between the two hosts drop what is sent over them from now on, and what they hold: that from the first to
-    /// the second, then the other. What is in flight still arrives.
+    /// Both directions between the two hosts drop what is sent over them from now on, and what they
+    /// hold: that from the first to the second, then the other. What is in flight still arrives.
     Cut(u16, u16),
-    /// The direction from the first host to the second is cut as by `Cut`; that from the second to the first stays as it is.
+    /// The direction from the first host to the second is cut as by `Cut`; that from the second to
+    /// the first stays as it is.
     CutOneway(u16, u16),
-    /// Both directions between the two hosts are open again where they are cut: that from the first to the second, then the other.
-    /// A direction that holds messages stays so.
+    /// Both directions between the two hosts are open again where they are cut: that from the first
+    /// to the second, then the other. A direction that holds messages stays so.
     Repair(u16, u16),
-    /// The direction from the first host to the second is open again where it is cut; that from the second to the first stays as it
-    /// is.
+    /// The direction from the first host to the second is open again where it is cut; that from the
+    /// second to the first stays as it is.
     RepairOneway(u16, u16),
 }
 
 /// An event of the world.
 #[derive(Clone, Copy, Debug, PartialEq, Eq)]
 pub enum Event {
-    /// The first pending occurrence, by its due and then by its serial, is taken out, the clock becomes its due, and it happens to
-    /// its host.
+    /// The first pending occurrence, by its due and then by its serial, is taken out, the clock
+    /// becomes its due, and it happens to its host.
     Step,
-    /// The clock goes on to this time (ms), at most 60,000 ms later and not past what is due; nothing else changes.
+    /// The clock goes on to this time (ms), at most 60,000 ms later and not past what is due;
+    /// nothing else changes.
     Advance(u64),
     /// A fault from outside, at the time of the clock.
     Fault(Fault),
@@ -141,14 +148,16 @@ pub enum Refusal {
     SameHost,
     /// Nothing is pending for a step.
     Idle,
-    /// A time to go on to is earlier than the clock, more than 60,000 ms later, or later than what is due first.
+    /// A time to go on to is earlier than the clock, more than 60,000 ms later, or later than what
+    /// is due first.
     BadAdvance,
 }
 
 /// What one can look at.
 #[derive(Clone, Copy, Debug, PartialEq, Eq)]
 pub enum Query {
-    /// the clock, the serials and the streams of the whole world, and how many occurrences are pending and messages held
+    /// the clock, the serials and the streams of the whole world, and how many occurrences are
+    /// pending and messages held
     Summary,
     /// the first pending occurrence
     Next,
@@ -185,8 +194,8 @@ pub struct Coming {
 /// What is seen.
 #[derive(Clone, Copy, Debug, PartialEq, Eq)]
 pub enum View {
-    /// the clock (ms), the next serial, the places of the network's and the torn writes' streams, and how many occurrences
-    /// are pending and messages are held
+    /// the clock (ms), the next serial, the places of the network's and the torn writes' streams,
+    /// and how many occurrences are pending and messages are held
     Summary {
         clock: u64,
         serial: u64,
@@ -197,7 +206,8 @@ pub enum View {
     },
     /// the first pending occurrence, or none
     Next(Option<Coming>),
-    /// whether a host runs, whether it is done, the place of its stream, how many bytes are stable and how many writes are not
+    /// whether a host runs, whether it is done, the place of its stream, how many bytes are stable
+    /// and how many writes are not
     HostView {
         host: u16,
         up: bool,

@@ -12,6 +12,7 @@ use crate::occurrence::Occurrence;
 use crate::packed_hosts::PackedHosts;
 use crate::parts::Parts;
 use crate::scenario::Scenario;
+use crate::tools::Tools;
 use crate::trail::Trail;
 use crate::world::World;
 use sim_disk::SpareDisks;
@@ -23,7 +24,8 @@ use std::alloc::Global;
 use std::marker::Model;
 use std::sync::Arc;
 
-/// A world that is kept for later, in less memory. Contracts see the world, its scenario and its age.
+/// A world that is kept for later, in less memory. Contracts see the world, its scenario and its
+/// age.
 #[derive(Drop)]
 pub struct PackedWorld<N: Node> {
     clock: u64,
@@ -44,16 +46,29 @@ impl<N: Node> Model for PackedWorld<N> {
     ghost Value = { InHand N N.Msg };
 
     ghost view = { λ p. record {
-      world = record { clock = p.clock; places = p.streams.places; queue = p.queue; links = p.links; hosts = p.hosts.hosts };
+      world = record {
+        clock = p.clock;
+        places = p.streams.places;
+        queue = p.queue;
+        links = p.links;
+        hosts = p.hosts.hosts;
+      };
       scenario = p.scenario.value;
       age = p.age;
     } };
 
-    ghost invariant = { λ p. IsPacked N.told p.streams.seed p.in_flight p.held p.hosts.timers (record {
-      world = record { clock = p.clock; places = p.streams.places; queue = p.queue; links = p.links; hosts = p.hosts.hosts };
-      scenario = p.scenario.value;
-      age = p.age;
-    }) };
+    ghost invariant = { λ p. IsPacked N.told p.streams.seed p.in_flight p.held p.hosts.timers
+        (record {
+          world = record {
+            clock = p.clock;
+            places = p.streams.places;
+            queue = p.queue;
+            links = p.links;
+            hosts = p.hosts.hosts;
+          };
+          scenario = p.scenario.value;
+          age = p.age;
+        }) };
 }
 
 impl<N: Node> Cluster<N> {
@@ -61,7 +76,9 @@ impl<N: Node> Cluster<N> {
     fn pack(&self, alloc: Global, meter: &mut N::Meter) -> Result<PackedWorld<N>, NoMemory>
         requires { IsHeld N.told self.now }
         ensures same { IfOk result (λ packed. packed ≡ in_hand self.now) }
-        ensures work { OnOk result (N.Meter.work meter.new ≡ copied_by (running self.now.parts.world) (N.Meter.work meter.old)) }
+        ensures work { OnOk result (
+            N.Meter.work meter.new ≡ copied_by (running self.now.parts.world)
+            (N.Meter.work meter.old)) }
     {
         let parts = &self.parts;
         let queue = parts.queue.pack(
@@ -69,7 +86,7 @@ impl<N: Node> Cluster<N> {
             |occurrence| copied_occurrence::<N>(alloc, occurrence),
         )?;
         let links = parts.links.pack(alloc, |msg| N::copy_msg(alloc, msg))?;
-        let timers = self.index.timers.as_slice();
+        let timers = self.tools.index.timers.as_slice();
         let hosts = PackedHosts::pack(alloc, parts.hosts.as_slice(), timers, meter)?;
         let scenario = Arc::try_clone(&self.scenario)?;
         Ok(PackedWorld {
@@ -78,8 +95,8 @@ impl<N: Node> Cluster<N> {
             queue,
             links,
             hosts,
-            in_flight: self.index.in_flight,
-            held: self.index.held,
+            in_flight: self.tools.index.in_flight,
+            held: self.tools.index.held,
             scenario,
             age: self.age,
         })
@@ -87,11 +104,12 @@ impl<N: Node> Cluster<N> {
 }
 
 impl<N: Node> World<N> {
-    /// An equal world that is kept for later. The node of each host that runs is copied, and none is turned or taken back. The
-    /// scenario is shared. The only error is want of memory.
+    /// An equal world that is kept for later. The node of each host that runs is copied, and none
+    /// is turned or taken back. The scenario is shared. The only error is want of memory.
     pub fn pack(&self, alloc: Global, meter: &mut N::Meter) -> Result<PackedWorld<N>, NoMemory>
         ensures same { IfOk result (λ packed. packed ≡ self.now) }
-        ensures work { OnOk result (N.Meter.work meter.new ≡ copied_by (running self.now.world) (N.Meter.work meter.old)) }
+        ensures work { OnOk result (
+            N.Meter.work meter.new ≡ copied_by (running self.now.world) (N.Meter.work meter.old)) }
     {
         self.cluster.pack(alloc, meter)
     }
@@ -102,7 +120,8 @@ impl<N: Node> PackedWorld<N> {
     fn parts(&self, alloc: Global, meter: &mut N::Meter) -> Result<Parts<N>, NoMemory>
         ensures seed { IfOk result (λ parts. parts.seed ≡ self.now.scenario.seed) }
         ensures world { IfOk result (λ parts. parts.world ≡ self.now.world) }
-        ensures work { OnOk result (N.Meter.work meter.new ≡ copied_by (running self.now.world) (N.Meter.work meter.old)) }
+        ensures work { OnOk result (
+            N.Meter.work meter.new ≡ copied_by (running self.now.world) (N.Meter.work meter.old)) }
     {
         let streams = Box::new(alloc, self.streams.copy())?;
         let queue = self.queue.open(
@@ -136,7 +155,8 @@ impl<N: Node> PackedWorld<N> {
     fn cluster(&self, alloc: Global, meter: &mut N::Meter) -> Result<Cluster<N>, NoMemory>
         ensures same { IfOk result (λ cluster. in_hand cluster ≡ self.now) }
         ensures held { IfOk result (λ cluster. IsHeld N.told cluster) }
-        ensures work { OnOk result (N.Meter.work meter.new ≡ copied_by (running self.now.world) (N.Meter.work meter.old)) }
+        ensures work { OnOk result (
+            N.Meter.work meter.new ≡ copied_by (running self.now.world) (N.Meter.work meter.old)) }
     {
         let setup = self.scenario.setup();
         let index = self.index(alloc)?;
@@ -145,8 +165,7 @@ impl<N: Node> PackedWorld<N> {
         let parts = self.parts(alloc, meter)?;
         Ok(Cluster {
             parts,
-            index,
-            effects,
+            tools: Tools { index, effects },
             scenario,
             age: self.age,
             spare: Vec::new(alloc),
@@ -154,11 +173,12 @@ impl<N: Node> PackedWorld<N> {
         })
     }
 
-    /// An equal world. The node of each host that runs is copied, and none is turned or taken back. The scenario is shared. The
-    /// only error is want of memory.
+    /// An equal world. The node of each host that runs is copied, and none is turned or taken back.
+    /// The scenario is shared. The only error is want of memory.
     pub fn open(&self, alloc: Global, meter: &mut N::Meter) -> Result<World<N>, NoMemory>
         ensures same { IfOk result (λ world. world ≡ self.now) }
-        ensures work { OnOk result (N.Meter.work meter.new ≡ copied_by (running self.now.world) (N.Meter.work meter.old)) }
+        ensures work { OnOk result (
+            N.Meter.work meter.new ≡ copied_by (running self.now.world) (N.Meter.work meter.old)) }
     {
         let cluster = self.cluster(alloc, meter)?;
         let cluster = Box::new(alloc, cluster)?;

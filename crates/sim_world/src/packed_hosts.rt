@@ -32,12 +32,16 @@ impl<S> Model for PackedHosts<S> {
 
     ghost Value = { HostsInHand S };
 
-    ghost view = { λ p. record { hosts = hosts_in p.kept.items p.disks; timers = timers_in p.kept.items } };
+    ghost view = { λ p. record {
+      hosts = hosts_in p.kept.items p.disks;
+      timers = timers_in p.kept.items;
+    } };
 
     ghost invariant = { λ p. length p.disks ≡ length p.kept.items };
 }
 
-// How many stable bytes and how many writes the disks of hosts have together. It is told to make room alone.
+// How many stable bytes and how many writes the disks of hosts have together. It is told to make
+// room alone.
 fn room_of<S>(hosts: &[Host<S>]) -> (usize, usize) {
     let mut bytes: usize = 0;
     let mut writes: usize = 0;
@@ -55,7 +59,8 @@ fn copied_node<N: Node>(
     meter: &mut N::Meter,
 ) -> Result<Option<N>, NoMemory>
     ensures node { IfOk result (λ copy. copy ≡ node.now) }
-    ensures work { OnOk result (N.Meter.work meter.new ≡ copied_if (is_some node.now) (N.Meter.work meter.old)) }
+    ensures work { OnOk result (
+        N.Meter.work meter.new ≡ copied_if (is_some node.now) (N.Meter.work meter.old)) }
 {
     match node {
         None => Ok(None),
@@ -75,7 +80,8 @@ fn packed_disks<S>(alloc: Global, hosts: &[Host<S>]) -> Result<PackedDisks, NoMe
     Ok(disks)
 }
 
-// Hosts without their disks, whose pending timers have these serials. The nodes of those that run are copied.
+// Hosts without their disks, whose pending timers have these serials. The nodes of those that run
+// are copied.
 fn kept_hosts<N: Node>(
     alloc: Global,
     hosts: &[Host<N>],
@@ -83,10 +89,13 @@ fn kept_hosts<N: Node>(
     meter: &mut N::Meter,
 ) -> Result<Vec<KeptHost<N>>, NoMemory>
     requires { length timers.now ≡ length hosts.now }
-    ensures hosts { IfOk result (λ kept. hosts_in kept.items (map (λ host. host.disk) hosts.now) ≡ hosts.now) }
+    ensures hosts { IfOk result (λ kept.
+        hosts_in kept.items (map (λ host. host.disk) hosts.now) ≡ hosts.now) }
     ensures timers { IfOk result (λ kept. timers_in kept.items ≡ timers.now) }
     ensures count { IfOk result (λ kept. length kept.items ≡ length hosts.now) }
-    ensures work { OnOk result (N.Meter.work meter.new ≡ copied_by (count_by (λ host. is_some host.node) hosts.now) (N.Meter.work meter.old)) }
+    ensures work { OnOk result (
+        N.Meter.work meter.new ≡ copied_by (count_by (λ host. is_some host.node) hosts.now)
+        (N.Meter.work meter.old)) }
 {
     let mut kept = Vec::with_capacity(alloc, hosts.len())?;
     for i in 0..hosts.len() {
@@ -102,7 +111,8 @@ fn kept_hosts<N: Node>(
 }
 
 impl<N: Node> PackedHosts<N> {
-    /// Equal hosts, whose pending timers have these serials. The nodes of those that run are copied.
+    /// Equal hosts, whose pending timers have these serials. The nodes of those that run are
+    /// copied.
     pub(crate) fn pack(
         alloc: Global,
         hosts: &[Host<N>],
@@ -111,7 +121,9 @@ impl<N: Node> PackedHosts<N> {
     ) -> Result<PackedHosts<N>, NoMemory>
         requires { length timers.now ≡ length hosts.now }
         ensures hosts { IfOk result (λ p. p ≡ record { hosts = hosts.now; timers = timers.now }) }
-        ensures work { OnOk result (N.Meter.work meter.new ≡ copied_by (count_by (λ host. is_some host.node) hosts.now) (N.Meter.work meter.old)) }
+        ensures work { OnOk result (
+            N.Meter.work meter.new ≡ copied_by (count_by (λ host. is_some host.node) hosts.now)
+            (N.Meter.work meter.old)) }
     {
         let disks = packed_disks(alloc, hosts)?;
         let kept = kept_hosts(alloc, hosts, timers, meter)?;
@@ -122,7 +134,8 @@ impl<N: Node> PackedHosts<N> {
     fn host(&self, alloc: Global, number: usize, meter: &mut N::Meter) -> Result<Host<N>, NoMemory>
         requires { number < length self.now.hosts }
         ensures host { IfOk result (λ host. slice_get self.now.hosts number ≡ Some host) }
-        ensures work { IfOk result (λ host. N.Meter.work meter.new ≡ copied_if (is_some host.node) (N.Meter.work meter.old)) }
+        ensures work { IfOk result (λ host.
+            N.Meter.work meter.new ≡ copied_if (is_some host.node) (N.Meter.work meter.old)) }
     {
         let kept = &self.kept[number];
         let node = copied_node(alloc, &kept.node, meter)?;
@@ -141,7 +154,9 @@ impl<N: Node> PackedHosts<N> {
         meter: &mut N::Meter,
     ) -> Result<Vec<Host<N>>, NoMemory>
         ensures hosts { IfOk result (λ hosts. hosts.items ≡ self.now.hosts) }
-        ensures work { OnOk result (N.Meter.work meter.new ≡ copied_by (count_by (λ host. is_some host.node) self.now.hosts) (N.Meter.work meter.old)) }
+        ensures work { OnOk result (
+            N.Meter.work meter.new ≡ copied_by (count_by (λ host. is_some host.node) self.now.hosts)
+            (N.Meter.work meter.old)) }
     {
         let mut hosts = Vec::with_capacity(alloc, self.kept.len())?;
         for number in 0..self.kept.len() {

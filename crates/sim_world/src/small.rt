@@ -4,7 +4,8 @@ use sim_disk::DiskUndo;
 use sim_links::LinkUndo;
 use sim_queue::Item;
 
-/// A small change of a world, as contracts see it. The code builds none: it keeps the same as `Compact`, in less memory.
+/// A small change of a world, as contracts see it. The code builds none: it keeps the same as
+/// `Compact`, in less memory.
 #[derive(Drop)]
 pub enum Small<S, M, U> {
     /// An occurrence was taken out: by a step, for a new timer, by a crash.

@@ -1,12 +1,16 @@
-//! What a world shows: whether an event can happen, looks at it by queries, and single facts for what asks them after each step.
-ghost use Rattle.std.specs.Prelude.{◌≡◌, ℕ, ◌+◌, ◌-◌, ◌<◌, ◌≤◌, ◌&&◌, [], ◌∷◌, nat_le, length, MatchResult, Option, None, Some, IsSome, OnOk, nat_lt, not, is_some, if◌then◌else◌, ◌^◌, ◌*◌, drop};
+//! What a world shows: whether an event can happen, looks at it by queries, and single facts for
+//! what asks them after each step.
+ghost use Rattle.std.specs.Prelude.{◌≡◌, ℕ, ◌+◌, ◌-◌, ◌<◌, ◌≤◌, ◌&&◌, [], ◌∷◌, nat_le, length};
+ghost use Rattle.std.specs.Prelude.{MatchResult, Option, None, Some, IsSome, OnOk, nat_lt, not};
+ghost use Rattle.std.specs.Prelude.{is_some, if◌then◌else◌, ◌^◌, ◌*◌, drop};
 ghost use Rattle.std.specs.Option.{option_map};
 ghost use Rattle.std.specs.List.{list_any, list_all};
 ghost use Rattle.sim_queue.specs.Pending.{first};
 ghost use Rattle.sim_streams.specs.Word.{network, torn, stream_of};
 ghost use Rattle.sim_links.specs.Link.{link};
 ghost use Rattle.sim_world.specs.World.{place, runs, host_at, held_messages};
-ghost use Rattle.sim_world.specs.Events.{Rules, rules, can_go_on, refusal_of, hosts_refusal, hosts_of, next};
+ghost use Rattle.sim_world.specs.Events.{Rules, rules, can_go_on, refusal_of, hosts_refusal};
+ghost use Rattle.sim_world.specs.Events.{hosts_of, next};
 ghost use Rattle.sim_world.specs.Looks.{looked, coming, kind_of, CanLook};
 ghost use Rattle.sim_world.specs.declared.Query.TheVariants as query;
 ghost use Rattle.sim_world.specs.declared.View.TheVariants as view;
@@ -44,7 +48,8 @@ fn two_hosts(hosts: u16, a: u16, b: u16) -> Option<Refusal>
 }
 
 impl Scenario {
-    /// Why a fault can't happen: one of its hosts is not there, or a fault of a link names one host twice. The first is tested first.
+    /// Why a fault can't happen: one of its hosts is not there, or a fault of a link names one host
+    /// twice. The first is tested first.
     pub fn refusal(&self, fault: Fault) -> Option<Refusal>
         ensures { result ≡ hosts_refusal self.now.setup.hosts (hosts_of fault) }
     {
@@ -61,7 +66,8 @@ impl Scenario {
     }
 }
 
-// Whether the clock can go on to a time (ms): it is no earlier, at most 60,000 ms later, and nothing is due before it.
+// Whether the clock can go on to a time (ms): it is no earlier, at most 60,000 ms later, and
+// nothing is due before it.
 fn can_go_on<M>(clock: u64, queue: &Queue<Occurrence<M>>, to: u64) -> bool
     ensures { result ≡ can_go_on clock queue.now.items to }
 {
@@ -113,7 +119,8 @@ fn step_refusal<M>(queue: &Queue<Occurrence<M>>) -> Option<Refusal>
 
 // Why the clock can't go on to a time (ms).
 fn advance_refusal<M>(clock: u64, queue: &Queue<Occurrence<M>>, to: u64) -> Option<Refusal>
-    ensures { result ≡ (if can_go_on clock queue.now.items to then None else Some Refusal.BadAdvance) }
+    ensures { result ≡ (if can_go_on clock queue.now.items to then None
+        else Some Refusal.BadAdvance) }
 {
     if can_go_on(clock, queue, to) {
         return None;
@@ -197,7 +204,8 @@ impl<N: Node> Parts<N> {
     fn probe_view(&self, h: u16, k: u8) -> View
         requires host { h < length self.now.world.hosts }
         requires probe { k < N.PROBES }
-        ensures { result ≡ view.Probe h k (option_map (λ state. N.laws.probe state k) (host_at h self.now.world).node) }
+        ensures { result ≡ view.Probe h k (option_map (λ state.
+            N.laws.probe state k) (host_at h self.now.world).node) }
     {
         let host = &self.hosts[h as usize];
         View::Probe {
@@ -216,13 +224,16 @@ impl<N: Node> World<N> {
         self.cluster.age
     }
 
-    /// Whether an event can happen, and if not, why: a fault names a host that is not there, or a fault of a link one host twice;
-    /// nothing is pending for a step; a time to advance to is earlier than the clock, more than 60,000 ms later, or after the due
-    /// of what is pending.
+    /// Whether an event can happen, and if not, why: a fault names a host that is not there, or a
+    /// fault of a link one host twice; nothing is pending for a step; a time to advance to is
+    /// earlier than the clock, more than 60,000 ms later, or after the due of what is pending.
     pub fn can(&self, event: Event) -> Result<(), Refusal>
-        ensures answer { MatchResult result (λ _. refusal_of (rules N.laws N.PROBES self.now.scenario) event self.now.world ≡ None)
-            (λ why. refusal_of (rules N.laws N.PROBES self.now.scenario) event self.now.world ≡ Some why) }
-        ensures leads { OnOk result (IsSome (next (rules N.laws N.PROBES self.now.scenario) self.now.world event)) }
+        ensures answer { MatchResult result (λ _.
+            refusal_of (rules N.laws N.PROBES self.now.scenario) event self.now.world ≡ None)
+            (λ why. refusal_of (rules N.laws N.PROBES self.now.scenario) event self.now.world
+            ≡ Some why) }
+        ensures leads { OnOk result (
+            IsSome (next (rules N.laws N.PROBES self.now.scenario) self.now.world event)) }
     {
         let cluster = &*self.cluster;
         match cluster.parts.refusal(&cluster.scenario, event) {
@@ -231,14 +242,15 @@ impl<N: Node> World<N> {
         }
     }
 
-    /// What a query shows. Its hosts are below the number of hosts, and its probe is below the number of probes.
+    /// What a query shows. Its hosts are below the number of hosts, and its probe is below the
+    /// number of probes.
     pub fn look(&self, query: Query) -> View
         requires { CanLook self.now.scenario.setup.hosts N.PROBES query }
         ensures { result ≡ looked (rules N.laws N.PROBES self.now.scenario) query self.now.world }
     {
         let cluster = &*self.cluster;
         match query {
-            Query::Summary => cluster.parts.summary(cluster.index.held),
+            Query::Summary => cluster.parts.summary(cluster.tools.index.held),
             Query::Next => View::Next(next(&cluster.parts.queue)),
             Query::HostView(h) => cluster.parts.host_view(h),
             Query::Link(a, b) => cluster.parts.link_view(a, b),
@@ -301,7 +313,8 @@ impl<N: Node> World<N> {
     pub fn probe(&self, host: u16, probe: u8) -> Option<u64>
         requires host { host < self.now.scenario.setup.hosts }
         requires probe { probe < N.PROBES }
-        ensures { result ≡ option_map (λ state. N.laws.probe state probe) (host_at host self.now.world).node }
+        ensures { result ≡ option_map (λ state. N.laws.probe state probe)
+            (host_at host self.now.world).node }
     {
         match &self.cluster.parts.hosts[host as usize].node {
             None => None,
@@ -311,7 +324,8 @@ impl<N: Node> World<N> {
 
     /// Whether all clients are done.
     pub fn are_clients_done(&self) -> bool
-        ensures { result ≡ list_all (λ h. h.done) (drop self.now.scenario.setup.servers self.now.world.hosts) }
+        ensures { result ≡ list_all (λ h. h.done)
+            (drop self.now.scenario.setup.servers self.now.world.hosts) }
     {
         let servers = self.cluster.scenario.servers();
         are_all_done(&self.cluster.parts.hosts.as_slice()[servers as usize..])

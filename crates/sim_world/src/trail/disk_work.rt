@@ -34,7 +34,8 @@ impl DiskWork {
     #[inline(always)]
     pub(crate) fn add<S, M, U>(&mut self, host: u16, undo: LightUndo) -> bool
         ensures added { OnTrue result (disk_changes {State = S} {Msg = M} {Undo = U} self.new
-            ≡ disk_changes {State = S} {Msg = M} {Undo = U} self.old ++ compact.Stored host (whole undo) ∷ []) }
+            ≡ disk_changes {State = S} {Msg = M} {Undo = U} self.old
+            ++ compact.Stored host (whole undo) ∷ []) }
         ensures refused { OnFalse result (self.new ≡ self.old) }
     {
         match (*self, undo) {

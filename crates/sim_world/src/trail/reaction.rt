@@ -3,8 +3,8 @@ ghost use Rattle.std.specs.Prelude.{◌≡◌, None, Some, is_some, not};
 
 use std::marker::Model;
 
-/// The host whose node reacted and the record of the reaction, or none. A record that is done with is not touched until
-/// another one takes its place, so it costs next to nothing to clear this.
+/// The host whose node reacted and the record of the reaction, or none. A record that is done with
+/// is not touched until another one takes its place, so it costs next to nothing to clear this.
 #[derive(Drop)]
 pub(crate) struct Reaction<U> {
     is_there: bool,

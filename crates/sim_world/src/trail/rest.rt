@@ -20,11 +20,13 @@ enum TimerChange {
     TookTimer { host: u16, due: u64, serial: u64 },
     /// An occurrence was queued.
     Queued,
-    /// The timer of a host was taken out, which had this due and this serial, and then an occurrence was queued.
+    /// The timer of a host was taken out, which had this due and this serial, and then an
+    /// occurrence was queued.
     Reset { host: u16, due: u64, serial: u64 },
 }
 
-/// Changes in order: what was done with the disk of a host, then the setting of a timer, then any others. Only the others take memory.
+/// Changes in order: what was done with the disk of a host, then the setting of a timer, then any
+/// others. Only the others take memory.
 #[derive(Drop)]
 pub(crate) struct Rest<S, M, U> {
     disk: DiskWork,

@@ -98,7 +98,7 @@ returns-clause-leads g c =
     (record { world = c.event.new.self.world; scenario = i.scenario.value; age = i.age + 1 })) (sym v.beside)
     (applied_leads told laws probes i.scenario.value i.age i.parts.world held.sound c.event.new.self.world c.args.event young can is law
     g.N.Node.records c.event.new.undo.changes v.trail
-    i.index (changing_host c.args.event i.parts.world) held.index refl lt)
+    i.tools.index (changing_host c.args.event i.parts.world) held.index refl lt)
 
 pub event-requires-clause-can : goal.event-requires-clause-can
 event-requires-clause-can g c =

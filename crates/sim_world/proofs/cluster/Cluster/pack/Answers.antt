@@ -14,7 +14,7 @@ invariant_of-result g c =
     let world = world-same parts.clock _ parts.streams.value.places _ parts.queue _ parts.links _ parts.hosts.items
     (ap (λ s. s.places) streams) c.in_ok-queue.ensures c.in_ok-links.ensures hosts ∙ ap (λ p. p.world) c.parts.view_is in
     let same = hand-same _ (in_hand k) _ c.in_ok-scenario.scenario.value (ap (λ x. in_hand x) c.self.view_is) world c.in_ok-scenario.ensures in
-    packed-same g.N.Node.told k c.copy.result.seed c.self.inside.index.in_flight c.self.inside.index.held c.in_ok-hosts.hosts.timers _
+    packed-same g.N.Node.told k c.copy.result.seed c.self.inside.tools.index.in_flight c.self.inside.tools.index.held c.in_ok-hosts.hosts.timers _
     c.requires same
     (ap (λ s. s.seed) streams ∙ (ap (λ p. p.seed) c.parts.view_is ∙ ap (λ x. x.parts.seed) c.self.view_is))
     (ap (λ x. x.index.in_flight) c.self.view_is) (ap (λ x. x.index.held) c.self.view_is)

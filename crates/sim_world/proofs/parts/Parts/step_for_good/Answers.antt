@@ -19,7 +19,7 @@ happen-requires-clause-given g c =
     let v = seeded i.streams.value.seed (world x.due i.streams.value.places c.take_first.new.self i.links i.hosts.items) in
     let first_is = ap (λ z. first z.world.queue.items) (sym c.self.view_is) ∙ sym t.item in
     let b = ap (λ q. seeded i.streams.value.seed (world x.due i.streams.value.places q i.links i.hosts.items)) t.rest ∙ ap (on_world (begun x)) c.self.view_is in
-    given_first g.N.Node.told c.args.sc.now p v x o.host o.covered o.input c.args.index.now c.forget.new.self c.args.effects.now
+    given_first g.N.Node.told c.args.sc.now p v x o.host o.covered o.input c.args.tools.now.index c.forget.new.self c.args.tools.now.effects
     c.occurrence.view_is first_is b c.requires.seed c.requires.ready c.requires.index c.requires.spent n.in_flight n.held n.timers
 
 pub returns-clause-others : goal.returns-clause-others
