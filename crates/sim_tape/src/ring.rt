@@ -1,5 +1,6 @@
 //! The records of the last events.
-ghost use Rattle.std.specs.Prelude.{◌≡◌, ◌⊎◌, ℕ, ◌+◌, ◌-◌, ◌<◌, ◌≤◌, [], ◌∷◌, ◌++◌, length, take, drop, Some, IfOk, OnOk, IsSome};
+ghost use Rattle.std.specs.Prelude.{◌≡◌, ◌⊎◌, ℕ, ◌+◌, ◌-◌, ◌<◌, ◌≤◌, [], ◌∷◌, ◌++◌, length, take};
+ghost use Rattle.std.specs.Prelude.{drop, Some, IfOk, OnOk, IsSome};
 ghost use Rattle.std.specs.Vec.{vec_capacity};
 ghost use Rattle.sim_world.specs.Clock.{clock_after};
 ghost use Rattle.sim_world.specs.Acts.{turns_of, turned_by};
@@ -14,8 +15,9 @@ use sim_world::{Event, Undo, World};
 use std::alloc::Global;
 use std::marker::Model;
 
-/// The records of the last events. They stand in a circle of slots, of which there is one more than records are kept: a record is
-/// filled in its slot and never moved, and what it has taken of memory stays there for the next one.
+/// The records of the last events. They stand in a circle of slots, of which there is one more than
+/// records are kept: a record is filled in its slot and never moved, and what it has taken of
+/// memory stays there for the next one.
 #[derive(Drop)]
 pub(crate) struct Ring<N: Node> {
     // Those that were needed so far, with room for all.
@@ -52,13 +54,15 @@ fn past_the_last<N: Node>(alloc: Global, slots: &mut Vec<Undo<N>>, capacity: usi
     requires room { capacity < vec_capacity slots.old }
     requires some { 0 < length slots.old.items }
     requires most { length slots.old.items ≤ capacity + 1 }
-    ensures turned { keep_last (length slots.old.items) (around result slots.new.items) ≡ slots.old.items }
+    ensures turned { keep_last (length slots.old.items)
+        (around result slots.new.items) ≡ slots.old.items }
     ensures inside { result < length slots.new.items }
     ensures more { length slots.old.items ≤ length slots.new.items }
     ensures most { length slots.new.items ≤ capacity + 1 }
     ensures room { capacity < vec_capacity slots.new }
     ensures growing { length slots.new.items ≤ capacity → result ≡ length slots.old.items }
-    ensures grown { length slots.old.items ≤ capacity → length slots.old.items < length slots.new.items }
+    ensures grown { length slots.old.items ≤ capacity →
+        length slots.old.items < length slots.new.items }
 {
     let made = slots.len();
     if capacity < made {
@@ -79,7 +83,8 @@ fn slot_after<N: Node>(
     requires room { capacity < vec_capacity slots.old }
     requires inside { slot < length slots.old.items }
     requires most { length slots.old.items ≤ capacity + 1 }
-    ensures turned { keep_last (length slots.old.items) (around result slots.new.items) ≡ turned (around slot slots.old.items) }
+    ensures turned { keep_last (length slots.old.items) (around result slots.new.items) ≡ turned
+        (around slot slots.old.items) }
     ensures inside { result < length slots.new.items }
     ensures more { length slots.old.items ≤ length slots.new.items }
     ensures most { length slots.new.items ≤ capacity + 1 }
@@ -125,8 +130,8 @@ impl<N: Node> Ring<N> {
         self.len
     }
 
-    /// The world after an event that can happen, whose record is kept as the newest; of a full ring the oldest goes. The only error
-    /// is want of memory; the records are of no use then.
+    /// The world after an event that can happen, whose record is kept as the newest; of a full ring
+    /// the oldest goes. The only error is want of memory; the records are of no use then.
     pub fn apply(
         &mut self,
         alloc: Global,
@@ -136,13 +141,16 @@ impl<N: Node> Ring<N> {
     ) -> Result<World<N>, NoMemory>
         requires can { IsSome (next (rules N.laws N.PROBES world.scenario) world.world event) }
         requires young { world.age < 65536 }
-        ensures kept { IfOk result (λ w. IsKept N.told N.records (rules N.laws N.PROBES world.scenario) self.old.capacity self.old.items world.world event
+        ensures kept { IfOk result (λ w.
+            IsKept N.told N.records (rules N.laws N.PROBES world.scenario)
+            self.old.capacity self.old.items world.world event
             self.new.items w) }
         ensures clock { IfOk result (λ w. w.world.clock ≡ clock_after event world.world) }
         ensures on { IfOk result (λ w. world.world.clock ≤ w.world.clock) }
         ensures scenario { IfOk result (λ w. w.scenario ≡ world.scenario) }
         ensures age { IfOk result (λ w. w.age ≡ world.age + 1) }
-        ensures work { OnOk result (N.Meter.work meter.new ≡ turned_by (turns_of world.world event) (N.Meter.work meter.old)) }
+        ensures work { OnOk result (N.Meter.work meter.new ≡ turned_by (turns_of world.world event)
+            (N.Meter.work meter.old)) }
         ensures capacity { self.new.capacity ≡ self.old.capacity }
     {
         let after = world.apply_over(alloc, event, &mut self.slots[self.free], meter)?;
@@ -151,8 +159,8 @@ impl<N: Node> Ring<N> {
         Ok(after)
     }
 
-    /// The world before the event of the newest record, which is taken out. The only error is want of memory; the records are of no
-    /// use then.
+    /// The world before the event of the newest record, which is taken out. The only error is want
+    /// of memory; the records are of no use then.
     pub fn undo(
         &mut self,
         alloc: Global,
@@ -160,8 +168,11 @@ impl<N: Node> Ring<N> {
         meter: &mut N::Meter,
     ) -> Result<World<N>, NoMemory>
         requires some { 0 < length self.old.items }
-        requires leads { (u : Kept N N.Msg N.Undo) → last_item self.old.items ≡ Some u → LeadsBack N.told N.records u world }
-        ensures taken { IfOk result (λ w. IsTakenBack N.records self.old.items world self.new.items w (N.Meter.work meter.old) (N.Meter.work meter.new)) }
+        requires leads { (u : Kept N N.Msg N.Undo) → last_item self.old.items ≡ Some u →
+            LeadsBack N.told N.records u world }
+        ensures taken { IfOk result (λ w.
+            IsTakenBack N.records self.old.items world self.new.items w
+            (N.Meter.work meter.old) (N.Meter.work meter.new)) }
         ensures capacity { self.new.capacity ≡ self.old.capacity }
     {
         let newest = slot_before(self.slots.len(), self.free);

@@ -1,5 +1,6 @@
 //! Values that are shared and never changed.
-ghost use Rattle.std.specs.Prelude.{◌≡◌, ℕ, ◌+◌, ◌-◌, ◌*◌, ◌/◌, ◌%◌, ◌<◌, ◌≤◌, [], ◌∷◌, ◌++◌, length, take, map, slice_get, Some, IfOk, OnOk, OnErr, IsTrue};
+ghost use Rattle.std.specs.Prelude.{◌≡◌, ℕ, ◌+◌, ◌-◌, ◌*◌, ◌/◌, ◌%◌, ◌<◌, ◌≤◌, [], ◌∷◌, ◌++◌};
+ghost use Rattle.std.specs.Prelude.{length, take, map, slice_get, Some, IfOk, OnOk, OnErr, IsTrue};
 ghost use Rattle.std.specs.Arc.{arc_value};
 ghost use Rattle.sim_tape.specs.Segments.{AreFull, values_of, all_values};
 
@@ -15,8 +16,9 @@ const GROUP: usize = 8;
 /// So many shared values, which are shared together.
 type Group<T> = Arc<Vec<Arc<T>>>;
 
-/// At most 65,537 values, each of which is shared and never changed. They stand in groups, each of which is shared as a whole, and
-/// a last part. Of a list that was cut within a group only the first values count, until it grows again.
+/// At most 65,537 values, each of which is shared and never changed. They stand in groups, each of
+/// which is shared as a whole, and a last part. Of a list that was cut within a group only the
+/// first values count, until it grows again.
 #[derive(Drop)]
 pub(crate) struct SharedList<T> {
     groups: Vec<Group<T>>,
@@ -41,14 +43,16 @@ impl<T> Model for SharedList<T> {
         AreFull values_of 8 s.groups.items
         × (length s.last.items ≤ 8)
         × (s.len ≤ length (all_values s.groups.items s.last.items))
-        × (length s.groups.items * 8 ≤ s.len → length (all_values s.groups.items s.last.items) ≡ s.len)
+        × (length s.groups.items * 8 ≤ s.len →
+        length (all_values s.groups.items s.last.items) ≡ s.len)
         × (length (all_values s.groups.items s.last.items) ≤ 65537) };
 }
 
 // The first values, shared. The only error is want of memory.
 fn shared<T: Drop>(alloc: Global, values: &[Arc<T>], n: usize) -> Result<Vec<Arc<T>>, NoMemory>
     requires { n ≤ length values.now }
-    ensures { IfOk result (λ shared. map arc_value shared.items ≡ take n (map arc_value values.now)) }
+    ensures { IfOk result (λ shared.
+        map arc_value shared.items ≡ take n (map arc_value values.now)) }
 {
     let mut shared = Vec::with_capacity(alloc, n)?;
     for i in 0..n {
@@ -57,8 +61,8 @@ fn shared<T: Drop>(alloc: Global, values: &[Arc<T>], n: usize) -> Result<Vec<Arc
     Ok(shared)
 }
 
-// Makes the last part that of the group in which a list of so many values was cut. The only error is want of memory; nothing
-// changes then.
+// Makes the last part that of the group in which a list of so many values was cut. The only error
+// is want of memory; nothing changes then.
 fn reopen<T: Drop>(
     alloc: Global,
     groups: &mut Vec<Group<T>>,
@@ -67,7 +71,8 @@ fn reopen<T: Drop>(
 ) -> Result<(), NoMemory>
     requires full { AreFull values_of 8 groups.old.items }
     requires cut { len < length groups.old.items * 8 }
-    ensures ok { OnOk result (all_values groups.new.items last.new.items ≡ take len (all_values groups.old.items last.old.items)) }
+    ensures ok { OnOk result (all_values groups.new.items last.new.items ≡ take len
+        (all_values groups.old.items last.old.items)) }
     ensures full { AreFull values_of 8 groups.new.items }
     ensures short { OnOk result (length last.new.items < 8) }
     ensures groups { OnErr result (groups.new ≡ groups.old) }
@@ -87,7 +92,8 @@ fn seal<T: Drop>(
 ) -> Result<(), NoMemory>
     requires { length last.old.items ≡ 8 }
     ensures full { AreFull values_of 8 groups.old.items → AreFull values_of 8 groups.new.items }
-    ensures same { all_values groups.new.items last.new.items ≡ all_values groups.old.items last.old.items }
+    ensures same { all_values groups.new.items last.new.items ≡
+        all_values groups.old.items last.old.items }
     ensures empty { OnOk result (last.new.items ≡ []) }
     ensures groups { OnErr result (groups.new.items ≡ groups.old.items) }
     ensures last { OnErr result (last.new ≡ last.old) }
@@ -111,11 +117,13 @@ fn cut<T: Drop>(groups: &mut Vec<Group<T>>, last: &mut Vec<Arc<T>>, count: usize
     requires full { AreFull values_of 8 groups.old.items }
     requires within { count ≤ length (all_values groups.old.items last.old.items) }
     requires few { length (all_values groups.old.items last.old.items) ≤ 65537 }
-    ensures same { take count (all_values groups.new.items last.new.items) ≡ take count (all_values groups.old.items last.old.items) }
+    ensures same { take count (all_values groups.new.items last.new.items) ≡ take count
+        (all_values groups.old.items last.old.items) }
     ensures full { AreFull values_of 8 groups.new.items }
     ensures short { length last.new.items ≤ length last.old.items }
     ensures within { count ≤ length (all_values groups.new.items last.new.items) }
-    ensures whole { length groups.new.items * 8 ≤ count → length (all_values groups.new.items last.new.items) ≡ count }
+    ensures whole { length groups.new.items * 8 ≤ count →
+        length (all_values groups.new.items last.new.items) ≡ count }
     ensures few { length (all_values groups.new.items last.new.items) ≤ 65537 }
 {
     let grouped = groups.len() * GROUP;

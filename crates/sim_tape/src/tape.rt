@@ -1,15 +1,20 @@
 //! A run as a tape.
-ghost use Rattle.std.specs.Prelude.{◌≡◌, ℕ, ◌+◌, ◌-◌, ◌*◌, ◌/◌, ◌%◌, ◌==◌, ◌<◌, ◌≤◌, ◌≢◌, [], ◌∷◌, ◌++◌, if◌then◌else◌};
-ghost use Rattle.std.specs.Prelude.{true, false, length, take, map, min, IfOk, IfErr, OnOk, OnErr, IsOk, IsSome, Some, None, IsTrue, MatchOption};
+ghost use Rattle.std.specs.Prelude.{◌≡◌, ℕ, ◌+◌, ◌-◌, ◌*◌, ◌/◌, ◌%◌, ◌==◌, ◌<◌, ◌≤◌, ◌≢◌, [], ◌∷◌};
+ghost use Rattle.std.specs.Prelude.{◌++◌, if◌then◌else◌};
+ghost use Rattle.std.specs.Prelude.{true, false, length, take, map, min, IfOk, IfErr, OnOk, OnErr};
+ghost use Rattle.std.specs.Prelude.{IsOk, IsSome, Some, None, IsTrue, MatchOption};
 ghost use Rattle.std.specs.Vec.{vec_len, vec_capacity};
 ghost use Rattle.std.specs.Bool.{OnTrue};
 ghost use Rattle.std.specs.Arc.{arc_value};
 ghost use Rattle.sim_world.specs.Clock.{clock_after};
 ghost use Rattle.sim_world.specs.Events.{rules, run, refusal_of, IsRunnable};
-ghost use Rattle.sim_tape.specs.Tape.{opened, at, with_world, first_events, with_event, raised, is_within_reach, reach_at, reach_here, is_near_ahead};
+ghost use Rattle.sim_tape.specs.Tape.{opened, at, with_world, IsMoved, KeepsRun, first_events};
+ghost use Rattle.sim_tape.specs.Tape.{with_event, raised};
+ghost use Rattle.sim_tape.specs.Tape.{is_within_reach, reach_at, reach_here, is_near_ahead};
 ghost use Rattle.sim_tape.specs.Inside.{IsRun};
 ghost use Rattle.sim_tape.specs.Places.{events_of, world_of, AreCheckpoints};
-ghost use Rattle.sim_tape.specs.Works.{OnlyTurns, Plays, nodes_below, rules_of, TakesBack, MakesAnew, JumpsTo, AddsAtEnd, RenewsAndAdds, Opens};
+ghost use Rattle.sim_tape.specs.Works.{OnlyTurns, Plays, nodes_below, rules_of, TakesBack};
+ghost use Rattle.sim_tape.specs.Works.{MakesAnew, JumpsTo, AddsAtEnd, RenewsAndAdds, Opens};
 
 use crate::NoMemory;
 use crate::entry::Entry;
@@ -24,8 +29,9 @@ use std::alloc::Global;
 use std::marker::Model;
 use std::sync::Arc;
 
-/// The kept events of a run, a place among them, and where memory allowed it the world there, with the records of the last
-/// events before it. A checkpoint, which is shared and never changed, stands at the start and after each interval of events.
+/// The kept events of a run, a place among them, and where memory allowed it the world there, with
+/// the records of the last events before it. A checkpoint, which is shared and never changed,
+/// stands at the start and after each interval of events.
 #[derive(Drop)]
 pub struct Tape<N: Node> {
     log: Log,
@@ -53,13 +59,16 @@ impl<N: Node> Model for Tape<N> {
 
     ghost invariant = { λ t.
         IsRun (rules N.laws N.PROBES t.log.scenario) t.log.entries
-        × AreCheckpoints (rules N.laws N.PROBES t.log.scenario) (events_of t.log.entries) t.checkpoints.items
-        × IsWalk N.told N.records (rules N.laws N.PROBES t.log.scenario) (events_of t.log.entries) t.place t.walk.world t.walk.ring.items
+        × AreCheckpoints (rules N.laws N.PROBES t.log.scenario) (events_of t.log.entries)
+        t.checkpoints.items
+        × IsWalk N.told N.records (rules N.laws N.PROBES t.log.scenario) (events_of t.log.entries)
+        t.place t.walk.world t.walk.ring.items
         × (t.walk.ring.capacity ≡ t.log.scenario.window)
         × (length t.walk.ring.items ≤ t.log.scenario.window) };
 }
 
-// Why an event was not added: the lists can't grow, and nothing has changed; or its world can't be made.
+// Why an event was not added: the lists can't grow, and nothing has changed; or its world can't be
+// made.
 #[derive(Clone, Copy)]
 enum AddError {
     Growth,
@@ -86,7 +95,8 @@ impl<N: Node> Tape<N> {
         meter: &mut N::Meter,
     ) -> Result<Tape<N>, NoMemory>
         ensures tape { IfOk result (λ t. t ≡ opened scenario.now) }
-        ensures work { OnOk result (Opens N.laws N.PROBES scenario.now (N.Meter.work meter.old) (N.Meter.work meter.new)) }
+        ensures work { OnOk result (Opens N.laws N.PROBES scenario.now
+            (N.Meter.work meter.old) (N.Meter.work meter.new)) }
     {
         let world = World::start(alloc, scenario, meter)?;
         let first = Arc::new(alloc, world.pack(alloc, meter)?)?;
@@ -116,13 +126,22 @@ impl<N: Node> Tape<N> {
     pub fn len(&self) -> u32
         ensures value { result ≡ length self.now.events }
         ensures few { length self.now.events ≤ 65536 }
-        ensures runs { IsRunnable (rules_of N.laws N.PROBES self.now) self.now.events }
         ensures reach { self.now.reach ≤ self.now.scenario.window }
     {
         self.log.len() as u32
     }
 
-    /// Whether the world at the place is there. Where it is not, no event can be taken back by its record.
+    /// The laws of every tape, as clauses: its events can happen one after the other, and its place
+    /// is among them. The call does nothing.
+    pub fn laws(&self)
+        ensures runs { IsRunnable (rules_of N.laws N.PROBES self.now) self.now.events }
+        ensures within { self.now.place ≤ length self.now.events }
+    {
+        prove!(self.place as usize <= self.log.len());
+    }
+
+    /// Whether the world at the place is there. Where it is not, no event can be taken back by its
+    /// record.
     pub fn warm(&self) -> bool
         ensures value { result ≡ self.now.warm }
         ensures cold { self.now.warm ≡ false → self.now.reach ≡ 0 }
@@ -133,7 +152,8 @@ impl<N: Node> Tape<N> {
 
     /// By how many events the tape can go back by their records.
     pub fn reach(&self) -> u32
-        ensures { result ≡ self.now.reach }
+        ensures value { result ≡ self.now.reach }
+        ensures within { self.now.reach ≤ self.now.place }
     {
         self.walk.ring.len() as u32
     }
@@ -160,7 +180,8 @@ impl<N: Node> Tape<N> {
     /// The world at the place, which is there.
     pub fn here(&self) -> &World<N>
         requires { IsTrue self.now.warm }
-        ensures run { run (rules_of N.laws N.PROBES self.now) (take self.now.place self.now.events) ≡ Some result.now.world }
+        ensures run { run (rules_of N.laws N.PROBES self.now)
+            (take self.now.place self.now.events) ≡ Some result.now.world }
         ensures world { result.now.world ≡ world_of (rules_of N.laws N.PROBES self.now) self.now }
         ensures scenario { result.now.scenario ≡ self.now.scenario }
     {
@@ -179,29 +200,36 @@ impl<N: Node> Tape<N> {
         self.checkpoints.truncate(place / self.log.interval() + 1);
     }
 
-    /// Goes to a place by the nearest way: it takes events back within the reach, walks on, or makes
-    /// the world anew from the checkpoint at or below the place, with fewer turns than the interval.
-    /// The only error is want of memory; the tape may be cold then. A warm tape that is at the place
-    /// already wants none.
+    /// Goes to a place by the nearest way: it takes events back within the reach, walks on, or
+    /// makes the world anew from the checkpoint at or below the place, with fewer turns than the
+    /// interval. The only error is want of memory; the tape may be cold then. A warm tape that is
+    /// at the place already wants none.
     pub fn goto(&mut self, alloc: Global, to: u32, meter: &mut N::Meter) -> Result<(), NoMemory>
         requires { to ≤ length self.old.events }
-        ensures ok { OnOk result (self.new ≡ with_world true self.new.reach (at to self.old)) }
+        ensures ok { OnOk result (IsMoved to self.old self.new) }
         ensures reach { OnOk result (self.new.reach ≡ reach_at to self.old) }
-        ensures within { OnOk result (IsTrue (is_within_reach to self.old) → self.new.reach ≡ self.old.reach - (self.old.place - to)) }
+        ensures within { OnOk result (IsTrue (is_within_reach to self.old) →
+            self.new.reach ≡ self.old.reach - (self.old.place - to)) }
         ensures undos { OnOk result (IsTrue (is_within_reach to self.old) →
-            TakesBack N.laws N.PROBES (self.old.place - to) to self.old (N.Meter.work meter.old) (N.Meter.work meter.new)) }
+            TakesBack N.laws N.PROBES (self.old.place - to) to self.old
+            (N.Meter.work meter.old) (N.Meter.work meter.new)) }
         ensures ahead { OnOk result (IsTrue (is_near_ahead to self.old) →
             OnlyTurns (to - self.old.place) (N.Meter.work meter.old) (N.Meter.work meter.new)) }
         ensures here { IsTrue self.old.warm → to ≡ self.old.place →
-            IsOk result × (self.new ≡ self.old) × (N.Meter.work meter.new ≡ N.Meter.work meter.old) }
-        ensures work { OnOk result (JumpsTo N.laws N.PROBES to self.old (N.Meter.work meter.old) (N.Meter.work meter.new)) }
-        ensures anew { OnOk result (self.old.warm ≡ false → MakesAnew N.laws N.PROBES to self.old (N.Meter.work meter.old) (N.Meter.work meter.new)) }
-        ensures near { OnOk result (self.old.warm ≡ false → Plays (to % self.old.scenario.interval)
-            (nodes_below (rules_of N.laws N.PROBES self.old) to self.old.events) (N.Meter.work meter.old) (N.Meter.work meter.new)) }
-        ensures past { OnOk result (is_within_reach to self.old ≡ false → is_near_ahead to self.old ≡ false →
-            Plays (to % self.old.scenario.interval) (nodes_below (rules_of N.laws N.PROBES self.old) to self.old.events)
+            IsOk result × (self.new ≡ self.old) ×
+            (N.Meter.work meter.new ≡ N.Meter.work meter.old) }
+        ensures work { OnOk result (JumpsTo N.laws N.PROBES to self.old
             (N.Meter.work meter.old) (N.Meter.work meter.new)) }
-        ensures err { OnErr result (self.new ≡ with_world self.new.warm self.new.reach self.old) }
+        ensures anew { OnOk result (is_within_reach to self.old ≡ false →
+            is_near_ahead to self.old ≡ false →
+            MakesAnew N.laws N.PROBES to self.old
+            (N.Meter.work meter.old) (N.Meter.work meter.new)) }
+        ensures past { OnOk result (is_within_reach to self.old ≡ false →
+            is_near_ahead to self.old ≡ false →
+            Plays (to % self.old.scenario.interval)
+            (nodes_below (rules_of N.laws N.PROBES self.old) to self.old.events)
+            (N.Meter.work meter.old) (N.Meter.work meter.new)) }
+        ensures err { OnErr result (KeepsRun self.old self.new) }
         ensures still_cold { OnErr result (self.old.warm ≡ false → self.new ≡ self.old) }
     {
         let place = self.place as usize;
@@ -212,42 +240,39 @@ impl<N: Node> Tape<N> {
                 return Ok(());
             }
             if target <= place && place - target <= self.walk.ring.len() {
-                self.walk
-                    .back(alloc, &self.log, place, place - target, meter)?;
+                self.walk.back(alloc, &self.log, target..place, meter)?;
                 self.place = to;
                 return Ok(());
             }
             if place < target && target - place <= target % interval {
-                self.walk.on(alloc, &self.log, place, target, meter)?;
+                self.walk.on(alloc, &self.log, place..target, meter)?;
                 self.place = to;
                 return Ok(());
             }
         }
         let whole = target / interval;
         let checkpoint = self.checkpoints.get(whole);
-        self.walk.anew(
-            alloc,
-            &self.log,
-            checkpoint,
-            whole * interval,
-            target,
-            meter,
-        )?;
+        let way = whole * interval..target;
+        self.walk.anew(alloc, &self.log, checkpoint, way, meter)?;
         self.place = to;
         Ok(())
     }
 
-    /// Makes sure of the world at the place. The only error is want of memory, on a tape that is cold.
+    /// Makes sure of the world at the place. The only error is want of memory, on a tape that is
+    /// cold.
     pub fn make_warm(&mut self, alloc: Global, meter: &mut N::Meter) -> Result<(), NoMemory>
         ensures ok { OnOk result (self.new ≡ with_world true self.new.reach self.old) }
-        ensures warm { IsTrue self.old.warm → IsOk result × (self.new ≡ self.old) × (N.Meter.work meter.new ≡ N.Meter.work meter.old) }
+        ensures warm { IsTrue self.old.warm → IsOk result × (self.new ≡ self.old) ×
+            (N.Meter.work meter.new ≡ N.Meter.work meter.old) }
         ensures cold { OnOk result (self.old.warm ≡ false →
-            MakesAnew N.laws N.PROBES self.old.place self.old (N.Meter.work meter.old) (N.Meter.work meter.new)) }
+            MakesAnew N.laws N.PROBES self.old.place self.old
+            (N.Meter.work meter.old) (N.Meter.work meter.new)) }
         ensures reach { OnOk result (self.new.reach ≡ reach_here self.old) }
-        ensures near { OnOk result (self.old.warm ≡ false → Plays (self.old.place % self.old.scenario.interval)
+        ensures near { OnOk result (self.old.warm ≡ false →
+            Plays (self.old.place % self.old.scenario.interval)
             (nodes_below (rules_of N.laws N.PROBES self.old) self.old.place self.old.events)
             (N.Meter.work meter.old) (N.Meter.work meter.new)) }
-        ensures err { OnErr result (self.new ≡ with_world self.new.warm self.new.reach self.old) }
+        ensures err { OnErr result (KeepsRun self.old self.new) }
         ensures still_cold { OnErr result (self.old.warm ≡ false → self.new ≡ self.old) }
     {
         if self.walk.world.is_some() {
@@ -258,30 +283,35 @@ impl<N: Node> Tape<N> {
     }
 
     /// Goes back by so many events. Within the reach it takes them back by their records; further
-    /// back it makes the world anew from a checkpoint. The only error is want of memory; the tape may
-    /// be cold then. A warm tape wants none to go back by 0 events.
+    /// back it makes the world anew from a checkpoint. The only error is want of memory; the tape
+    /// may be cold then. A warm tape wants none to go back by 0 events.
     pub fn back(&mut self, alloc: Global, count: u32, meter: &mut N::Meter) -> Result<(), NoMemory>
         requires { count ≤ self.old.place }
-        ensures ok { OnOk result (self.new ≡ with_world true self.new.reach (at (self.old.place - count) self.old)) }
+        ensures ok { OnOk result (IsMoved (self.old.place - count) self.old self.new) }
         ensures reach { OnOk result (self.new.reach ≡ reach_at (self.old.place - count) self.old) }
-        ensures within { OnOk result (IsTrue self.old.warm → count ≤ self.old.reach → self.new.reach ≡ self.old.reach - count) }
+        ensures within { OnOk result (IsTrue self.old.warm → count ≤ self.old.reach →
+            self.new.reach ≡ self.old.reach - count) }
         ensures none { IsTrue self.old.warm → count ≡ 0 →
-            IsOk result × (self.new ≡ self.old) × (N.Meter.work meter.new ≡ N.Meter.work meter.old) }
+            IsOk result × (self.new ≡ self.old) ×
+            (N.Meter.work meter.new ≡ N.Meter.work meter.old) }
         ensures undos { OnOk result (IsTrue self.old.warm → count ≤ self.old.reach →
-            TakesBack N.laws N.PROBES count (self.old.place - count) self.old (N.Meter.work meter.old) (N.Meter.work meter.new)) }
-        ensures work { OnOk result (JumpsTo N.laws N.PROBES (self.old.place - count) self.old (N.Meter.work meter.old) (N.Meter.work meter.new)) }
-        ensures anew { OnOk result (self.old.warm ≡ false →
-            MakesAnew N.laws N.PROBES (self.old.place - count) self.old (N.Meter.work meter.old) (N.Meter.work meter.new)) }
-        ensures err { OnErr result (self.new ≡ with_world self.new.warm self.new.reach self.old) }
+            TakesBack N.laws N.PROBES count (self.old.place - count) self.old
+            (N.Meter.work meter.old) (N.Meter.work meter.new)) }
+        ensures work { OnOk result (JumpsTo N.laws N.PROBES (self.old.place - count) self.old
+            (N.Meter.work meter.old) (N.Meter.work meter.new)) }
+        ensures anew { OnOk result (is_within_reach (self.old.place - count) self.old ≡ false →
+            MakesAnew N.laws N.PROBES (self.old.place - count) self.old
+            (N.Meter.work meter.old) (N.Meter.work meter.new)) }
+        ensures err { OnErr result (KeepsRun self.old self.new) }
         ensures still_cold { OnErr result (self.old.warm ≡ false → self.new ≡ self.old) }
     {
         let place = self.place();
         self.goto(alloc, place - count, meter)
     }
 
-    /// Goes forward by so many events. From a warm tape it walks over each, and keeps the records of
-    /// the last ones; a cold one is made warm there. The only error is want of memory; the tape may
-    /// be cold then. A warm tape wants none to go forward by 0 events.
+    /// Goes forward by so many events. From a warm tape it walks over each, and keeps the records
+    /// of the last ones; a cold one is made warm there. The only error is want of memory; the tape
+    /// may be cold then. A warm tape wants none to go forward by 0 events.
     pub fn forward(
         &mut self,
         alloc: Global,
@@ -289,16 +319,20 @@ impl<N: Node> Tape<N> {
         meter: &mut N::Meter,
     ) -> Result<(), NoMemory>
         requires { self.old.place + count ≤ length self.old.events }
-        ensures ok { OnOk result (self.new ≡ with_world true self.new.reach (at (self.old.place + count) self.old)) }
-        ensures reach { OnOk result (IsTrue self.old.warm → self.new.reach ≡ raised count self.old) }
+        ensures ok { OnOk result (IsMoved (self.old.place + count) self.old self.new) }
+        ensures reach { OnOk result (IsTrue self.old.warm →
+            self.new.reach ≡ raised count self.old) }
         ensures cold_reach { OnOk result (self.old.warm ≡ false →
             self.new.reach ≡ reach_at (self.old.place + count) self.old) }
         ensures none { IsTrue self.old.warm → count ≡ 0 →
-            IsOk result × (self.new ≡ self.old) × (N.Meter.work meter.new ≡ N.Meter.work meter.old) }
-        ensures work { OnOk result (IsTrue self.old.warm → OnlyTurns count (N.Meter.work meter.old) (N.Meter.work meter.new)) }
+            IsOk result × (self.new ≡ self.old) ×
+            (N.Meter.work meter.new ≡ N.Meter.work meter.old) }
+        ensures work { OnOk result (IsTrue self.old.warm →
+            OnlyTurns count (N.Meter.work meter.old) (N.Meter.work meter.new)) }
         ensures cold { OnOk result (self.old.warm ≡ false →
-            MakesAnew N.laws N.PROBES (self.old.place + count) self.old (N.Meter.work meter.old) (N.Meter.work meter.new)) }
-        ensures err { OnErr result (self.new ≡ with_world self.new.warm self.new.reach self.old) }
+            MakesAnew N.laws N.PROBES (self.old.place + count) self.old
+            (N.Meter.work meter.old) (N.Meter.work meter.new)) }
+        ensures err { OnErr result (KeepsRun self.old self.new) }
         ensures still_cold { OnErr result (self.old.warm ≡ false → self.new ≡ self.old) }
     {
         let to = self.place() + count;
@@ -308,21 +342,22 @@ impl<N: Node> Tape<N> {
         if count == 0 {
             return Ok(());
         }
-        self.walk
-            .on(alloc, &self.log, self.place as usize, to as usize, meter)?;
+        let way = self.place as usize..to as usize;
+        self.walk.on(alloc, &self.log, way, meter)?;
         self.place = to;
         Ok(())
     }
 
-    /// Goes forward by an event of which no record is kept, nor of those before it: it takes less time than `forward`, and the reach is
-    /// 0 then. The only error is want of memory; the tape is cold then.
+    /// Goes forward by an event of which no record is kept, nor of those before it: it takes less
+    /// time than `forward`, and the reach is 0 then. The only error is want of memory; the tape is
+    /// cold then.
     pub fn pass(&mut self, alloc: Global, meter: &mut N::Meter) -> Result<(), NoMemory>
         requires warm { IsTrue self.old.warm }
         requires more { self.old.place < length self.old.events }
-        ensures ok { OnOk result (self.new ≡ with_world true self.new.reach (at (self.old.place + 1) self.old)) }
+        ensures ok { OnOk result (IsMoved (self.old.place + 1) self.old self.new) }
         ensures reach { self.new.reach ≡ 0 }
         ensures work { OnOk result (OnlyTurns 1 (N.Meter.work meter.old) (N.Meter.work meter.new)) }
-        ensures err { OnErr result (self.new ≡ with_world self.new.warm self.new.reach self.old) }
+        ensures err { OnErr result (KeepsRun self.old self.new) }
         ensures cold { OnErr result (self.new.warm ≡ false) }
     {
         self.walk
@@ -331,23 +366,31 @@ impl<N: Node> Tape<N> {
         Ok(())
     }
 
-    /// Adds an event that can happen, at the end. The clock never goes back. On a tape that is warm a refused growth of the lists
-    /// leaves it so. After another error the tape may be cold. The only error is want of memory.
+    /// Adds an event that can happen, at the end. The clock never goes back. On a tape that is warm
+    /// a refused growth of the lists leaves it so. After another error the tape may be cold. The
+    /// only error is want of memory.
     #[inline(always)]
     pub fn add(&mut self, alloc: Global, event: Event, meter: &mut N::Meter) -> Result<(), NoMemory>
         requires end { self.old.place ≡ length self.old.events }
         requires room { length self.old.events < 65536 }
-        requires can { refusal_of (rules_of N.laws N.PROBES self.old) event (world_of (rules_of N.laws N.PROBES self.old) self.old) ≡ None }
-        ensures ok { OnOk result (self.new ≡ with_world true self.new.reach (with_event event self.old)) }
+        requires can { refusal_of (rules_of N.laws N.PROBES self.old) event
+            (world_of (rules_of N.laws N.PROBES self.old) self.old) ≡ None }
+        ensures ok { OnOk result (self.new ≡ with_world true self.new.reach
+            (with_event event self.old)) }
         ensures clock { OnOk result ((world_of (rules_of N.laws N.PROBES self.old) self.new).clock ≡
             clock_after event (world_of (rules_of N.laws N.PROBES self.old) self.old)) }
         ensures on { OnOk result ((world_of (rules_of N.laws N.PROBES self.old) self.old).clock ≤
             (world_of (rules_of N.laws N.PROBES self.old) self.new).clock) }
         ensures reach { OnOk result (IsTrue self.old.warm → self.new.reach ≡ raised 1 self.old) }
-        ensures rises { OnOk result (self.new.reach ≡ min self.old.scenario.window (reach_here self.old + 1)) }
-        ensures work { OnOk result (IsTrue self.old.warm → AddsAtEnd N.laws N.PROBES event self.old (N.Meter.work meter.old) (N.Meter.work meter.new)) }
-        ensures cold { OnOk result (self.old.warm ≡ false → RenewsAndAdds N.laws N.PROBES event self.old (N.Meter.work meter.old) (N.Meter.work meter.new)) }
-        ensures err { OnErr result (self.new ≡ with_world self.new.warm self.new.reach self.old) }
+        ensures rises { OnOk result (self.new.reach ≡ min self.old.scenario.window
+            (reach_here self.old + 1)) }
+        ensures work { OnOk result (IsTrue self.old.warm →
+            AddsAtEnd N.laws N.PROBES event self.old
+            (N.Meter.work meter.old) (N.Meter.work meter.new)) }
+        ensures cold { OnOk result (self.old.warm ≡ false →
+            RenewsAndAdds N.laws N.PROBES event self.old
+            (N.Meter.work meter.old) (N.Meter.work meter.new)) }
+        ensures err { OnErr result (KeepsRun self.old self.new) }
     {
         self.make_warm(alloc, meter)?;
         match self.add_warm(alloc, event, meter) {
@@ -356,8 +399,8 @@ impl<N: Node> Tape<N> {
         }
     }
 
-    // Adds an event that can happen, at the end of a tape that is warm. The lists grow before the world moves: after a growth that
-    // was refused the tape is as before.
+    // Adds an event that can happen, at the end of a tape that is warm. The lists grow before the
+    // world moves: after a growth that was refused the tape is as before.
     #[inline(always)]
     fn add_warm(
         &mut self,
@@ -368,14 +411,17 @@ impl<N: Node> Tape<N> {
         requires warm { IsTrue self.old.warm }
         requires end { self.old.place ≡ length self.old.events }
         requires room { length self.old.events < 65536 }
-        requires can { refusal_of (rules_of N.laws N.PROBES self.old) event (world_of (rules_of N.laws N.PROBES self.old) self.old) ≡ None }
-        ensures ok { OnOk result (self.new ≡ with_world true (raised 1 self.old) (with_event event self.old)) }
+        requires can { refusal_of (rules_of N.laws N.PROBES self.old) event
+            (world_of (rules_of N.laws N.PROBES self.old) self.old) ≡ None }
+        ensures ok { OnOk result (self.new ≡ with_world true (raised 1 self.old)
+            (with_event event self.old)) }
         ensures clock { OnOk result ((world_of (rules_of N.laws N.PROBES self.old) self.new).clock ≡
             clock_after event (world_of (rules_of N.laws N.PROBES self.old) self.old)) }
         ensures on { OnOk result ((world_of (rules_of N.laws N.PROBES self.old) self.old).clock ≤
             (world_of (rules_of N.laws N.PROBES self.old) self.new).clock) }
-        ensures work { OnOk result (AddsAtEnd N.laws N.PROBES event self.old (N.Meter.work meter.old) (N.Meter.work meter.new)) }
-        ensures err { OnErr result (self.new ≡ with_world self.new.warm self.new.reach self.old) }
+        ensures work { OnOk result (AddsAtEnd N.laws N.PROBES event self.old
+            (N.Meter.work meter.old) (N.Meter.work meter.new)) }
+        ensures err { OnErr result (KeepsRun self.old self.new) }
         ensures growth { IfErr result (λ why. why ≡ AddError.Growth → self.new ≡ self.old) }
     {
         let is_whole = make_room(alloc, &mut self.log, &mut self.checkpoints)?;
@@ -386,7 +432,8 @@ impl<N: Node> Tape<N> {
         Ok(())
     }
 
-    /// Sets the place alone; the events stay. The tape is cold then, but where the place was there before.
+    /// Sets the place alone; the events stay. The tape is cold then, but where the place was there
+    /// before.
     pub fn rest(&mut self, to: u32)
         requires { to ≤ length self.old.events }
         ensures place { self.new ≡ with_world self.new.warm self.new.reach (at to self.old) }
@@ -399,13 +446,15 @@ impl<N: Node> Tape<N> {
         }
     }
 
-    /// Drops the events past a place, with their checkpoints, and goes there. The tape is cold then, but where the place was there
-    /// before.
+    /// Drops the events past a place, with their checkpoints, and goes there. The tape is cold
+    /// then, but where the place was there before.
     pub fn truncate(&mut self, to: u32)
         requires end { self.old.place ≡ length self.old.events }
         requires within { to ≤ self.old.place }
-        ensures events { self.new ≡ with_world self.new.warm self.new.reach (at to (first_events to self.old)) }
-        ensures warm { to ≡ self.old.place → (self.new.warm ≡ self.old.warm) × (self.new.reach ≡ self.old.reach) }
+        ensures events { self.new ≡ with_world self.new.warm self.new.reach
+            (at to (first_events to self.old)) }
+        ensures warm { to ≡ self.old.place → (self.new.warm ≡ self.old.warm) ×
+            (self.new.reach ≡ self.old.reach) }
         ensures cold { to ≢ self.old.place → self.new.warm ≡ false }
     {
         self.rest(to);
@@ -420,9 +469,18 @@ impl<N: Node> Tape<N> {
         place: u32,
     ) -> Result<Tape<N>, NoMemory>
         requires runs { IsRun (rules N.laws N.PROBES log.scenario) log.entries }
-        requires checkpoints { AreCheckpoints (rules N.laws N.PROBES log.scenario) (events_of log.entries) checkpoints.items }
+        requires checkpoints { AreCheckpoints (rules N.laws N.PROBES log.scenario)
+            (events_of log.entries) checkpoints.items }
         requires within { place ≤ length log.entries }
-        ensures { IfOk result (λ t. t ≡ record { scenario = log.scenario; events = events_of log.entries; place = place; warm = false; reach = 0 }) }
+        ensures { IfOk result (λ t. t ≡
+            record {
+              scenario = log.scenario;
+              events = events_of log.entries;
+              place = place;
+              warm =
+                  false;
+              reach = 0;
+            }) }
     {
         let walk = Walk::cold(alloc, log.window())?;
         Ok(Tape {
@@ -440,8 +498,8 @@ impl<N: Node> Tape<N> {
         self.walk.ring.clear();
     }
 
-    // Lets the records go, and takes over from a tape that is done with: its memory for records, and where both worlds are there and
-    // of one seed the words that were computed for them.
+    // Lets the records go, and takes over from a tape that is done with: its memory for records,
+    // and where both worlds are there and of one seed the words that were computed for them.
     pub(crate) fn take_over(&mut self, spent: Tape<N>)
         ensures { self.new ≡ with_world self.old.warm 0 self.old }
     {
@@ -449,8 +507,8 @@ impl<N: Node> Tape<N> {
         self.walk.take_over(walk);
     }
 
-    /// A tape of the first events, at their end, which shares the full segments and the checkpoints; it is cold. The only error is
-    /// want of memory.
+    /// A tape of the first events, at their end, which shares the full segments and the
+    /// checkpoints; it is cold. The only error is want of memory.
     pub fn split(&self, alloc: Global, to: u32) -> Result<Tape<N>, NoMemory>
         requires { to ≤ length self.now.events }
         ensures { IfOk result (λ t. t ≡ with_world false 0 (at to (first_events to self.now))) }
@@ -470,9 +528,11 @@ impl<N: Node> Tape<N> {
         self.log.events(alloc)
     }
 
-    /// All kept events and checkpoints, shared: no world is copied. The only error is want of memory.
+    /// All kept events and checkpoints, shared: no world is copied. The only error is want of
+    /// memory.
     pub fn freeze(&self, alloc: Global) -> Result<Frozen<N>, NoMemory>
-        ensures { IfOk result (λ f. f ≡ record { scenario = self.now.scenario; events = self.now.events }) }
+        ensures { IfOk result (λ f. f ≡
+            record { scenario = self.now.scenario; events = self.now.events }) }
     {
         let checkpoints = self.checkpoints.share(alloc, self.checkpoints.len())?;
         let log = self.log.split(alloc, self.log.len())?;
@@ -481,8 +541,8 @@ impl<N: Node> Tape<N> {
     }
 }
 
-// Makes room for one more event, and where it ends an interval, which is answered, for one more world. The only error is want of
-// memory.
+// Makes room for one more event, and where it ends an interval, which is answered, for one more
+// world. The only error is want of memory.
 fn make_room<N: Node>(
     alloc: Global,
     log: &mut Log,
@@ -490,7 +550,8 @@ fn make_room<N: Node>(
 ) -> Result<bool, AddError>
     ensures same { log.new ≡ record log.old { room = log.new.room } }
     ensures room { OnOk result (IsTrue log.new.room) }
-    ensures whole { IfOk result (λ whole. whole ≡ ((length log.old.entries + 1) % log.old.scenario.interval == 0)) }
+    ensures whole { IfOk result (λ whole.
+        whole ≡ ((length log.old.entries + 1) % log.old.scenario.interval == 0)) }
     ensures items { worlds.new.items ≡ worlds.old.items }
     ensures has_room { IfOk result (λ whole. IsTrue whole → IsTrue worlds.new.has_room) }
     ensures err { IfErr result (λ why. why ≡ AddError.Growth) }
@@ -515,7 +576,8 @@ fn make_room<N: Node>(
 fn keep<N: Node>(worlds: &mut SharedList<PackedWorld<N>>, world: Option<Arc<PackedWorld<N>>>)
     requires room { IsSome world → IsTrue worlds.old.has_room }
     requires few { length worlds.old.items < 65537 }
-    ensures { MatchOption world (worlds.new.items ≡ worlds.old.items) (λ w. worlds.new.items ≡ worlds.old.items ++ arc_value w ∷ []) }
+    ensures { MatchOption world (worlds.new.items ≡ worlds.old.items) (λ w.
+        worlds.new.items ≡ worlds.old.items ++ arc_value w ∷ []) }
 {
     if let Some(world) = world {
         worlds.push(world);

@@ -1,6 +1,7 @@
 //! A world that walks along the events of a log, forwards and back.
 ghost use Rattle.std.specs.Prelude.{◌≡◌, ℕ, ◌+◌, ◌-◌, ◌*◌, ◌<◌, ◌≤◌, [], ◌∷◌, ◌++◌, if◌then◌else◌};
-ghost use Rattle.std.specs.Prelude.{length, min, is_some, true, false, IfOk, OnOk, OnErr, IsSome, Some, None, IsTrue, MatchOption};
+ghost use Rattle.std.specs.Prelude.{length, min, is_some, true, false, IfOk, OnOk, OnErr, IsSome};
+ghost use Rattle.std.specs.Prelude.{Some, None, IsTrue, MatchOption};
 ghost use Rattle.std.specs.Arc.{arc_value};
 ghost use Rattle.std.specs.List.{count_by};
 ghost use Rattle.sim_world.specs.Acts.{acts, running};
@@ -9,7 +10,8 @@ ghost use Rattle.sim_world.specs.Events.{rules, run, next, refusal_of};
 ghost use Rattle.sim_world.specs.Records.{LeadsBack, AnswersFor};
 ghost use Rattle.sim_world.specs.Undone.{is_reaction};
 ghost use Rattle.circular_buffer.specs.Buffer.{buffer};
-ghost use Rattle.sim_tape.specs.Inside.{IsRun, IsWalkIn, IsWalkAfter, AreRecordsIn, IsAtIn, IsAfter, rules_in, world_at_end, world_after};
+ghost use Rattle.sim_tape.specs.Inside.{IsRun, IsWalkIn, IsWalkAfter, AreRecordsIn, IsAtIn};
+ghost use Rattle.sim_tape.specs.Inside.{IsAfter, rules_in, world_at_end, world_after};
 ghost use Rattle.sim_tape.specs.Places.{events_of, acting};
 ghost use Rattle.sim_tape.specs.Segments.{stretch};
 ghost use Rattle.sim_tape.specs.Works.{undone_by, OnlyTurns, Plays};
@@ -20,6 +22,7 @@ use crate::ring::Ring;
 use sim_node::Node;
 use sim_world::{Event, PackedWorld, World};
 use std::alloc::Global;
+use std::ops::Range;
 use std::sync::Arc;
 
 /// The world at a place of a log, where it is there, and the records of the last events before it.
@@ -46,25 +49,8 @@ fn shared_copy<N: Node>(
     Ok(Arc::new(alloc, copy)?)
 }
 
-// A copy of a world that can be shared, where one is asked for.
-fn copied<N: Node>(
-    alloc: Global,
-    world: &World<N>,
-    asked: bool,
-    meter: &mut N::Meter,
-) -> Result<Option<Arc<PackedWorld<N>>>, NoMemory>
-    ensures copy { IfOk result (λ copy. MatchOption copy (asked ≡ false) (λ c. (asked ≡ true) × (arc_value c ≡ world.now))) }
-    ensures work { OnOk result (N.Meter.work meter.new ≡ record (N.Meter.work meter.old) {
-      copies = (N.Meter.work meter.old).copies + (if asked then running world.now.world else 0);
-    }) }
-{
-    if !asked {
-        return Ok(None);
-    }
-    Ok(Some(shared_copy(alloc, world, meter)?))
-}
-
-// The world after an event that can happen, of which no record is needed. What is in the ring is of no use then.
+// The world after an event that can happen, of which no record is needed. What is in the ring is of
+// no use then.
 #[inline(always)]
 fn passed<N: Node>(
     alloc: Global,
@@ -75,7 +61,8 @@ fn passed<N: Node>(
 ) -> Result<World<N>, NoMemory>
     requires can { IsSome (next (rules N.laws N.PROBES world.scenario) world.world event) }
     requires young { world.age < 65536 }
-    ensures next { IfOk result (λ w. next (rules N.laws N.PROBES world.scenario) world.world event ≡ Some w.world) }
+    ensures next { IfOk result (λ w.
+        next (rules N.laws N.PROBES world.scenario) world.world event ≡ Some w.world) }
     ensures scenario { IfOk result (λ w. w.scenario ≡ world.scenario) }
     ensures age { IfOk result (λ w. w.age ≡ world.age + 1) }
     ensures work { OnOk result (OnlyTurns 1 (N.Meter.work meter.old) (N.Meter.work meter.new)) }
@@ -91,38 +78,43 @@ fn passed<N: Node>(
 }
 
 impl Log {
-    // The world after the events from a place up to `to`, or up to the end of the segment that holds the place, whose records are
-    // kept. It answers the place that it came to, too.
+    // The world after the events of a range, or those of them in the segment that holds the first.
+    // Their records are kept. It answers the place that it came to, too.
     fn play_stretch<N: Node>(
         &self,
         alloc: Global,
-        place: usize,
-        to: usize,
+        way: Range<usize>,
         world: World<N>,
         ring: &mut Ring<N>,
         meter: &mut N::Meter,
     ) -> Result<(World<N>, usize), NoMemory>
         requires runs { IsRun (rules_in N.laws N.PROBES self.now) self.now.entries }
-        requires order { place < to }
-        requires within { to ≤ length self.now.entries }
-        requires here { IsAtIn N.laws N.PROBES self.now place world }
-        requires records { AreRecordsIn N.told N.records N.laws N.PROBES self.now place ring.old.items }
+        requires order { way.start < way.end }
+        requires within { way.end ≤ length self.now.entries }
+        requires here { IsAtIn N.laws N.PROBES self.now way.start world }
+        requires records { AreRecordsIn N.told N.records N.laws N.PROBES self.now way.start
+            ring.old.items }
         requires room { length ring.old.items ≤ ring.old.capacity }
-        ensures place { IfOk result (λ x. x.1 ≡ place + stretch self.now.scenario.interval place to) }
-        ensures on { IfOk result (λ x. place < x.1) }
-        ensures within { IfOk result (λ x. x.1 ≤ to) }
+        ensures place { IfOk result (λ x.
+            x.1 ≡ way.start + stretch self.now.scenario.interval way.start way.end) }
+        ensures on { IfOk result (λ x. way.start < x.1) }
+        ensures within { IfOk result (λ x. x.1 ≤ way.end) }
         ensures here { IfOk result (λ x. IsAtIn N.laws N.PROBES self.now x.1 x.0) }
-        ensures records { IfOk result (λ x. AreRecordsIn N.told N.records N.laws N.PROBES self.now x.1 ring.new.items) }
-        ensures reach { IfOk result (λ x. length ring.new.items ≡ min ring.old.capacity (length ring.old.items + (x.1 - place))) }
+        ensures records { IfOk result (λ x.
+            AreRecordsIn N.told N.records N.laws N.PROBES self.now x.1 ring.new.items) }
+        ensures reach { IfOk result (λ x.
+            length ring.new.items ≡ min ring.old.capacity
+            (length ring.old.items + (x.1 - way.start))) }
         ensures capacity { ring.new.capacity ≡ ring.old.capacity }
-        ensures work { IfOk result (λ x. OnlyTurns (x.1 - place) (N.Meter.work meter.old) (N.Meter.work meter.new)) }
+        ensures work { IfOk result (λ x.
+            OnlyTurns (x.1 - way.start) (N.Meter.work meter.old) (N.Meter.work meter.new)) }
     {
-        let entries = self.stretch(place, to);
+        let entries = self.stretch(way.start, way.end);
         let mut world = world;
         for entry in entries {
             world = ring.apply(alloc, world, entry.event, meter)?;
         }
-        Ok((world, place + entries.len()))
+        Ok((world, way.start + entries.len()))
     }
 
     // The world after the event at a place, whose record is kept.
@@ -137,11 +129,14 @@ impl Log {
         requires runs { IsRun (rules_in N.laws N.PROBES self.now) self.now.entries }
         requires within { place < length self.now.entries }
         requires here { IsAtIn N.laws N.PROBES self.now place world }
-        requires records { AreRecordsIn N.told N.records N.laws N.PROBES self.now place ring.old.items }
+        requires records { AreRecordsIn N.told N.records N.laws N.PROBES self.now place
+            ring.old.items }
         requires room { length ring.old.items ≤ ring.old.capacity }
         ensures here { IfOk result (λ w. IsAtIn N.laws N.PROBES self.now (place + 1) w) }
-        ensures records { OnOk result (AreRecordsIn N.told N.records N.laws N.PROBES self.now (place + 1) ring.new.items) }
-        ensures reach { OnOk result (length ring.new.items ≡ min ring.old.capacity (length ring.old.items + 1)) }
+        ensures records { OnOk result (AreRecordsIn N.told N.records N.laws N.PROBES self.now
+            (place + 1) ring.new.items) }
+        ensures reach { OnOk result (length ring.new.items ≡ min ring.old.capacity
+            (length ring.old.items + 1)) }
         ensures capacity { ring.new.capacity ≡ ring.old.capacity }
         ensures work { OnOk result (OnlyTurns 1 (N.Meter.work meter.old) (N.Meter.work meter.new)) }
     {
@@ -150,90 +145,102 @@ impl Log {
         Ok(after)
     }
 
-    // The world after the events from a place up to `to`, whose records are kept, segment by segment.
+    // The world after the events of a range, whose records are kept, segment by segment.
     #[inline(never)]
     fn play_stretches<N: Node>(
         &self,
         alloc: Global,
-        place: usize,
-        to: usize,
+        way: Range<usize>,
         world: World<N>,
         ring: &mut Ring<N>,
         meter: &mut N::Meter,
     ) -> Result<World<N>, NoMemory>
         requires runs { IsRun (rules_in N.laws N.PROBES self.now) self.now.entries }
-        requires order { place ≤ to }
-        requires within { to ≤ length self.now.entries }
-        requires here { IsAtIn N.laws N.PROBES self.now place world }
-        requires records { AreRecordsIn N.told N.records N.laws N.PROBES self.now place ring.old.items }
+        requires order { way.start ≤ way.end }
+        requires within { way.end ≤ length self.now.entries }
+        requires here { IsAtIn N.laws N.PROBES self.now way.start world }
+        requires records { AreRecordsIn N.told N.records N.laws N.PROBES self.now way.start
+            ring.old.items }
         requires room { length ring.old.items ≤ ring.old.capacity }
-        ensures here { IfOk result (λ w. IsAtIn N.laws N.PROBES self.now to w) }
-        ensures records { OnOk result (AreRecordsIn N.told N.records N.laws N.PROBES self.now to ring.new.items) }
-        ensures reach { OnOk result (length ring.new.items ≡ min ring.old.capacity (length ring.old.items + (to - place))) }
+        ensures here { IfOk result (λ w. IsAtIn N.laws N.PROBES self.now way.end w) }
+        ensures records { OnOk result (AreRecordsIn N.told N.records N.laws N.PROBES self.now
+            way.end ring.new.items) }
+        ensures reach { OnOk result (length ring.new.items ≡ min ring.old.capacity
+            (length ring.old.items + (way.end - way.start))) }
         ensures capacity { ring.new.capacity ≡ ring.old.capacity }
-        ensures work { OnOk result (OnlyTurns (to - place) (N.Meter.work meter.old) (N.Meter.work meter.new)) }
+        ensures work { OnOk result (OnlyTurns (way.end - way.start)
+            (N.Meter.work meter.old) (N.Meter.work meter.new)) }
     {
         let mut world = world;
-        let mut place = place;
-        while place < to {
-            let (after, reached) = self.play_stretch(alloc, place, to, world, ring, meter)?;
+        let mut place = way.start;
+        while place < way.end {
+            let rest = place..way.end;
+            let (after, reached) = self.play_stretch(alloc, rest, world, ring, meter)?;
             world = after;
             place = reached;
         }
         Ok(world)
     }
 
-    // The world after the events from a place up to `to`, whose records are kept.
+    // The world after the events of a range, whose records are kept.
     #[inline]
     fn play<N: Node>(
         &self,
         alloc: Global,
-        place: usize,
-        to: usize,
+        way: Range<usize>,
         world: World<N>,
         ring: &mut Ring<N>,
         meter: &mut N::Meter,
     ) -> Result<World<N>, NoMemory>
         requires runs { IsRun (rules_in N.laws N.PROBES self.now) self.now.entries }
-        requires order { place ≤ to }
-        requires within { to ≤ length self.now.entries }
-        requires here { IsAtIn N.laws N.PROBES self.now place world }
-        requires records { AreRecordsIn N.told N.records N.laws N.PROBES self.now place ring.old.items }
+        requires order { way.start ≤ way.end }
+        requires within { way.end ≤ length self.now.entries }
+        requires here { IsAtIn N.laws N.PROBES self.now way.start world }
+        requires records { AreRecordsIn N.told N.records N.laws N.PROBES self.now way.start
+            ring.old.items }
         requires room { length ring.old.items ≤ ring.old.capacity }
-        ensures here { IfOk result (λ w. IsAtIn N.laws N.PROBES self.now to w) }
-        ensures records { OnOk result (AreRecordsIn N.told N.records N.laws N.PROBES self.now to ring.new.items) }
-        ensures reach { OnOk result (length ring.new.items ≡ min ring.old.capacity (length ring.old.items + (to - place))) }
+        ensures here { IfOk result (λ w. IsAtIn N.laws N.PROBES self.now way.end w) }
+        ensures records { OnOk result (AreRecordsIn N.told N.records N.laws N.PROBES self.now
+            way.end ring.new.items) }
+        ensures reach { OnOk result (length ring.new.items ≡ min ring.old.capacity
+            (length ring.old.items + (way.end - way.start))) }
         ensures capacity { ring.new.capacity ≡ ring.old.capacity }
-        ensures work { OnOk result (OnlyTurns (to - place) (N.Meter.work meter.old) (N.Meter.work meter.new)) }
+        ensures work { OnOk result (OnlyTurns (way.end - way.start)
+            (N.Meter.work meter.old) (N.Meter.work meter.new)) }
     {
-        if to - place == 1 {
-            return self.play_event(alloc, place, world, ring, meter);
+        if way.end - way.start == 1 {
+            return self.play_event(alloc, way.start, world, ring, meter);
         }
-        self.play_stretches(alloc, place, to, world, ring, meter)
+        self.play_stretches(alloc, way, world, ring, meter)
     }
 
-    // The world before the last `count` events, which are taken back by their records.
+    // The world before the events of a range, the last of which led to this one. They are taken
+    // back by their records.
     fn unwind<N: Node>(
         &self,
         alloc: Global,
-        place: usize,
-        count: usize,
+        back: Range<usize>,
         world: World<N>,
         ring: &mut Ring<N>,
         meter: &mut N::Meter,
     ) -> Result<World<N>, NoMemory>
-        requires here { IsAtIn N.laws N.PROBES self.now place world }
-        requires records { AreRecordsIn N.told N.records N.laws N.PROBES self.now place ring.old.items }
-        requires reach { count ≤ length ring.old.items }
-        ensures here { IfOk result (λ w. IsAtIn N.laws N.PROBES self.now (place - count) w) }
-        ensures records { OnOk result (AreRecordsIn N.told N.records N.laws N.PROBES self.now (place - count) ring.new.items) }
-        ensures reach { OnOk result (length ring.new.items ≡ length ring.old.items - count) }
+        requires order { back.start ≤ back.end }
+        requires here { IsAtIn N.laws N.PROBES self.now back.end world }
+        requires records { AreRecordsIn N.told N.records N.laws N.PROBES self.now back.end
+            ring.old.items }
+        requires reach { back.end - back.start ≤ length ring.old.items }
+        ensures here { IfOk result (λ w. IsAtIn N.laws N.PROBES self.now back.start w) }
+        ensures records { OnOk result (AreRecordsIn N.told N.records N.laws N.PROBES self.now
+            back.start ring.new.items) }
+        ensures reach { OnOk result (length ring.new.items ≡ length ring.old.items -
+            (back.end - back.start)) }
         ensures capacity { ring.new.capacity ≡ ring.old.capacity }
         ensures work { OnOk result (N.Meter.work meter.new ≡
-            undone_by (acting (rules_in N.laws N.PROBES self.now) (place - count) count (events_of self.now.entries)) (N.Meter.work meter.old)) }
+            undone_by (acting (rules_in N.laws N.PROBES self.now) back.start (back.end - back.start)
+            (events_of self.now.entries)) (N.Meter.work meter.old)) }
     {
         let mut world = world;
-        for _ in 0..count {
+        for _ in 0..back.end - back.start {
             world = ring.undo(alloc, world, meter)?;
         }
         Ok(world)
@@ -260,33 +267,38 @@ impl<N: Node> Walk<N> {
         self.ring.clear();
     }
 
-    /// Walks on to a place. After an error, which can only be want of memory, there is no world.
+    /// Walks on over the events of a range. After an error, which can only be want of memory, there
+    /// is no world.
     pub fn on(
         &mut self,
         alloc: Global,
         log: &Log,
-        place: usize,
-        to: usize,
+        way: Range<usize>,
         meter: &mut N::Meter,
     ) -> Result<(), NoMemory>
         requires runs { IsRun (rules_in N.laws N.PROBES log.now) log.now.entries }
-        requires walk { IsWalkIn N.told N.records N.laws N.PROBES log.now place self.old.world self.old.ring.items }
+        requires walk { IsWalkIn N.told N.records N.laws N.PROBES log.now way.start self.old.world
+            self.old.ring.items }
         requires warm { IsSome self.old.world }
         requires ring { length self.old.ring.items ≤ self.old.ring.capacity }
-        requires order { place ≤ to }
-        requires within { to ≤ length log.now.entries }
-        ensures ok { OnOk result (IsWalkIn N.told N.records N.laws N.PROBES log.now to self.new.world self.new.ring.items) }
+        requires order { way.start ≤ way.end }
+        requires within { way.end ≤ length log.now.entries }
+        ensures ok { OnOk result (IsWalkIn N.told N.records N.laws N.PROBES log.now way.end
+            self.new.world self.new.ring.items) }
         ensures warm { OnOk result (IsSome self.new.world) }
-        ensures reach { OnOk result (length self.new.ring.items ≡ min self.old.ring.capacity (length self.old.ring.items + (to - place))) }
-        ensures work { OnOk result (OnlyTurns (to - place) (N.Meter.work meter.old) (N.Meter.work meter.new)) }
+        ensures reach { OnOk result (length self.new.ring.items ≡ min self.old.ring.capacity
+            (length self.old.ring.items + (way.end - way.start))) }
+        ensures work { OnOk result (OnlyTurns (way.end - way.start)
+            (N.Meter.work meter.old) (N.Meter.work meter.new)) }
         ensures capacity { self.new.ring.capacity ≡ self.old.ring.capacity }
         ensures ring { length self.new.ring.items ≤ self.new.ring.capacity }
-        ensures err { OnErr result (IsWalkIn N.told N.records N.laws N.PROBES log.now place self.new.world self.new.ring.items) }
+        ensures err { OnErr result (IsWalkIn N.told N.records N.laws N.PROBES log.now way.start
+            self.new.world self.new.ring.items) }
     {
         let Some(world) = self.world.take() else {
             unreachable!()
         };
-        match log.play(alloc, place, to, world, &mut self.ring, meter) {
+        match log.play(alloc, way, world, &mut self.ring, meter) {
             Ok(after) => {
                 self.world = Some(after);
                 Ok(())
@@ -298,8 +310,8 @@ impl<N: Node> Walk<N> {
         }
     }
 
-    /// Walks on by an event whose record is not kept, nor are those of the events before it. After an error, which can only be want
-    /// of memory, there is no world.
+    /// Walks on by an event whose record is not kept, nor are those of the events before it. After
+    /// an error, which can only be want of memory, there is no world.
     pub fn pass(
         &mut self,
         alloc: Global,
@@ -308,10 +320,12 @@ impl<N: Node> Walk<N> {
         meter: &mut N::Meter,
     ) -> Result<(), NoMemory>
         requires runs { IsRun (rules_in N.laws N.PROBES log.now) log.now.entries }
-        requires walk { IsWalkIn N.told N.records N.laws N.PROBES log.now place self.old.world self.old.ring.items }
+        requires walk { IsWalkIn N.told N.records N.laws N.PROBES log.now place self.old.world
+            self.old.ring.items }
         requires warm { IsSome self.old.world }
         requires within { place < length log.now.entries }
-        ensures ok { OnOk result (IsWalkIn N.told N.records N.laws N.PROBES log.now (place + 1) self.new.world []) }
+        ensures ok { OnOk result (IsWalkIn N.told N.records N.laws N.PROBES log.now (place + 1)
+            self.new.world []) }
         ensures warm { OnOk result (IsSome self.new.world) }
         ensures work { OnOk result (OnlyTurns 1 (N.Meter.work meter.old) (N.Meter.work meter.new)) }
         ensures ring { self.new.ring ≡ buffer [] self.old.ring.capacity }
@@ -328,33 +342,38 @@ impl<N: Node> Walk<N> {
         Ok(())
     }
 
-    /// Walks back by so many events, of which there are the records. After an error, which can only be want of memory, there is
-    /// no world.
+    /// Walks back over the events of a range, of which there are the records. After an error, which
+    /// can only be want of memory, there is no world.
     pub fn back(
         &mut self,
         alloc: Global,
         log: &Log,
-        place: usize,
-        count: usize,
+        back: Range<usize>,
         meter: &mut N::Meter,
     ) -> Result<(), NoMemory>
-        requires walk { IsWalkIn N.told N.records N.laws N.PROBES log.now place self.old.world self.old.ring.items }
+        requires walk { IsWalkIn N.told N.records N.laws N.PROBES log.now back.end self.old.world
+            self.old.ring.items }
         requires warm { IsSome self.old.world }
         requires ring { length self.old.ring.items ≤ self.old.ring.capacity }
-        requires reach { count ≤ length self.old.ring.items }
-        ensures ok { OnOk result (IsWalkIn N.told N.records N.laws N.PROBES log.now (place - count) self.new.world self.new.ring.items) }
+        requires order { back.start ≤ back.end }
+        requires reach { back.end - back.start ≤ length self.old.ring.items }
+        ensures ok { OnOk result (IsWalkIn N.told N.records N.laws N.PROBES log.now back.start
+            self.new.world self.new.ring.items) }
         ensures warm { OnOk result (IsSome self.new.world) }
-        ensures reach { OnOk result (length self.new.ring.items ≡ length self.old.ring.items - count) }
+        ensures reach { OnOk result (length self.new.ring.items ≡ length self.old.ring.items -
+            (back.end - back.start)) }
         ensures work { OnOk result (N.Meter.work meter.new ≡
-            undone_by (acting (rules_in N.laws N.PROBES log.now) (place - count) count (events_of log.now.entries)) (N.Meter.work meter.old)) }
+            undone_by (acting (rules_in N.laws N.PROBES log.now) back.start (back.end - back.start)
+            (events_of log.now.entries)) (N.Meter.work meter.old)) }
         ensures capacity { self.new.ring.capacity ≡ self.old.ring.capacity }
         ensures ring { length self.new.ring.items ≤ self.new.ring.capacity }
-        ensures err { OnErr result (IsWalkIn N.told N.records N.laws N.PROBES log.now place self.new.world self.new.ring.items) }
+        ensures err { OnErr result (IsWalkIn N.told N.records N.laws N.PROBES log.now back.end
+            self.new.world self.new.ring.items) }
     {
         let Some(world) = self.world.take() else {
             unreachable!()
         };
-        match log.unwind(alloc, place, count, world, &mut self.ring, meter) {
+        match log.unwind(alloc, back, world, &mut self.ring, meter) {
             Ok(after) => {
                 self.world = Some(after);
                 Ok(())
@@ -366,7 +385,8 @@ impl<N: Node> Walk<N> {
         }
     }
 
-    // There is no world and no record any more. The next world takes over the words that were computed for this one.
+    // There is no world and no record any more. The next world takes over the words that were
+    // computed for this one.
     fn give_way(&mut self, next: &mut World<N>)
         ensures next { next.new ≡ next.old }
         ensures world { self.new.world ≡ None }
@@ -392,8 +412,9 @@ impl<N: Node> Walk<N> {
         }
     }
 
-    /// Lets the records go, and takes over from a walk that is done with: its memory for as many records, and where both worlds are
-    /// there and of one seed the words that were computed for the other.
+    /// Lets the records go, and takes over from a walk that is done with: its memory for as many
+    /// records, and where both worlds are there and of one seed the words that were computed for
+    /// the other.
     pub fn take_over(&mut self, spent: Walk<N>)
         ensures world { self.new.world ≡ self.old.world }
         ensures ring { self.new.ring ≡ buffer [] self.old.ring.capacity }
@@ -403,35 +424,41 @@ impl<N: Node> Walk<N> {
         self.ring.take_over(ring);
     }
 
-    /// Makes the world of a place anew, from a checkpoint at or below it, which is copied. The only error is want of memory. Where
-    /// the copy is refused nothing changes; after another error there is no world.
+    /// Makes the world at the end of a range anew, from the checkpoint at its start, which is
+    /// copied. The only error is want of memory. Where the copy is refused nothing changes; after
+    /// another error there is no world.
     pub fn anew(
         &mut self,
         alloc: Global,
         log: &Log,
         checkpoint: &PackedWorld<N>,
-        from: usize,
-        to: usize,
+        way: Range<usize>,
         meter: &mut N::Meter,
     ) -> Result<(), NoMemory>
         requires runs { IsRun (rules_in N.laws N.PROBES log.now) log.now.entries }
-        requires checkpoint { IsAtIn N.laws N.PROBES log.now from checkpoint.now }
+        requires checkpoint { IsAtIn N.laws N.PROBES log.now way.start checkpoint.now }
         requires ring { length self.old.ring.items ≤ self.old.ring.capacity }
-        requires order { from ≤ to }
-        requires within { to ≤ length log.now.entries }
-        ensures ok { OnOk result (IsWalkIn N.told N.records N.laws N.PROBES log.now to self.new.world self.new.ring.items) }
+        requires order { way.start ≤ way.end }
+        requires within { way.end ≤ length log.now.entries }
+        ensures ok { OnOk result (IsWalkIn N.told N.records N.laws N.PROBES log.now way.end
+            self.new.world self.new.ring.items) }
         ensures warm { OnOk result (IsSome self.new.world) }
-        ensures reach { OnOk result (length self.new.ring.items ≡ min self.old.ring.capacity (to - from)) }
-        ensures work { OnOk result (Plays (to - from) (running checkpoint.now.world) (N.Meter.work meter.old) (N.Meter.work meter.new)) }
+        ensures reach { OnOk result (length self.new.ring.items ≡ min self.old.ring.capacity
+            (way.end - way.start)) }
+        ensures work { OnOk result (Plays (way.end - way.start) (running checkpoint.now.world)
+            (N.Meter.work meter.old) (N.Meter.work meter.new)) }
         ensures capacity { self.new.ring.capacity ≡ self.old.ring.capacity }
         ensures ring { length self.new.ring.items ≤ self.new.ring.capacity }
-        ensures err { OnErr result ((place : ℕ) → IsWalkIn N.told N.records N.laws N.PROBES log.now place self.old.world self.old.ring.items →
-            IsWalkIn N.told N.records N.laws N.PROBES log.now place self.new.world self.new.ring.items) }
+        ensures err { OnErr result ((place : ℕ) →
+            IsWalkIn N.told N.records N.laws N.PROBES log.now place self.old.world
+            self.old.ring.items →
+            IsWalkIn N.told N.records N.laws N.PROBES log.now place self.new.world
+            self.new.ring.items) }
         ensures cold { OnErr result (self.old.world ≡ None → self.new.world ≡ None) }
     {
         let mut world = checkpoint.open(alloc, meter)?;
         self.give_way(&mut world);
-        let world = log.play(alloc, from, to, world, &mut self.ring, meter);
+        let world = log.play(alloc, way, world, &mut self.ring, meter);
         match world {
             Ok(after) => {
                 self.world = Some(after);
@@ -444,7 +471,9 @@ impl<N: Node> Walk<N> {
         }
     }
 
-    // A copy of a world, where one is asked for. After an error, which can only be want of memory, there is no record.
+    // A copy of a world that can be shared, where one is asked for. After an error, which can only
+    // be want of memory, there is no record.
+    #[inline(always)]
     fn mark(
         &mut self,
         alloc: Global,
@@ -452,7 +481,8 @@ impl<N: Node> Walk<N> {
         asked: bool,
         meter: &mut N::Meter,
     ) -> Result<Option<Arc<PackedWorld<N>>>, NoMemory>
-        ensures copy { IfOk result (λ copy. MatchOption copy (asked ≡ false) (λ c. (asked ≡ true) × (arc_value c ≡ world.now))) }
+        ensures copy { IfOk result (λ copy. MatchOption copy (asked ≡ false) (λ c. (asked ≡ true) ×
+            (arc_value c ≡ world.now))) }
         ensures work { OnOk result (N.Meter.work meter.new ≡ record (N.Meter.work meter.old) {
           copies = (N.Meter.work meter.old).copies + (if asked then running world.now.world else 0);
         }) }
@@ -461,15 +491,21 @@ impl<N: Node> Walk<N> {
         ensures capacity { self.new.ring.capacity ≡ self.old.ring.capacity }
         ensures err { OnErr result (self.new.ring.items ≡ []) }
     {
-        let copy = copied(alloc, world, asked, meter);
-        if copy.is_err() {
-            self.ring.clear();
+        if !asked {
+            return Ok(None);
         }
-        copy
+        match shared_copy(alloc, world, meter) {
+            Ok(copy) => Ok(Some(copy)),
+            Err(refused) => {
+                self.ring.clear();
+                Err(refused)
+            }
+        }
     }
 
-    /// Walks on by an event that is about to be added to the log. It answers the clock after it (ms), and where it is asked for a
-    /// copy of the world after it. After an error, which can only be want of memory, there is no world.
+    /// Walks on by an event that is about to be added to the log. It answers the clock after it
+    /// (ms), and where it is asked for a copy of the world after it. After an error, which can only
+    /// be want of memory, there is no world.
     pub fn step(
         &mut self,
         alloc: Global,
@@ -479,25 +515,35 @@ impl<N: Node> Walk<N> {
         meter: &mut N::Meter,
     ) -> Result<(u64, Option<Arc<PackedWorld<N>>>), NoMemory>
         requires runs { IsRun (rules_in N.laws N.PROBES log.now) log.now.entries }
-        requires walk { IsWalkIn N.told N.records N.laws N.PROBES log.now (length log.now.entries) self.old.world self.old.ring.items }
+        requires walk { IsWalkIn N.told N.records N.laws N.PROBES log.now (length log.now.entries)
+            self.old.world self.old.ring.items }
         requires warm { IsSome self.old.world }
         requires ring { length self.old.ring.items ≤ self.old.ring.capacity }
         requires room { length log.now.entries < 65536 }
-        requires can { refusal_of (rules_in N.laws N.PROBES log.now) event (world_at_end N.laws N.PROBES log.now) ≡ None }
-        ensures ok { OnOk result (IsWalkAfter N.told N.records N.laws N.PROBES event log.now self.new.world self.new.ring.items) }
+        requires can { refusal_of (rules_in N.laws N.PROBES log.now) event
+            (world_at_end N.laws N.PROBES log.now) ≡ None }
+        ensures ok { OnOk result (IsWalkAfter N.told N.records N.laws N.PROBES event log.now
+            self.new.world self.new.ring.items) }
         ensures warm { OnOk result (IsSome self.new.world) }
-        ensures runs { OnOk result (IsSome (run (rules_in N.laws N.PROBES log.now) (events_of log.now.entries ++ event ∷ []))) }
+        ensures runs { OnOk result (IsSome
+            (run (rules_in N.laws N.PROBES log.now) (events_of log.now.entries ++ event ∷ []))) }
         ensures clock { IfOk result (λ x. x.0 ≡ (world_after N.laws N.PROBES event log.now).clock) }
         ensures small { IfOk result (λ x. x.0 ≤ 60000 * 65536) }
-        ensures moved { OnOk result ((world_after N.laws N.PROBES event log.now).clock ≡ clock_after event (world_at_end N.laws N.PROBES log.now)) }
-        ensures on { OnOk result ((world_at_end N.laws N.PROBES log.now).clock ≤ (world_after N.laws N.PROBES event log.now).clock) }
-        ensures copy { IfOk result (λ x. MatchOption x.1 (asked ≡ false) (λ c. (asked ≡ true) × IsAfter N.laws N.PROBES event log.now (arc_value c))) }
-        ensures reach { OnOk result (length self.new.ring.items ≡ min self.old.ring.capacity (length self.old.ring.items + 1)) }
-        ensures work { OnOk result (Plays 1 (if asked then running (world_after N.laws N.PROBES event log.now) else 0)
+        ensures moved { OnOk result ((world_after N.laws N.PROBES event log.now).clock ≡
+            clock_after event (world_at_end N.laws N.PROBES log.now)) }
+        ensures on { OnOk result ((world_at_end N.laws N.PROBES log.now).clock ≤
+            (world_after N.laws N.PROBES event log.now).clock) }
+        ensures copy { IfOk result (λ x. MatchOption x.1 (asked ≡ false) (λ c. (asked ≡ true) ×
+            IsAfter N.laws N.PROBES event log.now (arc_value c))) }
+        ensures reach { OnOk result (length self.new.ring.items ≡ min self.old.ring.capacity
+            (length self.old.ring.items + 1)) }
+        ensures work { OnOk result (Plays 1
+            (if asked then running (world_after N.laws N.PROBES event log.now) else 0)
             (N.Meter.work meter.old) (N.Meter.work meter.new)) }
         ensures capacity { self.new.ring.capacity ≡ self.old.ring.capacity }
         ensures ring { length self.new.ring.items ≤ self.new.ring.capacity }
-        ensures err { OnErr result (IsWalkIn N.told N.records N.laws N.PROBES log.now (length log.now.entries) self.new.world self.new.ring.items) }
+        ensures err { OnErr result (IsWalkIn N.told N.records N.laws N.PROBES log.now
+            (length log.now.entries) self.new.world self.new.ring.items) }
     {
         let Some(world) = self.world.take() else {
             unreachable!()

@@ -15,4 +15,5 @@ module _ {State Msg : Type 0} (node : NodeLaws State Msg) where
 
 -- the host and the probe of a term are there
 abbrev pub IsThere : ℕ → ℕ → JoinedTerm → Type 0
-IsThere hosts probes t = IsFalse (names_no_host hosts t.term) × IsFalse (names_no_probe probes t.term)
+IsThere hosts probes t =
+    IsFalse (names_no_host hosts t.term) × IsFalse (names_no_probe probes t.term)

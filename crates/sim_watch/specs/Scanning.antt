@@ -13,11 +13,21 @@ use Rattle.sim_watch.specs.Search.{fails_at}
 
 module _ {State Msg : Type 0} (node : NodeLaws State Msg) (probes : ℕ) where
   -- The tape is at a place of a run, and from the place lo to there the condition did not fail.
-  pub record IsScanning (c : Cond) (s : Scenario) (events : List Event) (lo place : ℕ) (t : Tape) : Type 0 where
-    pub tape : t ≡ record { scenario = s; events = events; place = place; warm = true; reach = t.reach }
+  pub record IsScanning (c : Cond) (s : Scenario) (events : List Event) (lo place : ℕ)
+      (t : Tape) : Type 0 where
+    pub tape : t ≡ record {
+      scenario = s;
+      events = events;
+      place = place;
+      warm = true;
+      reach = t.reach;
+    }
     pub before : (j : ℕ) → lo ≤ j → j < place → fails_at (rules node probes s) c events j ≡ false
 
-  -- The world is that after so many steps, of which n are wanted, and the condition did not fail before.
-  pub record IsStepping (c : Cond) (s : Scenario) (n place : ℕ) (w : InHand State Msg) : Type 0 where
+  -- The world is that after so many steps, of which n are wanted, and the condition did not fail
+  -- before.
+  pub record IsStepping (c : Cond) (s : Scenario) (n place : ℕ)
+      (w : InHand State Msg) : Type 0 where
     pub here : IsAt (rules node probes s) (replicate n event.Step) place w
-    pub before : (j : ℕ) → j < place → fails_at (rules node probes s) c (replicate n event.Step) j ≡ false
+    pub before : (j : ℕ) → j < place
+        → fails_at (rules node probes s) c (replicate n event.Step) j ≡ false

@@ -13,7 +13,8 @@ use sim_world::World;
 pub(crate) enum Clash {
     /// The same value of a probe, other than a number.
     Same(u8, u64),
-    /// The same value of the second probe, and other values of the first, of which none is the number.
+    /// The same value of the second probe, and other values of the first, of which none is the
+    /// number.
     Apart(u8, u8, u64),
 }
 
@@ -22,7 +23,8 @@ fn show_same<N: Node>(world: &World<N>, a: u16, b: u16, probe: u8, number: u64) 
     requires a { a < world.now.scenario.setup.hosts }
     requires b { b < world.now.scenario.setup.hosts }
     requires probe { probe < N.PROBES }
-    ensures { result ≡ show_same N.laws probe number (host_at a world.now.world) (host_at b world.now.world) }
+    ensures { result ≡ show_same N.laws probe number (host_at a world.now.world)
+        (host_at b world.now.world) }
 {
     let (Some(x), Some(y)) = (world.probe(a, probe), world.probe(b, probe)) else {
         return false;
@@ -35,7 +37,8 @@ fn show_equal<N: Node>(world: &World<N>, a: u16, b: u16, probe: u8) -> bool
     requires a { a < world.now.scenario.setup.hosts }
     requires b { b < world.now.scenario.setup.hosts }
     requires probe { probe < N.PROBES }
-    ensures { result ≡ show_equal N.laws probe (host_at a world.now.world) (host_at b world.now.world) }
+    ensures { result ≡ show_equal N.laws probe (host_at a world.now.world)
+        (host_at b world.now.world) }
 {
     let (Some(x), Some(y)) = (world.probe(a, probe), world.probe(b, probe)) else {
         return false;
@@ -48,7 +51,8 @@ fn show_other<N: Node>(world: &World<N>, a: u16, b: u16, probe: u8, number: u64)
     requires a { a < world.now.scenario.setup.hosts }
     requires b { b < world.now.scenario.setup.hosts }
     requires probe { probe < N.PROBES }
-    ensures { result ≡ show_other N.laws probe number (host_at a world.now.world) (host_at b world.now.world) }
+    ensures { result ≡ show_other N.laws probe number (host_at a world.now.world)
+        (host_at b world.now.world) }
 {
     let (Some(x), Some(y)) = (world.probe(a, probe), world.probe(b, probe)) else {
         return false;
@@ -62,7 +66,8 @@ impl Clash {
         requires a { a < world.now.scenario.setup.hosts }
         requires b { b < world.now.scenario.setup.hosts }
         requires probes { IsFalse (is_of_no_probe N.PROBES self) }
-        ensures { result ≡ clash N.laws self (host_at a world.now.world) (host_at b world.now.world) }
+        ensures { result ≡ clash N.laws self (host_at a world.now.world)
+            (host_at b world.now.world) }
     {
         match self {
             Clash::Same(probe, number) => show_same(world, a, b, probe, number),
@@ -76,7 +81,8 @@ impl Clash {
     fn is_after<N: Node>(self, world: &World<N>, host: u16) -> bool
         requires host { host < world.now.scenario.setup.hosts }
         requires probes { IsFalse (is_of_no_probe N.PROBES self) }
-        ensures { result ≡ list_any (clash N.laws self (host_at host world.now.world)) (drop (host + 1) world.now.world.hosts) }
+        ensures { result ≡ list_any (clash N.laws self (host_at host world.now.world))
+            (drop (host + 1) world.now.world.hosts) }
     {
         let hosts = world.hosts();
         for other in host + 1..hosts {

@@ -11,7 +11,8 @@ use sim_world::World;
 fn is_in<N: Node>(world: &World<N>, host: u16, probe: u8, op: Op, number: u64) -> bool
     requires host { host < world.now.scenario.setup.hosts }
     requires probe { probe < N.PROBES }
-    ensures { result ≡ if_any (λ v. compares op v number) (value_of N.laws probe (host_at host world.now.world)) }
+    ensures { result ≡ if_any (λ v. compares op v number)
+        (value_of N.laws probe (host_at host world.now.world)) }
 {
     match world.probe(host, probe) {
         None => true,
@@ -23,7 +24,8 @@ fn is_in<N: Node>(world: &World<N>, host: u16, probe: u8, op: Op, number: u64) -
 fn counts<N: Node>(world: &World<N>, host: u16, probe: u8, op: Op, number: u64) -> bool
     requires host { host < world.now.scenario.setup.hosts }
     requires probe { probe < N.PROBES }
-    ensures { result ≡ if_some (λ v. compares op v number) (value_of N.laws probe (host_at host world.now.world)) }
+    ensures { result ≡ if_some (λ v. compares op v number)
+        (value_of N.laws probe (host_at host world.now.world)) }
 {
     match world.probe(host, probe) {
         None => false,

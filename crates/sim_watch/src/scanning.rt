@@ -1,5 +1,6 @@
 //! Scans of a run for the first place at which a condition fails.
-ghost use Rattle.std.specs.Prelude.{◌≡◌, ℕ, ◌+◌, ◌/◌, ◌%◌, ◌≤◌, IsTrue, IfOk, OnOk, length, not, replicate};
+ghost use Rattle.std.specs.Prelude.{◌≡◌, ℕ, ◌+◌, ◌/◌, ◌%◌, ◌≤◌, IsTrue, IfOk, OnOk, length, not};
+ghost use Rattle.std.specs.Prelude.{replicate};
 ghost use Rattle.std.specs.Option.{unwrap_or};
 ghost use Rattle.sim_world.specs.Events.{rules, IsRunnable};
 ghost use Rattle.sim_tape.specs.Works.{OnlyTurns, Plays, nodes_below};
@@ -17,14 +18,16 @@ use std::alloc::Global;
 fn fails_here<N: Node>(tape: &Tape<N>, cond: &Cond) -> bool
     requires warm { IsTrue tape.now.warm }
     requires checked { fault_of tape.now.scenario.setup.hosts N.PROBES cond.now ≡ None }
-    ensures { result ≡ fails_at (rules N.laws N.PROBES tape.now.scenario) cond.now tape.now.events tape.now.place }
+    ensures { result ≡ fails_at (rules N.laws N.PROBES tape.now.scenario)
+        cond.now tape.now.events tape.now.place }
 {
     !holds(cond, tape.here())
 }
 
-/// Looks for the least place of a piece of a frozen run at which a condition, which was checked, fails. The piece lies between two
-/// checkpoints. It is walked once, forward, from the checkpoint below it, with fewer turns than the interval and one copy of a
-/// world. The run's events can happen one after the other. The only error is want of memory.
+/// Looks for the least place of a piece of a frozen run at which a condition, which was checked,
+/// fails. The piece lies between two checkpoints. It is walked once, forward, from the checkpoint
+/// below it, with fewer turns than the interval and one copy of a world. The run's events can
+/// happen one after the other. The only error is want of memory.
 pub fn scan<N: Node>(
     alloc: Global,
     frozen: &Frozen<N>,
@@ -33,21 +36,26 @@ pub fn scan<N: Node>(
     meter: &mut N::Meter,
 ) -> Result<Finding, NoMemory>
     requires order { piece.lo ≤ piece.hi }
-    requires one { piece.lo / frozen.now.scenario.interval ≡ piece.hi / frozen.now.scenario.interval }
+    requires one { piece.lo / frozen.now.scenario.interval ≡
+        piece.hi / frozen.now.scenario.interval }
     requires end { piece.hi ≤ length frozen.now.events }
     requires checked { fault_of frozen.now.scenario.setup.hosts N.PROBES cond.now ≡ None }
     ensures runs { IsRunnable (rules N.laws N.PROBES frozen.now.scenario) frozen.now.events }
     ensures piece { IfOk result (λ f. f.piece ≡ piece) }
-    ensures place { IfOk result (λ f. f.place ≡ first_failing (rules N.laws N.PROBES frozen.now.scenario) cond.now frozen.now.events piece.lo piece.hi) }
+    ensures place { IfOk result (λ f.
+        f.place ≡ first_failing (rules N.laws N.PROBES frozen.now.scenario)
+        cond.now frozen.now.events piece.lo piece.hi) }
     ensures work { OnOk result (Plays (piece.hi % frozen.now.scenario.interval)
-        (nodes_below (rules N.laws N.PROBES frozen.now.scenario) piece.lo frozen.now.events) (N.Meter.work meter.old) (N.Meter.work meter.new)) }
+        (nodes_below (rules N.laws N.PROBES frozen.now.scenario) piece.lo frozen.now.events)
+        (N.Meter.work meter.old) (N.Meter.work meter.new)) }
 {
     frozen.laws();
     scan_after(alloc, frozen, &mut None, piece, cond, meter)
 }
 
-/// Looks for the least place of a piece of a frozen run at which a condition fails, as `scan` does. The tape of the last piece, if
-/// there is one, is taken over, and that of this one is left for the next. The only error is want of memory; no tape is left then.
+/// Looks for the least place of a piece of a frozen run at which a condition fails, as `scan` does.
+/// The tape of the last piece, if there is one, is taken over, and that of this one is left for the
+/// next. The only error is want of memory; no tape is left then.
 pub fn scan_after<N: Node>(
     alloc: Global,
     frozen: &Frozen<N>,
@@ -57,14 +65,18 @@ pub fn scan_after<N: Node>(
     meter: &mut N::Meter,
 ) -> Result<Finding, NoMemory>
     requires order { piece.lo ≤ piece.hi }
-    requires one { piece.lo / frozen.now.scenario.interval ≡ piece.hi / frozen.now.scenario.interval }
+    requires one { piece.lo / frozen.now.scenario.interval ≡
+        piece.hi / frozen.now.scenario.interval }
     requires end { piece.hi ≤ length frozen.now.events }
     requires checked { fault_of frozen.now.scenario.setup.hosts N.PROBES cond.now ≡ None }
     ensures runs { IsRunnable (rules N.laws N.PROBES frozen.now.scenario) frozen.now.events }
     ensures piece { IfOk result (λ f. f.piece ≡ piece) }
-    ensures place { IfOk result (λ f. f.place ≡ first_failing (rules N.laws N.PROBES frozen.now.scenario) cond.now frozen.now.events piece.lo piece.hi) }
+    ensures place { IfOk result (λ f.
+        f.place ≡ first_failing (rules N.laws N.PROBES frozen.now.scenario)
+        cond.now frozen.now.events piece.lo piece.hi) }
     ensures work { OnOk result (Plays (piece.hi % frozen.now.scenario.interval)
-        (nodes_below (rules N.laws N.PROBES frozen.now.scenario) piece.lo frozen.now.events) (N.Meter.work meter.old) (N.Meter.work meter.new)) }
+        (nodes_below (rules N.laws N.PROBES frozen.now.scenario) piece.lo frozen.now.events)
+        (N.Meter.work meter.old) (N.Meter.work meter.new)) }
 {
     frozen.laws();
     let mut tape = frozen.tape_after(alloc, last.take(), piece.lo, meter)?;
@@ -89,9 +101,10 @@ pub fn scan_after<N: Node>(
     Ok(Finding { piece, place: None })
 }
 
-/// Looks for the least place of a run of steps, at most so many, at which a condition, which was checked, fails. The run begins at
-/// the start of the scenario and goes on until nothing is pending. Each host is booted once, and no turn is counted past the place
-/// that is found. The only error is want of memory.
+/// Looks for the least place of a run of steps, at most so many, at which a condition, which was
+/// checked, fails. The run begins at the start of the scenario and goes on until nothing is
+/// pending. Each host is booted once, and no turn is counted past the place that is found. The only
+/// error is want of memory.
 pub fn scan_seed<N: Node>(
     alloc: Global,
     scenario: &Scenario,
@@ -101,8 +114,11 @@ pub fn scan_seed<N: Node>(
 ) -> Result<Option<u32>, NoMemory>
     requires most { events ≤ 65536 }
     requires checked { fault_of scenario.now.setup.hosts N.PROBES cond.now ≡ None }
-    ensures place { IfOk result (λ found. found ≡ first_failing (rules N.laws N.PROBES scenario.now) cond.now (replicate events Event.Step) 0 events) }
-    ensures work { IfOk result (λ found. OnlyTurns (scenario.now.setup.hosts + unwrap_or found events)
+    ensures place { IfOk result (λ found.
+        found ≡ first_failing (rules N.laws N.PROBES scenario.now) cond.now
+        (replicate events Event.Step) 0 events) }
+    ensures work { IfOk result (λ found.
+        OnlyTurns (scenario.now.setup.hosts + unwrap_or found events)
         (N.Meter.work meter.old) (N.Meter.work meter.new)) }
 {
     let mut world = World::<N>::start(alloc, scenario, meter)?;

@@ -6,7 +6,8 @@ use std::alloc::Global;
 use std::marker::Model;
 use std::sync::Arc;
 
-/// A condition in memory of its own, which is shared and never changed. Contracts see the condition.
+/// A condition in memory of its own, which is shared and never changed. Contracts see the
+/// condition.
 #[derive(Drop)]
 pub struct SharedCond {
     inner: Arc<Cond>,

@@ -6,8 +6,8 @@ use Rattle.sim_tape.proofs.log.Log.play_stretch.Given as goal
 
 abbrev pub invariant-loop-entry : goal.invariant-loop-entry
 invariant-loop-entry g l = record {
-  here : IsAt (rules g.N.Node.laws g.N.Node.PROBES l.self.scenario) (events_of l.self.entries) (l.place + l.entry-index) l.world;
-  records : AreRecords g.N.Node.told g.N.Node.records (rules g.N.Node.laws g.N.Node.PROBES l.self.scenario) (events_of l.self.entries) (l.place + l.entry-index) l.ring.items;
+  here : IsAt (rules g.N.Node.laws g.N.Node.PROBES l.self.scenario) (events_of l.self.entries) (l.fn.way.start + l.entry-index) l.world;
+  records : AreRecords g.N.Node.told g.N.Node.records (rules g.N.Node.laws g.N.Node.PROBES l.self.scenario) (events_of l.self.entries) (l.fn.way.start + l.entry-index) l.ring.items;
   reach : length l.ring.items ≡ min l.initial.ring.capacity (length l.initial.ring.items + l.entry-index);
   capacity : l.ring.capacity ≡ l.initial.ring.capacity;
   work : OnlyTurns l.entry-index (g.N.Meter.Meter.work l.initial.meter) (g.N.Meter.Meter.work l.meter);

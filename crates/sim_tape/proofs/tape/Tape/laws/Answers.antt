@@ -1,7 +1,7 @@
 use Rattle.std.proofs.Common.{subst}
 use Rattle.sim_world.specs.Events.{rules, IsRunnable}
 use Rattle.sim_tape.specs.Tape.{Tape}
-use Rattle.sim_tape.proofs.tape.Tape.len.Goals as goal
+use Rattle.sim_tape.proofs.tape.Tape.laws.Goals as goal
 
 pub returns-clause-runs : goal.returns-clause-runs
 returns-clause-runs g c =
