@@ -1,14 +1,16 @@
--- A disk: stable bytes, and the writes that are not stable yet, in the order in which they were made.
-use Rattle.std.specs.Prelude.{◌≡◌, ◌<◌, ◌≤◌, ℕ, zero, suc, ◌+◌, ◌-◌, ◌/◌, ◌%◌, ◌^◌, List, [], ◌∷◌, ◌++◌, length, take, drop, replicate}
+-- A disk: stable bytes, and the writes that are not stable yet, in the order in which they were
+-- made.
+use Rattle.std.specs.Prelude.{◌≡◌, ◌<◌, ◌≤◌, ℕ, zero, suc, ◌+◌, ◌-◌, ◌/◌, ◌%◌, ◌^◌, List, [], ◌∷◌}
+use Rattle.std.specs.Prelude.{◌++◌, length, take, drop, replicate}
 use Rattle.std.specs.List.{fold}
 
 pub record Write : Type 0 where
   pub offset : ℕ
   pub bytes : List ℕ
 
---     stable     the bytes that a crash leaves as they are
---     writes     the writes that are not stable yet
---     asked      how many of the writes, from the first on, the syncs in flight cover
+-- stable     the bytes that a crash leaves as they are
+-- writes     the writes that are not stable yet
+-- asked      how many of the writes, from the first on, the syncs in flight cover
 pub record Disk : Type 0 where
   pub stable : List ℕ
   pub writes : List Write
@@ -24,7 +26,8 @@ filled_to place bytes = bytes ++ replicate (place - length bytes) 0
 -- a write laid over the bytes; a write of no bytes changes nothing
 abbrev pub laid_at : ℕ → List ℕ → List ℕ → List ℕ
 laid_at offset [] over = over
-laid_at offset (b ∷ bytes) over = take offset (filled_to offset over) ++ (b ∷ bytes) ++ drop (offset + length (b ∷ bytes)) over
+laid_at offset (b ∷ bytes) over =
+    take offset (filled_to offset over) ++ (b ∷ bytes) ++ drop (offset + length (b ∷ bytes)) over
 
 abbrev pub laid : List ℕ → Write → List ℕ
 laid over w = laid_at w.offset w.bytes over
@@ -39,9 +42,11 @@ read d = all_laid d.stable d.writes
 
 -- after one more write
 abbrev pub written : ℕ → List ℕ → Disk → Disk
-written offset bytes d = record d { writes = d.writes ++ record { offset = offset; bytes = bytes } ∷ [] }
+written offset bytes d =
+    record d { writes = d.writes ++ record { offset = offset; bytes = bytes } ∷ [] }
 
--- A sync asks for the writes that no sync covers yet: how many these are, and the disk after it asked.
+-- A sync asks for the writes that no sync covers yet: how many these are, and the disk after it
+-- asked.
 abbrev pub not_asked : Disk → ℕ
 not_asked d = length d.writes - d.asked
 
@@ -50,9 +55,15 @@ all_asked d = record d { asked = length d.writes }
 
 -- when the sync comes, the writes that it covers are stable, the first so many
 abbrev pub synced : ℕ → Disk → Disk
-synced count d = record { stable = all_laid d.stable (take count d.writes); writes = drop count d.writes; asked = d.asked - count }
+synced count d =
+    record {
+      stable = all_laid d.stable (take count d.writes);
+      writes = drop count d.writes;
+      asked = d.asked - count;
+    }
 
--- how many of its bytes a crash keeps of a write: none, all, or a first part, by the word drawn for it
+-- how many of its bytes a crash keeps of a write: none, all, or a first part, by the word drawn for
+-- it
 abbrev pub kept_by : ℕ → ℕ → ℕ → ℕ
 kept_by zero word len = 0
 kept_by (suc zero) word len = len
@@ -71,13 +82,16 @@ all_kept _ _ = []
 
 -- after a crash what is kept is stable, and no write is left
 abbrev pub crashed : List ℕ → Disk → Disk
-crashed words d = record { stable = all_laid d.stable (all_kept words d.writes); writes = []; asked = 0 }
+crashed words d =
+    record { stable = all_laid d.stable (all_kept words d.writes); writes = []; asked = 0 }
 
--- What is true of every disk: it has at most 4096 bytes, a write has 1 to 64 and ends within these, there are at most 2 ^ 24
--- writes, and only writes that are there were asked for.
+-- What is true of every disk: it has at most 4096 bytes, a write has 1 to 64 and ends within these,
+-- there are at most 2 ^ 24 writes, and only writes that are there were asked for.
 abbrev pub AllFit : List Write → Type 0
 AllFit [] = Unit {0}
-AllFit (w ∷ writes) = (1 ≤ length w.bytes) × (length w.bytes ≤ 64) × (w.offset + length w.bytes ≤ 4096) × AllFit writes
+AllFit (w ∷ writes) =
+    (1 ≤ length w.bytes) × (length w.bytes ≤ 64) × (w.offset + length w.bytes ≤ 4096)
+    × AllFit writes
 
 pub record IsDisk (d : Disk) : Type 0 where
   pub stable : length d.stable ≤ 4096
@@ -85,12 +99,10 @@ pub record IsDisk (d : Disk) : Type 0 where
   pub few : length d.writes ≤ 2 ^ 24
   pub asked : d.asked ≤ length d.writes
 
--- The record of a change.
---     Unchanged  nothing changed: a sync came that covered no write, or a disk crashed that had no write
---     Added      a write was added
---     Asked      a sync asked, and so many writes had been asked for before
---     Synced     a sync that covered so many writes came, and this was the disk
---     Crashed    the disk crashed, and this was the disk
+-- The record of a change. Unchanged nothing changed: a sync came that covered no write, or a disk
+-- crashed that had no write Added a write was added Asked a sync asked, and so many writes had been
+-- asked for before Synced a sync that covered so many writes came, and this was the disk Crashed
+-- the disk crashed, and this was the disk
 pub data DiskUndo : Type 0 where
   Unchanged : DiskUndo
   Added : DiskUndo

@@ -1,4 +1,5 @@
--- Disks that are kept side by side: the bytes of all, the writes of all, and where each disk stands in these.
+-- Disks that are kept side by side: the bytes of all, the writes of all, and where each disk stands
+-- in these.
 use Rattle.std.specs.Prelude.{◌≤◌, ℕ, List, length, map}
 use Rattle.std.specs.List.{All, slice_range}
 use Rattle.sim_disk.specs.Disk.{Disk, Write, IsDisk}
@@ -6,7 +7,12 @@ use Rattle.sim_disk.specs.declared.packed.Span.{Span}
 
 -- the disk whose bytes and writes stand there
 abbrev pub disk_at : List ℕ → List Write → Span → Disk
-disk_at bytes writes s = record { stable = slice_range bytes s.from s.to; writes = slice_range writes s.first s.last; asked = s.asked }
+disk_at bytes writes s =
+    record {
+      stable = slice_range bytes s.from s.to;
+      writes = slice_range writes s.first s.last;
+      asked = s.asked;
+    }
 
 abbrev pub disks_at : List ℕ → List Write → List Span → List Disk
 disks_at bytes writes spans = map (disk_at bytes writes) spans

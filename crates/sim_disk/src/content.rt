@@ -37,7 +37,11 @@ impl Content {
         writes: &[Write],
         asked: u32,
     ) -> Result<Content, NoMemory>
-        ensures { IfOk result (λ c. disk_in c ≡ record { stable = bytes.now; writes = writes.now; asked = asked }) }
+        ensures { IfOk result (λ c. disk_in c ≡ record {
+          stable = bytes.now;
+          writes = writes.now;
+          asked = asked;
+        }) }
     {
         let stable = Vec::from_slice(alloc, bytes)?;
         let mut all = Vec::with_capacity(alloc, writes.len())?;
@@ -49,8 +53,8 @@ impl Content {
         })
     }
 
-    /// Becomes what a sync of the first `count` writes makes of another content. After an error it can
-    /// be anything.
+    /// Becomes what a sync of the first `count` writes makes of another content. After an error it
+    /// can be anything.
     pub(crate) fn become_synced(&mut self, was: &Content, count: u32) -> Result<(), NoMemory>
         requires asked { count ≤ was.now.asked }
         requires there { count ≤ length was.now.writes.items }

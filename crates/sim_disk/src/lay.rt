@@ -19,7 +19,8 @@ fn fill_to(bytes: &mut Vec<u8>, place: usize) -> Result<(), NoMemory>
 // Copies bytes over others from an offset on.
 fn copy_over(bytes: &mut Vec<u8>, offset: usize, source: &[u8])
     requires { offset + length source.now ≤ length bytes.old.items }
-    ensures { bytes.new.items ≡ take offset bytes.old.items ++ source.now ++ drop (offset + length source.now) bytes.old.items }
+    ensures { bytes.new.items ≡ take offset bytes.old.items ++ source.now
+        ++ drop (offset + length source.now) bytes.old.items }
 {
     bytes.as_mut_slice()[offset..offset + source.len()].copy_from_slice(source);
 }
@@ -86,7 +87,8 @@ pub(crate) fn kept_laid(
     words: &[u32],
 ) -> Result<(), NoMemory>
     requires { length words.now ≡ length writes.now }
-    ensures { OnOk result (bytes.new.items ≡ disk.all_laid over.now (disk.all_kept words.now writes.now)) }
+    ensures { OnOk result (bytes.new.items ≡ disk.all_laid over.now
+        (disk.all_kept words.now writes.now)) }
 {
     set_to(bytes, over)?;
     for i in 0..writes.len() {

@@ -1,5 +1,6 @@
 //! Disks that are kept for later.
-ghost use Rattle.std.specs.Prelude.{◌≡◌, ◌+◌, ◌<◌, ◌^◌, [], ◌∷◌, ◌++◌, length, slice_get, Some, IfOk, OnOk, OnErr};
+ghost use Rattle.std.specs.Prelude.{◌≡◌, ◌+◌, ◌<◌, ◌^◌, [], ◌∷◌, ◌++◌, length, slice_get, Some};
+ghost use Rattle.std.specs.Prelude.{IfOk, OnOk, OnErr};
 
 use crate::content::Content;
 use crate::lay::append_all;
@@ -20,7 +21,8 @@ pub struct PackedDisks {
     spans: Vec<Span>,
 }
 
-// Where the bytes and the writes of a disk stand, and how many of the writes the syncs in flight cover.
+// Where the bytes and the writes of a disk stand, and how many of the writes the syncs in flight
+// cover.
 #[derive(Clone, Copy)]
 struct Span {
     from: u32,
@@ -43,7 +45,8 @@ impl Model for PackedDisks {
     ghost invariant = { λ p. AreSpans p.bytes.items p.writes.items p.spans.items };
 }
 
-// Where so many more end that stand behind these, in 32 bits. What ends past that is refused as a want of memory.
+// Where so many more end that stand behind these, in 32 bits. What ends past that is refused as a
+// want of memory.
 fn end(before: usize, more: usize) -> Result<u32, NoMemory>
     requires { before + more < 2 ^ 64 }
     ensures { IfOk result (λ end. end ≡ before + more) }

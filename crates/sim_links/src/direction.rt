@@ -1,4 +1,5 @@
-ghost use Rattle.std.specs.Prelude.{◌≡◌, ◌<◌, ◌↔◌, [], ◌∷◌, ◌++◌, length, IsTrue, IfOk, OnOk, OnErr};
+ghost use Rattle.std.specs.Prelude.{◌≡◌, ◌<◌, ◌↔◌, [], ◌∷◌, ◌++◌, length, IsTrue, IfOk, OnOk};
+ghost use Rattle.std.specs.Prelude.{OnErr};
 ghost use Rattle.std.specs.Fn.{FnReturnsAt};
 
 use crate::{Change, LinkState, LinkUndo, NoMemory};
@@ -58,7 +59,8 @@ fn copied<M: Drop, F: Fn(&M) -> Result<M, NoMemory>>(
 }
 
 impl<M> Direction<M> {
-    ghost use Rattle.sim_links.specs.Link.{open_link, state_after, kept_in, changed, let_go, with_held, without_newest, fits, back};
+    ghost use Rattle.sim_links.specs.Link.{open_link, state_after, kept_in, changed, let_go};
+    ghost use Rattle.sim_links.specs.Link.{with_held, without_newest, fits, back};
 
     /// Open, with nothing held.
     pub fn open(alloc: Global) -> Direction<M>
@@ -157,7 +159,8 @@ impl<M> Direction<M> {
     where
         M: Drop,
         requires callable { F.IsAlwaysCallable each.now }
-        requires equal { (m : M) (r : _) → FnReturnsAt F.Fn each.now m r → IfOk r (λ copy. copy ≡ m) }
+        requires equal { (m : M) (r : _) → FnReturnsAt F.Fn each.now m r
+            → IfOk r (λ copy. copy ≡ m) }
         ensures { IfOk result (λ copy. copy ≡ self.now) }
     {
         let held = copied(alloc, &self.held, each)?;

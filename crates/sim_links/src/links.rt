@@ -1,4 +1,5 @@
-ghost use Rattle.std.specs.Prelude.{◌≡◌, ◌<◌, ◌≤◌, ◌+◌, ◌-◌, ◌*◌, ◌^◌, [], ◌∷◌, ◌++◌, length, min, IfOk, OnOk, OnErr};
+ghost use Rattle.std.specs.Prelude.{◌≡◌, ◌<◌, ◌≤◌, ◌+◌, ◌-◌, ◌*◌, ◌^◌, [], ◌∷◌, ◌++◌, length, min};
+ghost use Rattle.std.specs.Prelude.{IfOk, OnOk, OnErr};
 ghost use Rattle.std.specs.Fn.{FnReturnsAt};
 
 use crate::table::Table;
@@ -34,7 +35,8 @@ fn place(a: u16, b: u16) -> usize
 }
 
 impl<M> Links<M> {
-    ghost use Rattle.sim_links.specs.Link.{all_open, link, with_link, changed, let_go, state_after, kept_in, fits, back, with_held, without_newest};
+    ghost use Rattle.sim_links.specs.Link.{all_open, link, with_link, changed, let_go, state_after};
+    ghost use Rattle.sim_links.specs.Link.{kept_in, fits, back, with_held, without_newest};
     ghost use Rattle.sim_links.specs.declared.LinkState.TheVariants as state;
 
     /// All directions open, and nothing held.
@@ -76,8 +78,8 @@ impl<M> Links<M> {
         direction.count().min(u32::MAX as usize) as u32
     }
 
-    /// The messages that the direction from host a to host b holds, the oldest first. Both hosts are
-    /// below 32.
+    /// The messages that the direction from host a to host b holds, the oldest first. Both hosts
+    /// are below 32.
     pub fn messages(&self, a: u16, b: u16) -> &[M]
         requires from { a < 32 }
         requires to { b < 32 }
@@ -96,12 +98,18 @@ impl<M> Links<M> {
         ensures after { self.new ≡ with_link a b (changed change (link a b self.old)) self.old }
         ensures left { result.1.items ≡ let_go change (link a b self.old) }
         ensures whole { length self.old ≡ 1024 }
-        ensures undo { result.0 ≡ record { a = a; b = b; change = change; was = (link a b self.old).state } }
+        ensures undo { result.0 ≡ record {
+          a = a;
+          b = b;
+          change = change;
+          was = (link a b self.old).state;
+        } }
 
         // What an undo of it asks for, and that it leads back.
         ensures fits { fits result.0 (link a b self.new) }
         ensures none_left { kept_in (state_after result.0.change result.0.was) result.1.items ≡ [] }
-        ensures back { with_link a b (back result.0 result.1.items (link a b self.new)) self.new ≡ self.old }
+        ensures back { with_link a b (back result.0 result.1.items (link a b self.new)) self.new
+            ≡ self.old }
     {
         let slot = self.table.touch(place(a, b));
         let direction = &mut self.table.touched[slot];
@@ -111,9 +119,9 @@ impl<M> Links<M> {
         (undo, messages)
     }
 
-    /// Takes a change back, given its record and the messages that left the direction. The direction
-    /// has to be as the change left it. No message left a direction that is held after the change.
-    /// Takes no memory.
+    /// Takes a change back, given its record and the messages that left the direction. The
+    /// direction has to be as the change left it. No message left a direction that is held after
+    /// the change. Takes no memory.
     pub fn undo(&mut self, undo: LinkUndo, messages: Vec<M>)
     where
         M: Drop,
@@ -121,7 +129,8 @@ impl<M> Links<M> {
         requires to { undo.b < 32 }
         requires fits { fits undo (link undo.a undo.b self.old) }
         requires none_left { kept_in (state_after undo.change undo.was) messages.items ≡ [] }
-        ensures { self.new ≡ with_link undo.a undo.b (back undo messages.items (link undo.a undo.b self.old)) self.old }
+        ensures { self.new ≡ with_link undo.a undo.b (back undo messages.items
+            (link undo.a undo.b self.old)) self.old }
     {
         let slot = self.table.touch(place(undo.a, undo.b));
         let direction = &mut self.table.touched[slot];
@@ -138,9 +147,11 @@ impl<M> Links<M> {
         requires to { b < 32 }
         requires held { (link a b self.old).state ≡ state.Held }
         requires few { length (link a b self.old).held < 4096 }
-        ensures ok { OnOk result (self.new ≡ with_link a b (with_held message (link a b self.old)) self.old) }
+        ensures ok { OnOk result (self.new ≡ with_link a b (with_held message (link a b self.old))
+            self.old) }
         ensures some { OnOk result (0 < length (link a b self.new).held) }
-        ensures back { OnOk result (with_link a b (without_newest (link a b self.new)) self.new ≡ self.old) }
+        ensures back { OnOk result (with_link a b (without_newest (link a b self.new)) self.new
+            ≡ self.old) }
         ensures err { OnErr result (self.new ≡ self.old) }
     {
         let slot = self.table.touch(place(a, b));

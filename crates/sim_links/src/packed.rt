@@ -66,7 +66,8 @@ impl<M> PackedLinks<M> {
         requires within { place < 1024 }
         requires open { slice_index_or self.old place open_link ≡ open_link }
         requires callable { F.IsAlwaysCallable each.now }
-        requires equal { (m : M) (r : _) → FnReturnsAt F.Fn each.now m r → IfOk r (λ copy. copy ≡ m) }
+        requires equal { (m : M) (r : _) → FnReturnsAt F.Fn each.now m r
+            → IfOk r (λ copy. copy ≡ m) }
         ensures { OnOk result (self.new ≡ slice_set self.old place direction.now) }
     {
         if direction.is_open() {

@@ -1,5 +1,5 @@
-//! A table of directions. It stores only the directions that were ever changed, so that a copy and a
-//! drop cost what those cost.
+//! A table of directions. It stores only the directions that were ever changed, so that a copy and
+//! a drop cost what those cost.
 ghost use Rattle.std.specs.Prelude.{◌≡◌, ◌<◌, slice_index_or, slice_set, IfOk};
 ghost use Rattle.std.specs.Fn.{FnReturnsAt};
 ghost use Rattle.sim_links.specs.Link.{all_open, open_link};
@@ -9,7 +9,8 @@ use crate::NoMemory;
 use crate::direction::Direction;
 use std::alloc::Global;
 
-/// The directions by their slots. It has no invariant: each call states what it requires and ensures.
+/// The directions by their slots. It has no invariant: each call states what it requires and
+/// ensures.
 #[derive(Drop)]
 pub(crate) struct Table<M> {
     // The slot of each direction: 0 if it was never changed.
@@ -104,7 +105,8 @@ impl<M> Table<M> {
         M: Drop,
         requires sound { IsSound self.now }
         requires callable { F.IsAlwaysCallable each.now }
-        requires equal { (m : M) (r : _) → FnReturnsAt F.Fn each.now m r → IfOk r (λ copy. copy ≡ m) }
+        requires equal { (m : M) (r : _) → FnReturnsAt F.Fn each.now m r
+            → IfOk r (λ copy. copy ≡ m) }
         ensures links { IfOk result (λ table. links_in table ≡ links_in self.now) }
         ensures sound { IfOk result IsSound }
     {

@@ -12,7 +12,8 @@ seen (stored.Write offset len bytes) = Effect.Write offset (take len bytes)
 seen stored.Sync = Effect.Sync
 seen stored.Done = Effect.Done
 
--- What is stored is within the limits: it names a host, a delay from 1 to 60,000 ms, 1 to 64 bytes of the 64 that there are.
+-- What is stored is within the limits: it names a host, a delay from 1 to 60,000 ms, 1 to 64 bytes
+-- of the 64 that there are.
 abbrev pub IsStored : {M : Type 0} → ℕ → Stored M → Type 0
 IsStored hosts (stored.Send to msg) = to < hosts
 IsStored hosts (stored.Timer delay) = (1 ≤ delay) × (delay ≤ 60000)

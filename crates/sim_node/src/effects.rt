@@ -1,5 +1,7 @@
-ghost use Rattle.std.specs.Prelude.{◌≡◌, ◌+◌, ◌<◌, ◌≤◌, List, [], ◌∷◌, ◌++◌, length, IfOk, IfNone, IfSome};
-ghost use Rattle.sim_node.specs.Effects.{Effect as Asked, Effects as EffectsValue, IsWithin, AllWithin, IsLimited};
+ghost use Rattle.std.specs.Prelude.{◌≡◌, ◌+◌, ◌<◌, ◌≤◌, List, [], ◌∷◌, ◌++◌, length, IfOk, IfNone};
+ghost use Rattle.std.specs.Prelude.{IfSome};
+ghost use Rattle.sim_node.specs.Effects.{Effect as Asked, Effects as EffectsValue, IsWithin};
+ghost use Rattle.sim_node.specs.Effects.{AllWithin, IsLimited};
 ghost use Rattle.sim_node.specs.Seen.{seen, IsStored};
 
 use crate::{MAX_EFFECTS, MAX_WRITE_BYTES, NoMemory, Setup};
@@ -17,8 +19,9 @@ pub enum Effect<M> {
     },
     /// A timer after a delay of 1 to 60,000 ms, in place of the one that is pending.
     Timer(u32),
-    /// Bytes for the disk from an offset on (both in bytes): the first `len` of `bytes`, 1 to 64. The rest of `bytes` has
-    /// no meaning. A write that would end beyond the 4,096 bytes of the disk is skipped.
+    /// Bytes for the disk from an offset on (both in bytes): the first `len` of `bytes`, 1 to 64.
+    /// The rest of `bytes` has no meaning. A write that would end beyond the 4,096 bytes of the
+    /// disk is skipped.
     Write {
         offset: u32,
         len: u32,
@@ -32,8 +35,9 @@ pub enum Effect<M> {
 
 /// The effects of one reaction, in order, with room for 40.
 ///
-/// A contract sees them as the number of hosts and the list of the effects. Only `new` takes memory.
-/// When all effects are taken out the value is as `new` made it, and can be used for the next reaction.
+/// A contract sees them as the number of hosts and the list of the effects. Only `new` takes
+/// memory. When all effects are taken out the value is as `new` made it, and can be used for the
+/// next reaction.
 #[derive(Drop)]
 pub struct Effects<M> {
     hosts: u16,
@@ -50,11 +54,13 @@ impl<M> Model for Effects<M> {
 
     ghost view = { λ e. record { hosts = e.hosts; list = map seen e.list.items } };
 
-    ghost invariant = { λ e. (length e.list.items ≤ 40) × (40 ≤ deque_capacity e.list) × AllStored e.hosts e.list.items };
+    ghost invariant = { λ e. (length e.list.items ≤ 40) × (40 ≤ deque_capacity e.list)
+        × AllStored e.hosts e.list.items };
 }
 
 impl<M> Effects<M> {
-    /// No effects, for the hosts of the setup, with the room for 40. The only error is want of memory.
+    /// No effects, for the hosts of the setup, with the room for 40. The only error is want of
+    /// memory.
     pub fn new(alloc: Global, setup: &Setup) -> Result<Effects<M>, NoMemory>
         ensures { IfOk result (λ e. e ≡ record { hosts = setup.now.hosts; list = [] }) }
     {
@@ -80,11 +86,12 @@ impl<M> Effects<M> {
         self.list.len()
     }
 
-    /// Takes the first effect out; the others keep their order. Where there is none, nothing changes. What was asked for is
-    /// within the limits.
+    /// Takes the first effect out; the others keep their order. Where there is none, nothing
+    /// changes. What was asked for is within the limits.
     pub fn take_first(&mut self) -> Option<Effect<M>>
         ensures none { IfNone result ((self.old.list ≡ []) × (self.new ≡ self.old)) }
-        ensures some { IfSome result (λ e. self.old ≡ record self.new { list = seen e ∷ self.new.list }) }
+        ensures some { IfSome result (λ e. self.old ≡ record self.new
+            { list = seen e ∷ self.new.list }) }
         ensures stored { IfSome result (λ e. IsStored self.old.hosts e) }
         ensures limited { IsLimited self.old }
     {
@@ -120,13 +127,15 @@ impl<M: Drop> Effects<M> {
         self.push(Effect::Timer(delay));
     }
 
-    /// Asks for a write of 1 to 64 bytes to the disk, from an offset in bytes on. It is skipped where it would end beyond
-    /// the 4,096 bytes of the disk.
+    /// Asks for a write of 1 to 64 bytes to the disk, from an offset in bytes on. It is skipped
+    /// where it would end beyond the 4,096 bytes of the disk.
     pub fn write(&mut self, offset: u32, bytes: &[u8])
         requires room { length self.old.list < 40 }
         requires some { 1 ≤ length bytes.now }
         requires few { length bytes.now ≤ 64 }
-        ensures { self.new ≡ record self.old { list = self.old.list ++ Asked.Write offset bytes.now ∷ [] } }
+        ensures { self.new ≡ record self.old {
+          list = self.old.list ++ Asked.Write offset bytes.now ∷ [];
+        } }
     {
         let mut stored = [0; MAX_WRITE_BYTES];
         stored[..bytes.len()].copy_from_slice(bytes);

@@ -60,16 +60,17 @@ pub const MAX_EFFECTS: usize = 40;
 
 /// How many servers and hosts there are, and how many operations each host has as a client.
 ///
-/// The hosts are numbered from 0. Those below `servers` are the servers, the others are the clients.
-/// Each node boots with the setup of its cluster. Within the limits are at least one server and one client,
-/// at most 32 hosts, and 1 to 1,000 operations for each client.
+/// The hosts are numbered from 0. Those below `servers` are the servers, the others are the
+/// clients. Each node boots with the setup of its cluster. Within the limits are at least one
+/// server and one client, at most 32 hosts, and 1 to 1,000 operations for each client.
 #[derive(Clone, Copy, Debug, PartialEq, Eq)]
 pub struct Setup {
     /// The number of servers.
     pub servers: u16,
     /// The number of hosts, servers and clients together.
     pub hosts: u16,
-    /// The operations of each host by its number. What stands at a server, or at no host, has no meaning.
+    /// The operations of each host by its number. What stands at a server, or at no host, has no
+    /// meaning.
     pub ops: [u16; 32],
 }
 

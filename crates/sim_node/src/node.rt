@@ -8,16 +8,19 @@ use crate::meter::Meter;
 use crate::{Input, NoMemory, Setup};
 use std::alloc::Global;
 
-/// A node: the state of what runs on a host. It boots, reacts to inputs by effects, and can be taken back.
+/// A node: the state of what runs on a host. It boots, reacts to inputs by effects, and can be
+/// taken back.
 ///
-/// An impl gives its tables as ghost members and is proved to follow them. The world that runs the nodes knows no more
-/// of them than this contract. The only error of a method is want of memory. Of `boot`, `copy` and `copy_msg` nothing
-/// is left then; after it from `act` or `undo` the node's value is open, and the world that held it drops it.
+/// An impl gives its tables as ghost members and is proved to follow them. The world that runs the
+/// nodes knows no more of them than this contract. The only error of a method is want of memory. Of
+/// `boot`, `copy` and `copy_msg` nothing is left then; after it from `act` or `undo` the node's
+/// value is open, and the world that held it drops it.
 pub trait Node: Drop {
     /// What the nodes send to each other.
     type Msg: Drop;
 
-    /// The record of a reaction, by which it is taken back. It is best small: of fixed fields, without a collection.
+    /// The record of a reaction, by which it is taken back. It is best small: of fixed fields,
+    /// without a collection.
     type Undo: Drop;
 
     /// What counts the calls. A node that works with each meter takes it as a type parameter.
@@ -38,7 +41,8 @@ pub trait Node: Drop {
     /// Which states a record fits, and where it leads back to.
     ghost records: { NodeRecords Self Self.Undo };
 
-    /// The state in which the host `me` starts from the stable bytes of its disk. It counts one turn.
+    /// The state in which the host `me` starts from the stable bytes of its disk. It counts one
+    /// turn.
     fn boot(
         alloc: Global,
         setup: &Setup,
@@ -52,8 +56,9 @@ pub trait Node: Drop {
         ensures keeps { IfOk result (λ s. told s ≡ setup.now) }
         ensures work { Self.Meter.work meter.new ≡ turned (Self.Meter.work meter.old) };
 
-    /// Reacts to an input at a time of the clock in milliseconds, with one random word, and asks for at most 40 effects.
-    /// The answer is the record by which `undo` takes the reaction back. It counts one turn.
+    /// Reacts to an input at a time of the clock in milliseconds, with one random word, and asks
+    /// for at most 40 effects. The answer is the record by which `undo` takes the reaction back. It
+    /// counts one turn.
     fn act(
         &mut self,
         alloc: Global,
@@ -66,7 +71,10 @@ pub trait Node: Drop {
         requires empty { effects.old ≡ record { hosts = (told self.old).hosts; list = [] } }
         requires sender { IsFrom (told self.old).hosts input.now }
         ensures state { OnOk result (self.new ≡ (laws.react self.old now input.now word).0) }
-        ensures effects { OnOk result (effects.new ≡ record { hosts = (told self.old).hosts; list = (laws.react self.old now input.now word).1 }) }
+        ensures effects { OnOk result (effects.new ≡ record {
+          hosts = (told self.old).hosts;
+          list = (laws.react self.old now input.now word).1;
+        }) }
         ensures keeps { OnOk result (told self.new ≡ told self.old) }
         ensures fits { IfOk result (λ r. records.fits r self.new) }
         ensures back { IfOk result (λ r. records.back r self.new ≡ self.old) }
@@ -99,8 +107,9 @@ pub trait Node: Drop {
         ensures { IfOk result (λ m. m ≡ msg.now) };
 }
 
-/// Lets a node react and takes the reaction back at once: the node is as before, and the effects stay as they were asked
-/// for. It counts one turn and one undo. The only error is want of memory; the node's value is then open.
+/// Lets a node react and takes the reaction back at once: the node is as before, and the effects
+/// stay as they were asked for. It counts one turn and one undo. The only error is want of memory;
+/// the node's value is then open.
 pub fn there_and_back<N: Node>(
     node: &mut N,
     alloc: Global,
@@ -113,7 +122,10 @@ pub fn there_and_back<N: Node>(
     requires empty { effects.old ≡ record { hosts = (N.told node.old).hosts; list = [] } }
     requires sender { IsFrom (N.told node.old).hosts input.now }
     ensures same { OnOk result (node.new ≡ node.old) }
-    ensures effects { OnOk result (effects.new ≡ record { hosts = (N.told node.old).hosts; list = (N.laws.react node.old now input.now word).1 }) }
+    ensures effects { OnOk result (effects.new ≡ record {
+      hosts = (N.told node.old).hosts;
+      list = (N.laws.react node.old now input.now word).1;
+    }) }
     ensures work { OnOk result (N.Meter.work meter.new ≡ undone (turned (N.Meter.work meter.old))) }
 {
     let undo = node.act(alloc, now, input, word, effects, meter)?;

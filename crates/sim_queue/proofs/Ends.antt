@@ -5,7 +5,7 @@ use Rattle.std.proofs.lemmas.Nat.{shl-shr, pow_pos}
 use Rattle.std.proofs.Math.Nat.{mul-lt-mul_of_pos_right}
 use Rattle.std.proofs.Math.Pow.{pow_mono}
 use Rattle.sim_queue.specs.declared.lists.Node.{Node}
-use Rattle.sim_queue.specs.Lists.{node, no_node, end_of, list_of, order_of, IsLinked, IsLists, IsSame}
+use Rattle.sim_queue.specs.inside.Lists.{node, no_node, end_of, list_of, order_of, IsLinked, IsLists, IsSame}
 use Rattle.sim_queue.proofs.Nodes.{node_past}
 
 -- one more node without a key

@@ -5,8 +5,8 @@ use Rattle.std.proofs.lemmas.Option.{none-some}
 use Rattle.std.specs.Option.{option_map}
 use Rattle.sim_queue.specs.declared.Item.{Item}
 use Rattle.sim_queue.specs.Pending.{first, first_of, is_before}
-use Rattle.sim_queue.specs.Wheel.{NotAfter}
-use Rattle.sim_queue.specs.Slots.{at, IsFirstSlot, HasNoItem}
+use Rattle.sim_queue.specs.inside.Wheel.{NotAfter}
+use Rattle.sim_queue.specs.inside.Slots.{at, IsFirstSlot, HasNoItem}
 use Rattle.sim_queue.specs.Items.{item_of, items_from}
 
 late : (zd zs yd ys : ℕ) → NotAfter zd zs yd ys → (nat_lt yd zd || ((yd == zd) && nat_lt ys zs)) ≡ false

@@ -5,7 +5,7 @@ use Rattle.std.proofs.Math.Seq.{paste, take-append_seam, drop-append_seam}
 use Rattle.std.proofs.lemmas.List.Edits.{paste_all}
 use Rattle.std.proofs.lemmas.List.{length-drop, take_all}
 use Rattle.sim_queue.specs.Items.{pending}
-use Rattle.sim_queue.specs.Sparse.{slots_of, IsSparse}
+use Rattle.sim_queue.specs.inside.Sparse.{slots_of, IsSparse}
 use Rattle.sim_queue.proofs.Sparse.{trimmed_sparse, widened_sparse}
 use Rattle.sim_queue.proofs.Views.{pending_trimmed}
 

@@ -2,7 +2,7 @@
 use Rattle.std.proofs.Common.{◌≡◌, ℕ, zero, suc, ◌<◌, ◌≤◌, List, sym, ap, ◌∙◌, subst, arith, length, inl, inr, ⊎_elim}
 use Rattle.std.proofs.lemmas.Bool.{cases_lt}
 use Rattle.sim_queue.specs.declared.lists.Node.{Node}
-use Rattle.sim_queue.specs.Lists.{node, list_of, order_of, HasKey, IsLinked, IsLists, IsBehind, IsEmptyList}
+use Rattle.sim_queue.specs.inside.Lists.{node, list_of, order_of, HasKey, IsLinked, IsLists, IsBehind, IsEmptyList}
 use Rattle.sim_queue.proofs.Nodes.{key_within, key_from, linked_within, linked_key}
 
 -- p is the first node of a list, and i is not before it

@@ -3,7 +3,7 @@ use Rattle.std.proofs.Common.{◌≡◌, ◌≢◌, ℕ, ◌^◌, ◌<◌, ◌�
 use Rattle.std.proofs.Math.ListN.{set, length-set}
 use Rattle.std.proofs.lemmas.Bool.{cases_eq}
 use Rattle.sim_queue.specs.declared.lists.Node.{Node}
-use Rattle.sim_queue.specs.Lists.{node, day, list_of, order_of, key_order, IsLinked, IsLists, IsBehind, IsAhead, IsFree, IsSpot, KeepsOthers}
+use Rattle.sim_queue.specs.inside.Lists.{node, day, list_of, order_of, key_order, IsLinked, IsLists, IsBehind, IsAhead, IsFree, IsSpot, KeepsOthers}
 use Rattle.sim_queue.proofs.Nodes.{node_set, node_other, SetsAfter, SetsBefore}
 
 -- the node p stands between b and a

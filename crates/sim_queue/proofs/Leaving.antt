@@ -3,7 +3,7 @@ use Rattle.std.proofs.Common.{◌≡◌, ◌≢◌, ℕ, ◌^◌, ◌<◌, ◌�
 use Rattle.std.proofs.Math.ListN.{set, length-set}
 use Rattle.std.proofs.lemmas.Bool.{cases_eq, cases_lt}
 use Rattle.sim_queue.specs.declared.lists.Node.{Node}
-use Rattle.sim_queue.specs.Lists.{node, day, list_of, order_of, key_order, HasKey, IsLinked, IsLists, IsBehind, IsAhead, KeepsOthers, IsEmptyList}
+use Rattle.sim_queue.specs.inside.Lists.{node, day, list_of, order_of, key_order, HasKey, IsLinked, IsLists, IsBehind, IsAhead, KeepsOthers, IsEmptyList}
 use Rattle.sim_queue.proofs.Nodes.{key_from, linked_within, node_set, node_other, SetsAfter, SetsBefore}
 use Rattle.sim_queue.proofs.Heads.{no_head}
 

@@ -6,9 +6,9 @@ use Rattle.std.proofs.lemmas.Nat.{le-div, pow_pos}
 use Rattle.std.specs.Prelude.{slice_index_or}
 use Rattle.std.specs.Int.{bit_at}
 use Rattle.sim_queue.specs.declared.lists.Node.{Node}
-use Rattle.sim_queue.specs.Lists.{node, day, list_of, order_of, HasKey, IsLists, IsEmptyList}
-use Rattle.sim_queue.specs.Marks.{mark_of, IsUnmarked}
-use Rattle.sim_queue.specs.Wheel.{HasMarks, IsFrom, IsFloor, IsDue}
+use Rattle.sim_queue.specs.inside.Lists.{node, day, list_of, order_of, HasKey, IsLists, IsEmptyList}
+use Rattle.sim_queue.specs.inside.Marks.{mark_of, IsUnmarked}
+use Rattle.sim_queue.specs.inside.Wheel.{HasMarks, IsFrom, IsFloor, IsDue}
 use Rattle.sim_queue.proofs.Heads.{IsLeastIn, IsHead, head_least}
 
 -- a due is in no day before an earlier one's

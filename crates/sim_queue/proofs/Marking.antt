@@ -7,7 +7,7 @@ use Rattle.std.proofs.lemmas.Bool.{cases_eq, cases_lt}
 use Rattle.std.proofs.lemmas.List.{get_or-set_same, get_or-set_other}
 use Rattle.std.proofs.lemmas.Nat.{shr-shr, shr_le}
 use Rattle.std.proofs.lemmas.Nat.Bits.{bit_at_set_same, bit_at_set_other, bit_at_clear_same, bit_at_clear_other, bit_at-trailing_zeros, bit_at_above, bit_at-zero}
-use Rattle.sim_queue.specs.Marks.{mark_of, IsMarked, IsUnmarked}
+use Rattle.sim_queue.specs.inside.Marks.{mark_of, IsMarked, IsUnmarked}
 
 mark_same : (words : List ℕ) (due d v : ℕ) → due % 256 / 64 < length words → d % 256 / 64 ≡ due % 256 / 64 → mark_of (set words (due % 256 / 64) v) d ≡ bit_at v (d % 64)
 mark_same words due d v within same =

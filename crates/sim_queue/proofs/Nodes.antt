@@ -4,7 +4,7 @@ use Rattle.std.proofs.Math.ListN.{get_or, set, length-set}
 use Rattle.std.proofs.lemmas.Bool.{cases_eq, cases_lt}
 use Rattle.std.proofs.lemmas.List.{get_or-set_same, get_or-set_other, get_or_default}
 use Rattle.sim_queue.specs.declared.lists.Node.{Node}
-use Rattle.sim_queue.specs.Lists.{node, no_node, HasKey, IsLinked, IsLists}
+use Rattle.sim_queue.specs.inside.Lists.{node, no_node, HasKey, IsLinked, IsLists}
 
 pub node_past : (nodes : List Node) (i : ℕ) → length nodes ≤ i → node nodes i ≡ no_node
 node_past [] i h = refl

@@ -11,10 +11,10 @@ use Rattle.std.specs.Option.{option_map, option_to_list, is_some, IsSome}
 use Rattle.sim_queue.specs.declared.Item.{Item}
 use Rattle.sim_queue.specs.Pending.{with_serial}
 use Rattle.sim_queue.specs.Items.{item_of, items_from}
-use Rattle.sim_queue.specs.Slots.{at}
-use Rattle.sim_queue.specs.Wheel.{key_at, HasNone, HasSame, IsFirst}
-use Rattle.sim_queue.specs.Slots.{IsFirstSlot, HasNoItem}
-use Rattle.sim_queue.specs.Sparse.{index_at, body_at, entry, slot_of, slots_of, IsStored, IsSparse, IsPut, IsTaken, HasSameBodies}
+use Rattle.sim_queue.specs.inside.Slots.{at}
+use Rattle.sim_queue.specs.inside.Wheel.{key_at, HasNone, HasSame, IsFirst}
+use Rattle.sim_queue.specs.inside.Slots.{IsFirstSlot, HasNoItem}
+use Rattle.sim_queue.specs.inside.Sparse.{index_at, body_at, entry, slot_of, slots_of, IsStored, IsSparse, IsPut, IsTaken, HasSameBodies}
 use Rattle.sim_queue.proofs.Laws.{again, length-put_back, length-without}
 use Rattle.sim_queue.proofs.Views.{items-append, items-none, with-at, without-at, put-at, is_queue}
 

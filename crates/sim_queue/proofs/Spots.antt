@@ -2,7 +2,7 @@
 use Rattle.std.proofs.Common.{◌≡◌, ◌≢◌, ℕ, ◌^◌, ◌<◌, ◌≤◌, ◌%◌, List, sym, ap, ◌∙◌, subst, arith, length, inl, ⊎_elim}
 use Rattle.std.proofs.lemmas.Bool.{cases_lt}
 use Rattle.sim_queue.specs.declared.lists.Node.{Node}
-use Rattle.sim_queue.specs.Lists.{node, day, list_of, order_of, key_order, HasKey, IsLinked, IsLists, IsAhead, IsSpot}
+use Rattle.sim_queue.specs.inside.Lists.{node, day, list_of, order_of, key_order, HasKey, IsLinked, IsLists, IsAhead, IsSpot}
 use Rattle.std.proofs.Math.ListN.{get_or}
 use Rattle.sim_queue.proofs.Nodes.{linked_key, linked_within, node_read}
 

@@ -7,9 +7,9 @@ use Rattle.std.proofs.lemmas.Bool.{cases_eq, cases_lt, lt-ltb, le-ltb}
 use Rattle.std.proofs.lemmas.Option.{none-some, same_Some}
 use Rattle.std.specs.Bool.{OnFalse}
 use Rattle.sim_queue.specs.declared.lists.Node.{Node}
-use Rattle.sim_queue.specs.Lists.{node, no_node, day, list_of, order_of, HasKey, IsLists, IsEmptyList, KeepsOthers, IsFree, IsSame}
-use Rattle.sim_queue.specs.Marks.{mark_of, IsMarked}
-use Rattle.sim_queue.specs.Wheel.{key_of, keys_of, key_at, HasNone, HasSame, HasSameBut, IsPlace, IsFirst, IsDue, IsFrom, IsFloor, HasMarks, IsWheel}
+use Rattle.sim_queue.specs.inside.Lists.{node, no_node, day, list_of, order_of, HasKey, IsLists, IsEmptyList, KeepsOthers, IsFree, IsSame}
+use Rattle.sim_queue.specs.inside.Marks.{mark_of, IsMarked}
+use Rattle.sim_queue.specs.inside.Wheel.{key_of, keys_of, key_at, HasNone, HasSame, HasSameBut, IsPlace, IsFirst, IsDue, IsFrom, IsFloor, HasMarks, IsWheel}
 use Rattle.sim_queue.proofs.Nodes.{key_from}
 use Rattle.sim_queue.proofs.Heads.{IsLeastIn, head_least, head_there, no_head}
 

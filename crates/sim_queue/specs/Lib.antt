@@ -1,10 +1,4 @@
 pub mod Pending
 pub mod Items
-pub mod Link
-pub mod Lists
-pub mod Marks
 pub mod Packed
-pub mod Slots
-pub mod Sparse
-pub mod Store
-pub mod Wheel
+pub mod inside

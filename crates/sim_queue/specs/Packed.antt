@@ -1,4 +1,5 @@
--- What is pending in a queue that is kept for later: its items by rising serials, and the next serial.
+-- What is pending in a queue that is kept for later: its items by rising serials, and the next
+-- serial.
 use Rattle.std.specs.Prelude.{ℕ, ◌≤◌, ◌^◌, List}
 use Rattle.sim_queue.specs.declared.Item.{Item}
 use Rattle.sim_queue.specs.Pending.{Pending, IsQueue}

@@ -41,11 +41,14 @@ mod slots;
 mod store;
 mod wheel;
 
-ghost use Rattle.std.specs.Prelude.{◌≡◌, ℕ, ◌^◌, ◌<◌, ◌≤◌, OnOk, OnErr, IfOk, IfSome, IfNone, Some, length, Bool};
+ghost use Rattle.std.specs.Prelude.{◌≡◌, ℕ, ◌^◌, ◌<◌, ◌≤◌, OnOk, OnErr, IfOk, IfSome, IfNone, Some};
+ghost use Rattle.std.specs.Prelude.{length, Bool};
 ghost use Rattle.std.specs.Fn.{FnReturnsAt};
 ghost use Rattle.std.specs.Option.{option_map};
 ghost use Rattle.sim_queue.specs.Items.{item_of};
-ghost use Rattle.sim_queue.specs.Pending.{none_pending, IsPending, HasNewest, IsQueue, Decides, first, insert, take, put_back, uninsert, newest, next_taken, with_serial};
+ghost use Rattle.sim_queue.specs.Pending.{none_pending, IsPending, HasNewest, IsQueue, Decides};
+ghost use Rattle.sim_queue.specs.Pending.{first, insert, take, put_back, uninsert, newest};
+ghost use Rattle.sim_queue.specs.Pending.{next_taken, with_serial};
 
 pub use packed::PackedQueue;
 pub use std::alloc::AllocError as NoMemory;
@@ -69,7 +72,7 @@ pub struct Queue<B> {
 
 impl<B> Model for Queue<B> {
     ghost use Rattle.sim_queue.specs.Pending.{Pending};
-    ghost use Rattle.sim_queue.specs.Store.{pending_in, IsKeyed};
+    ghost use Rattle.sim_queue.specs.inside.Store.{pending_in, IsKeyed};
 
     ghost Value = { Pending B };
 
@@ -88,7 +91,8 @@ impl<B> Queue<B> {
         }
     }
 
-    /// The same, made for items that are due up to `reach` milliseconds after the first one. Others may take longer.
+    /// The same, made for items that are due up to `reach` milliseconds after the first one. Others
+    /// may take longer.
     pub fn with_reach(alloc: Global, reach: u64) -> Queue<B>
         ensures { result ≡ none_pending }
     {
@@ -107,7 +111,8 @@ impl<B> Queue<B> {
 
     /// Adds an item that is due at `due` (ms). Returns its serial, which was the next one.
     ///
-    /// The next serial has to be below 2^40. After `NoMemory` the queue is unchanged, and the body is dropped.
+    /// The next serial has to be below 2^40. After `NoMemory` the queue is unchanged, and the body
+    /// is dropped.
     #[inline(always)]
     pub fn insert(&mut self, due: u64, body: B) -> Result<u64, NoMemory>
     where
@@ -122,8 +127,8 @@ impl<B> Queue<B> {
         self.store.add(due, body)
     }
 
-    /// The due (ms), the serial and the body of the first item: the one with the least due and, among
-    /// equal dues, the least serial.
+    /// The due (ms), the serial and the body of the first item: the one with the least due and,
+    /// among equal dues, the least serial.
     pub fn first(&self) -> Option<(u64, u64, &B)>
         ensures { option_map (λ r. item_of r.1 (r.0, r.2.now)) result ≡ first self.now.items }
     {
@@ -132,7 +137,8 @@ impl<B> Queue<B> {
 
     /// The due (ms) and the body of the pending item with this serial.
     pub fn get(&self, serial: u64) -> Option<(u64, &B)>
-        ensures { option_map (λ r. item_of serial (r.0, r.1.now)) result ≡ with_serial serial self.now.items }
+        ensures { option_map (λ r. item_of serial (r.0, r.1.now)) result
+            ≡ with_serial serial self.now.items }
     {
         self.store.get(serial)
     }
@@ -140,7 +146,8 @@ impl<B> Queue<B> {
     /// The least serial, not below `serial`, of an item whose body passes the test.
     pub fn next_that<F: Fn(&B) -> bool>(&self, serial: u64, test: F) -> Option<u64>
         requires { F.IsAlwaysCallable test }
-        ensures { (p : B → Bool) → Decides F.Fn test p → result ≡ next_taken serial p self.now.items }
+        ensures { (p : B → Bool) → Decides F.Fn test p → result
+            ≡ next_taken serial p self.now.items }
     {
         self.store.next_that(serial, &test)
     }
@@ -187,8 +194,8 @@ impl<B> Queue<B> {
 
     /// Puts an item back that was taken. The next serial stays.
     ///
-    /// The item's serial has to be below the next one, and not pending. After `NoMemory` the queue is
-    /// unchanged, and the item is dropped.
+    /// The item's serial has to be below the next one, and not pending. After `NoMemory` the queue
+    /// is unchanged, and the item is dropped.
     #[inline(always)]
     pub fn put_back(&mut self, item: Item<B>) -> Result<(), NoMemory>
     where
@@ -252,7 +259,8 @@ impl<B> Queue<B> {
     }
 }
 
-// The width of a day with which 256 days are not shorter than this (ms): the day has 2 to the power of it milliseconds.
+// The width of a day with which 256 days are not shorter than this (ms): the day has 2 to the power
+// of it milliseconds.
 fn width_for(reach: u64) -> u32
     ensures { result ≤ 56 }
 {

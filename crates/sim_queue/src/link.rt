@@ -12,7 +12,7 @@ pub(crate) struct Link {
 
 impl Model for Link {
     ghost use Rattle.std.specs.Prelude.{ℕ, Option};
-    ghost use Rattle.sim_queue.specs.Link.{place_of, code_of, same_code};
+    ghost use Rattle.sim_queue.specs.inside.Link.{place_of, code_of, same_code};
 
     ghost Value = { Option ℕ };
 

@@ -1,6 +1,10 @@
-//! Keys in 256 lists, each in the order of its keys. A due falls into a day, and days that are equal modulo 256 share a list.
-ghost use Rattle.std.specs.Prelude.{◌≡◌, ◌≢◌, ℕ, ◌^◌, ◌<◌, ◌≤◌, ◌%◌, OnOk, IfOk, IfSome, IfNone, length, slice_set, nat_lt};
-ghost use Rattle.sim_queue.specs.Lists.{node, day, list_of, order_of, key_order, end_of, no_node, HasKey, IsLinked, IsLists, IsFree, IsSame, IsSpot, KeepsOthers, IsEmptyList};
+//! Keys in 256 lists, each in the order of its keys. A due falls into a day, and days that are
+//! equal modulo 256 share a list.
+ghost use Rattle.std.specs.Prelude.{◌≡◌, ◌≢◌, ℕ, ◌^◌, ◌<◌, ◌≤◌, ◌%◌, OnOk, IfOk, IfSome, IfNone};
+ghost use Rattle.std.specs.Prelude.{length, slice_set, nat_lt};
+ghost use Rattle.sim_queue.specs.inside.Lists.{node, day, list_of, order_of, key_order, end_of};
+ghost use Rattle.sim_queue.specs.inside.Lists.{no_node, HasKey, IsLinked, IsLists, IsFree, IsSame};
+ghost use Rattle.sim_queue.specs.inside.Lists.{IsSpot, KeepsOthers, IsEmptyList};
 
 use crate::NoMemory;
 use std::alloc::Global;
@@ -20,7 +24,8 @@ pub(crate) struct Node {
     pub(crate) after: u32,
 }
 
-/// The nodes of all lists. Each list is a ring, in which its end comes before the first key and after the last one.
+/// The nodes of all lists. Each list is a ring, in which its end comes before the first key and
+/// after the last one.
 #[derive(Drop)]
 pub(crate) struct Lists {
     pub(crate) nodes: Vec<Node>,
@@ -44,8 +49,10 @@ impl Lists {
     #[inline(always)]
     pub(crate) fn head(&self, list: u64) -> Option<u32>
         requires { list < 256 }
-        ensures first { IfSome result (λ p. (list < length self.now.nodes.items) × (256 ≤ p) × ((node self.now.nodes.items list).after ≡ p)) }
-        ensures none { IfNone result (list < length self.now.nodes.items → (node self.now.nodes.items list).after < 256) }
+        ensures first { IfSome result (λ p. (list < length self.now.nodes.items) × (256 ≤ p)
+            × ((node self.now.nodes.items list).after ≡ p)) }
+        ensures none { IfNone result (list < length self.now.nodes.items
+            → (node self.now.nodes.items list).after < 256) }
     {
         let place = self.nodes.get(list as usize)?.after;
         if place < LISTS {
@@ -63,7 +70,8 @@ impl Lists {
         ensures small { IfOk result (λ p. p < 4294967295) }
         ensures same { IsSame self.old.nodes.items self.new.nodes.items }
         ensures lists { IsLists self.new.width self.new.nodes.items }
-        ensures size { length self.old.nodes.items ≤ 4294967295 → length self.new.nodes.items ≤ 4294967295 }
+        ensures size { length self.old.nodes.items ≤ 4294967295 → length self.new.nodes.items
+            ≤ 4294967295 }
         ensures width { self.new.width ≡ self.old.width }
     {
         let place = self.free;
@@ -84,7 +92,8 @@ impl Lists {
         ensures small { IfOk result (λ p. p < 4294967295) }
         ensures same { IsSame self.old.nodes.items self.new.nodes.items }
         ensures lists { IsLists self.new.width self.new.nodes.items }
-        ensures size { length self.old.nodes.items ≤ 4294967295 → length self.new.nodes.items ≤ 4294967295 }
+        ensures size { length self.old.nodes.items ≤ 4294967295 → length self.new.nodes.items
+            ≤ 4294967295 }
         ensures width { self.new.width ≡ self.old.width }
     {
         self.make_ends()?;
@@ -103,7 +112,8 @@ impl Lists {
         ensures made { OnOk result (256 ≤ length self.new.nodes.items) }
         ensures same { IsSame self.old.nodes.items self.new.nodes.items }
         ensures lists { IsLists self.new.width self.new.nodes.items }
-        ensures size { length self.old.nodes.items ≤ 4294967295 → length self.new.nodes.items ≤ 4294967295 }
+        ensures size { length self.old.nodes.items ≤ 4294967295 → length self.new.nodes.items
+            ≤ 4294967295 }
         ensures width { self.new.width ≡ self.old.width }
     {
         if self.nodes.len() < LISTS as usize {
@@ -119,7 +129,8 @@ impl Lists {
         requires width { self.now.width ≤ 56 }
         requires made { 256 ≤ length self.now.nodes.items }
         requires small { serial < 2 ^ 40 }
-        requires fresh { (i : ℕ) → HasKey (node self.now.nodes.items i) → (node self.now.nodes.items i).serial ≢ serial }
+        requires fresh { (i : ℕ) → HasKey (node self.now.nodes.items i)
+            → (node self.now.nodes.items i).serial ≢ serial }
         ensures { IsSpot self.now.width due serial result self.now.nodes.items }
     {
         let list = (self.day(due) % 256) as usize;
@@ -139,9 +150,11 @@ impl Lists {
     fn spot_before(&self, last: u32, due: u64, serial: u64) -> u32
         requires lists { IsLists self.now.width self.now.nodes.items }
         requires small { serial < 2 ^ 40 }
-        requires fresh { (i : ℕ) → HasKey (node self.now.nodes.items i) → (node self.now.nodes.items i).serial ≢ serial }
+        requires fresh { (i : ℕ) → HasKey (node self.now.nodes.items i)
+            → (node self.now.nodes.items i).serial ≢ serial }
         requires key { HasKey (node self.now.nodes.items last) }
-        requires list { list_of self.now.width (node self.now.nodes.items last) ≡ day self.now.width due % 256 }
+        requires list { list_of self.now.width (node self.now.nodes.items last)
+            ≡ day self.now.width due % 256 }
         requires behind { key_order due serial < order_of (node self.now.nodes.items last) }
         ensures { IsSpot self.now.width due serial result self.now.nodes.items }
     {
@@ -186,7 +199,8 @@ impl Lists {
         ensures lists { IsLists self.new.width self.new.nodes.items }
         ensures gone { 2 ^ 40 ≤ (node self.new.nodes.items place).serial }
         ensures others { KeepsOthers place self.old.nodes.items self.new.nodes.items }
-        ensures last { result.before ≡ result.after → IsEmptyList self.new.width (list_of self.new.width result) self.new.nodes.items }
+        ensures last { result.before ≡ result.after → IsEmptyList self.new.width
+            (list_of self.new.width result) self.new.nodes.items }
         ensures width { self.new.width ≡ self.old.width }
         ensures size { length self.new.nodes.items ≡ length self.old.nodes.items }
     {
@@ -267,7 +281,8 @@ fn is_behind(node: &Node, due: u64, serial: u64) -> bool
 #[inline(always)]
 fn set_after(nodes: &mut Vec<Node>, place: u32, after: u32)
     requires { place < length nodes.old.items }
-    ensures { nodes.new.items ≡ slice_set nodes.old.items place (record (node nodes.old.items place) { after = after }) }
+    ensures { nodes.new.items ≡ slice_set nodes.old.items place
+        (record (node nodes.old.items place) { after = after }) }
 {
     nodes[place as usize].after = after;
 }
@@ -276,7 +291,8 @@ fn set_after(nodes: &mut Vec<Node>, place: u32, after: u32)
 #[inline(always)]
 fn set_before(nodes: &mut Vec<Node>, place: u32, before: u32)
     requires { place < length nodes.old.items }
-    ensures { nodes.new.items ≡ slice_set nodes.old.items place (record (node nodes.old.items place) { before = before }) }
+    ensures { nodes.new.items ≡ slice_set nodes.old.items place
+        (record (node nodes.old.items place) { before = before }) }
 {
     nodes[place as usize].before = before;
 }

@@ -1,7 +1,7 @@
 //! Marks on dues, one for all that are equal modulo 256.
 ghost use Rattle.std.specs.Prelude.{◌≡◌, ◌≢◌, ℕ, ◌+◌, ◌<◌, ◌≤◌, ◌/◌, ◌%◌, IfSome, IfNone};
 ghost use Rattle.std.specs.Bool.{OnTrue, OnFalse};
-ghost use Rattle.sim_queue.specs.Marks.{mark_of, IsMarked, IsUnmarked};
+ghost use Rattle.sim_queue.specs.inside.Marks.{mark_of, IsMarked, IsUnmarked};
 
 /// Which dues are marked: a bit for each due modulo 256, 64 in a word.
 #[derive(Clone, Copy)]
@@ -21,7 +21,8 @@ impl Marks {
     #[inline(always)]
     pub(crate) fn set(&mut self, due: u64)
         ensures set { (d : ℕ) → d % 256 ≡ due % 256 → IsMarked self.new.words d }
-        ensures others { (d : ℕ) → d % 256 ≢ due % 256 → mark_of self.new.words d ≡ mark_of self.old.words d }
+        ensures others { (d : ℕ) → d % 256 ≢ due % 256 → mark_of self.new.words d
+            ≡ mark_of self.old.words d }
     {
         self.words[(due % 256 / 64) as usize] |= 1 << (due % 64);
     }
@@ -29,8 +30,10 @@ impl Marks {
     /// Takes the mark of a due away, if it is told to.
     #[inline(always)]
     pub(crate) fn clear_if(&mut self, told: bool, due: u64)
-        ensures cleared { OnTrue told ((d : ℕ) → d % 256 ≡ due % 256 → IsUnmarked self.new.words d) }
-        ensures others { (d : ℕ) → d % 256 ≢ due % 256 → mark_of self.new.words d ≡ mark_of self.old.words d }
+        ensures cleared { OnTrue told ((d : ℕ) → d % 256 ≡ due % 256
+            → IsUnmarked self.new.words d) }
+        ensures others { (d : ℕ) → d % 256 ≢ due % 256 → mark_of self.new.words d
+            ≡ mark_of self.old.words d }
         ensures same { OnFalse told (self.new ≡ self.old) }
     {
         if told {
@@ -43,8 +46,10 @@ impl Marks {
     pub(crate) fn distance(&self, due: u64) -> Option<u64>
         ensures within { IfSome result (λ n. due % 64 + n < 64) }
         ensures marked { IfSome result (λ n. IsMarked self.now.words (due + n)) }
-        ensures between { IfSome result (λ n. (d : ℕ) → due ≤ d → d < due + n → IsUnmarked self.now.words d) }
-        ensures none { IfNone result ((d : ℕ) → due ≤ d → d / 64 ≡ due / 64 → IsUnmarked self.now.words d) }
+        ensures between { IfSome result (λ n. (d : ℕ) → due ≤ d → d < due + n
+            → IsUnmarked self.now.words d) }
+        ensures none { IfNone result ((d : ℕ) → due ≤ d → d / 64 ≡ due / 64
+            → IsUnmarked self.now.words d) }
     {
         let rest = self.words[(due % 256 / 64) as usize] >> (due % 64);
         if rest == 0 {

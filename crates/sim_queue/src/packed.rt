@@ -9,7 +9,8 @@ use crate::{Item, NoMemory, Queue};
 use std::alloc::Global;
 use std::marker::Model;
 
-/// A queue that is kept for later, in less memory: its items, without their keys and places. Contracts see the queue.
+/// A queue that is kept for later, in less memory: its items, without their keys and places.
+/// Contracts see the queue.
 #[derive(Drop)]
 pub struct PackedQueue<B> {
     // The items, in the order of their serials.
@@ -45,7 +46,8 @@ impl<B> PackedQueue<B> {
 
     /// An equal queue, whose bodies are those that `each` answers.
     ///
-    /// `each` has to answer an equal body or `NoMemory`. After `NoMemory` the bodies copied so far are dropped.
+    /// `each` has to answer an equal body or `NoMemory`. After `NoMemory` the bodies copied so far
+    /// are dropped.
     pub fn open<F: Fn(&B) -> Result<B, NoMemory>>(
         &self,
         alloc: Global,

@@ -1,12 +1,15 @@
-//! The slots of a queue, one for each serial from the oldest on. A slot has the place of its item, which stays there until it is taken out.
-ghost use Rattle.std.specs.Prelude.{◌≡◌, ◌≢◌, ℕ, ◌+◌, ◌-◌, ◌^◌, ◌<◌, ◌≤◌, OnOk, OnErr, IfOk, IfSome, IfNone, Bool, Some, None, ◌∷◌, ◌++◌, [], length, slice_set, replicate};
+//! The slots of a queue, one for each serial from the oldest on. A slot has the place of its item,
+//! which stays there until it is taken out.
+ghost use Rattle.std.specs.Prelude.{◌≡◌, ◌≢◌, ℕ, ◌+◌, ◌-◌, ◌^◌, ◌<◌, ◌≤◌, OnOk, OnErr, IfOk};
+ghost use Rattle.std.specs.Prelude.{IfSome, IfNone, Bool, Some, None, ◌∷◌, ◌++◌, [], length};
+ghost use Rattle.std.specs.Prelude.{slice_set, replicate};
 ghost use Rattle.std.specs.Fn.{FnReturnsAt};
 ghost use Rattle.std.specs.Option.{option_map, IsSome};
 ghost use Rattle.sim_queue.specs.Items.{item_of, items_from};
 ghost use Rattle.sim_queue.specs.Pending.{Decides};
-ghost use Rattle.sim_queue.specs.Slots.{at, IsFirstTaken, IsFirstSlot, HasNoItem};
-ghost use Rattle.sim_queue.specs.Sparse.{body_at, IsPut, IsTaken, HasSameBodies};
-ghost use Rattle.sim_queue.specs.Wheel.{key_at, HasSame};
+ghost use Rattle.sim_queue.specs.inside.Slots.{at, IsFirstTaken, IsFirstSlot, HasNoItem};
+ghost use Rattle.sim_queue.specs.inside.Sparse.{body_at, IsPut, IsTaken, HasSameBodies};
+ghost use Rattle.sim_queue.specs.inside.Wheel.{key_at, HasSame};
 
 use crate::link::Link;
 use crate::wheel::Wheel;
@@ -29,17 +32,21 @@ pub(crate) struct Slots<B> {
 }
 
 impl<B> Model for Slots<B> {
-    ghost use Rattle.sim_queue.specs.Sparse.{SlotList, slots_of, IsSparse};
+    ghost use Rattle.sim_queue.specs.inside.Sparse.{SlotList, slots_of, IsSparse};
 
     ghost Value = { SlotList B };
 
-    ghost view = { λ a. record { base = a.base; items = slots_of a.wheel a.bodies.items a.places.items } };
+    ghost view = { λ a. record {
+      base = a.base;
+      items = slots_of a.wheel a.bodies.items a.places.items;
+    } };
 
     ghost invariant = { λ a. IsSparse a.wheel a.bodies.items a.places.items a.base a.count };
 }
 
 impl<B> Slots<B> {
-    /// No slots, of which the first one is to stand for the serial `base`. A day of the wheel has 2 to the power of `width` milliseconds.
+    /// No slots, of which the first one is to stand for the serial `base`. A day of the wheel has 2
+    /// to the power of `width` milliseconds.
     pub(crate) fn new(alloc: Global, base: u64, width: u32) -> Slots<B>
         requires { width ≤ 56 }
         ensures { result ≡ record { base = base; items = [] } }
@@ -122,7 +129,8 @@ impl<B> Slots<B> {
         Some((serial - self.base) as usize)
     }
 
-    /// Adds a slot with this due and body behind the others, and answers its serial, or changes nothing.
+    /// Adds a slot with this due and body behind the others, and answers its serial, or changes
+    /// nothing.
     #[inline(always)]
     pub(crate) fn push(&mut self, due: u64, body: B) -> Result<u64, NoMemory>
     where
@@ -148,7 +156,8 @@ impl<B> Slots<B> {
         requires within { place < length self.old.items }
         requires empty { at self.old.items place ≡ None }
         requires small { self.old.base + length self.old.items ≤ 2 ^ 40 }
-        ensures ok { OnOk result (self.new.items ≡ slice_set self.old.items place (Some (due, body))) }
+        ensures ok { OnOk result (self.new.items ≡ slice_set self.old.items place
+            (Some (due, body))) }
         ensures err { OnErr result (self.new.items ≡ self.old.items) }
         ensures base { self.new.base ≡ self.old.base }
     {
@@ -163,7 +172,8 @@ impl<B> Slots<B> {
     #[inline(always)]
     pub(crate) fn take(&mut self, place: usize) -> Option<Item<B>>
         requires { place < length self.old.items }
-        ensures item { result ≡ option_map (item_of (self.old.base + place)) (at self.old.items place) }
+        ensures item { result ≡ option_map (item_of (self.old.base + place))
+            (at self.old.items place) }
         ensures rest { self.new.items ≡ slice_set self.old.items place None }
         ensures base { self.new.base ≡ self.old.base }
     {
@@ -224,7 +234,10 @@ impl<B> Slots<B> {
     /// Adds `count` empty slots before the others, or changes nothing.
     pub(crate) fn add_front(&mut self, count: usize) -> Result<(), NoMemory>
         requires { count ≤ self.old.base }
-        ensures ok { OnOk result (self.new ≡ record { base = self.old.base - count; items = replicate count None ++ self.old.items }) }
+        ensures ok { OnOk result (self.new ≡ record {
+          base = self.old.base - count;
+          items = replicate count None ++ self.old.items;
+        }) }
         ensures err { OnErr result (self.new ≡ self.old) }
     {
         let Some(len) = self.places.len().checked_add(count) else {
@@ -240,7 +253,8 @@ impl<B> Slots<B> {
     pub(crate) fn first_taken<F: Fn(&B) -> bool>(&self, start: usize, test: &F) -> Option<usize>
         requires { F.IsAlwaysCallable test.now }
         ensures within { IfSome result (λ i. i < length self.now.items) }
-        ensures found { (p : B → Bool) → Decides F.Fn test.now p → IsFirstTaken p self.now.items start result }
+        ensures found { (p : B → Bool) → Decides F.Fn test.now p
+            → IsFirstTaken p self.now.items start result }
     {
         for place in start..self.places.len() {
             if let Some((_due, body)) = self.get(place) {
@@ -287,7 +301,8 @@ fn put_in<B: Drop>(
 ) -> Result<u32, NoMemory>
     requires small { serial < 2 ^ 40 }
     requires fresh { (k d : ℕ) → key_at wheel.old k ≢ Some (d, serial) }
-    ensures put { IfOk result (λ k. IsPut k due serial body wheel.old wheel.new bodies.old.items bodies.new.items) }
+    ensures put { IfOk result (λ k. IsPut k due serial body wheel.old wheel.new bodies.old.items
+        bodies.new.items) }
     ensures keys { OnErr result (HasSame wheel.old wheel.new) }
     ensures bodies { OnErr result (HasSameBodies bodies.old.items bodies.new.items) }
     ensures small { IfOk result (λ k. k < 4294967295) }
@@ -299,7 +314,8 @@ fn put_in<B: Drop>(
     Ok(at)
 }
 
-// Puts a body at a place, or changes nothing. The wheel gives out its places in turn, so that none is skipped, and there is room for one more.
+// Puts a body at a place, or changes nothing. The wheel gives out its places in turn, so that none
+// is skipped, and there is room for one more.
 #[inline(always)]
 fn put_body<B: Drop>(bodies: &mut Vec<Option<B>>, at: u32, body: B) -> Result<(), NoMemory>
     ensures body { OnOk result (body_at bodies.new.items at ≡ Some body) }
@@ -392,7 +408,11 @@ fn copied<B, F: Fn(&B) -> Result<B, NoMemory>>(
 ) -> Result<Item<B>, NoMemory>
     requires callable { F.IsAlwaysCallable each.now }
     requires equal { (x : B) (r : _) → FnReturnsAt F.Fn each.now x r → IfOk r (λ y. y ≡ x) }
-    ensures { IfOk result (λ copied. copied ≡ record { due = due; serial = serial; body = body.now }) }
+    ensures { IfOk result (λ copied. copied ≡ record {
+      due = due;
+      serial = serial;
+      body = body.now;
+    }) }
 {
     Ok(Item {
         due,

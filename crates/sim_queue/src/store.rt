@@ -1,11 +1,14 @@
 //! A queue's operations, by its slots.
-ghost use Rattle.std.specs.Prelude.{◌≡◌, ℕ, ◌+◌, ◌^◌, ◌<◌, ◌≤◌, OnOk, OnErr, IfOk, IfSome, IfNone, length, Bool};
+ghost use Rattle.std.specs.Prelude.{◌≡◌, ℕ, ◌+◌, ◌^◌, ◌<◌, ◌≤◌, OnOk, OnErr, IfOk, IfSome, IfNone};
+ghost use Rattle.std.specs.Prelude.{length, Bool};
 ghost use Rattle.std.specs.Fn.{FnReturnsAt};
 ghost use Rattle.std.specs.Option.{option_map};
 ghost use Rattle.sim_queue.specs.Items.{item_of};
-ghost use Rattle.sim_queue.specs.Pending.{none_pending, IsPending, HasNewest, IsQueue, Rise, Decides, first, insert, take, put_back, uninsert, newest, next_taken, with_serial};
+ghost use Rattle.sim_queue.specs.Pending.{none_pending, IsPending, HasNewest, IsQueue, Rise};
+ghost use Rattle.sim_queue.specs.Pending.{Decides, first, insert, take, put_back, uninsert, newest};
+ghost use Rattle.sim_queue.specs.Pending.{next_taken, with_serial};
 ghost use Rattle.sim_queue.specs.Packed.{packed};
-ghost use Rattle.sim_queue.specs.Store.{pending_in, IsKeyed};
+ghost use Rattle.sim_queue.specs.inside.Store.{pending_in, IsKeyed};
 
 use crate::packed::PackedQueue;
 use crate::slots::Slots;
@@ -48,7 +51,8 @@ impl<B> Store<B> {
     /// The first item.
     pub(crate) fn first(&self) -> Option<(u64, u64, &B)>
         requires { IsKeyed self.now }
-        ensures { option_map (λ r. item_of r.1 (r.0, r.2.now)) result ≡ first (pending_in self.now).items }
+        ensures { option_map (λ r. item_of r.1 (r.0, r.2.now)) result
+            ≡ first (pending_in self.now).items }
     {
         let place = self.slots.first()?;
         let (due, body) = self.slots.get(place)?;
@@ -57,7 +61,8 @@ impl<B> Store<B> {
 
     /// The due and the body of the item of a serial.
     pub(crate) fn get(&self, serial: u64) -> Option<(u64, &B)>
-        ensures { option_map (λ r. item_of serial (r.0, r.1.now)) result ≡ with_serial serial (pending_in self.now).items }
+        ensures { option_map (λ r. item_of serial (r.0, r.1.now)) result
+            ≡ with_serial serial (pending_in self.now).items }
     {
         if serial < self.slots.base() {
             return None;
@@ -69,7 +74,8 @@ impl<B> Store<B> {
     pub(crate) fn next_that<F: Fn(&B) -> bool>(&self, serial: u64, test: &F) -> Option<u64>
         requires small { (pending_in self.now).next_serial ≤ 2 ^ 40 }
         requires callable { F.IsAlwaysCallable test.now }
-        ensures { (p : B → Bool) → Decides F.Fn test.now p → result ≡ next_taken serial p (pending_in self.now).items }
+        ensures { (p : B → Bool) → Decides F.Fn test.now p → result
+            ≡ next_taken serial p (pending_in self.now).items }
     {
         let from = serial.saturating_sub(self.slots.base()) as usize;
         let place = self.slots.first_taken(from, test)?;
@@ -96,7 +102,8 @@ impl<B> Store<B> {
     pub(crate) fn remove_first(&mut self) -> Option<Item<B>>
         requires { IsKeyed self.old }
         ensures item { result ≡ first (pending_in self.old).items }
-        ensures rest { IfSome result (λ x. pending_in self.new ≡ take x.serial (pending_in self.old)) }
+        ensures rest { IfSome result (λ x. pending_in self.new ≡ take x.serial
+            (pending_in self.old)) }
         ensures none { IfNone result (pending_in self.new ≡ pending_in self.old) }
         ensures keyed { IsKeyed self.new }
     {
@@ -221,8 +228,8 @@ impl<B> Store<B> {
         }
     }
 
-    // Drops the empty slots at the front, where these are at least half of all. Otherwise more memory is taken, so that an insertion
-    // does not often come here.
+    // Drops the empty slots at the front, where these are at least half of all. Otherwise more
+    // memory is taken, so that an insertion does not often come here.
     #[cold]
     #[inline(never)]
     fn drop_empty(&mut self)
@@ -236,8 +243,8 @@ impl<B> Store<B> {
         }
     }
 
-    // Makes the slot of this serial, where it is before the first one, and those between them. So many are made that putting back one
-    // item after another does not often come here.
+    // Makes the slot of this serial, where it is before the first one, and those between them. So
+    // many are made that putting back one item after another does not often come here.
     fn widen(&mut self, serial: u64) -> Result<(), NoMemory>
         requires { IsKeyed self.old }
         ensures reached { OnOk result (self.new.slots.base ≤ serial) }
@@ -253,8 +260,8 @@ impl<B> Store<B> {
     }
 }
 
-// How many slots to make before the first one, whose serial is `base`, where so many are needed: as many as there are, or one for each
-// earlier serial, where that is more.
+// How many slots to make before the first one, whose serial is `base`, where so many are needed: as
+// many as there are, or one for each earlier serial, where that is more.
 fn before_first(needed: u64, len: u64, base: u64) -> u64
     requires { needed ≤ base }
     ensures enough { needed ≤ result }

@@ -1,8 +1,9 @@
 //! Keys in lists by their days, of which the first is at hand.
 ghost use Rattle.std.specs.Prelude.{◌≡◌, ◌≢◌, ℕ, ◌^◌, ◌<◌, ◌≤◌, Some, None, IfOk, IfSome, IfNone};
 ghost use Rattle.std.specs.Option.{IsSome};
-ghost use Rattle.sim_queue.specs.Lists.{IsLists};
-ghost use Rattle.sim_queue.specs.Wheel.{key_at, HasNone, HasSame, HasSameBut, IsPlace, IsFirst, HasMarks, Fits64, IsFrom, IsFloor};
+ghost use Rattle.sim_queue.specs.inside.Lists.{IsLists};
+ghost use Rattle.sim_queue.specs.inside.Wheel.{key_at, HasNone, HasSame, HasSameBut, IsPlace};
+ghost use Rattle.sim_queue.specs.inside.Wheel.{IsFirst, HasMarks, Fits64, IsFrom, IsFloor};
 
 use crate::NoMemory;
 use crate::lists::{LISTS, Lists};
@@ -22,7 +23,7 @@ pub(crate) struct Wheel {
 
 impl Model for Wheel {
     ghost use Rattle.std.specs.Prelude.{ℕ, List, Option};
-    ghost use Rattle.sim_queue.specs.Wheel.{keys_of, IsWheel};
+    ghost use Rattle.sim_queue.specs.inside.Wheel.{keys_of, IsWheel};
 
     ghost Value = { List (Option (ℕ × ℕ)) };
 
@@ -131,8 +132,9 @@ fn floor_after(lists: &Lists, marks: &Marks, floor: u64, due: u64) -> u64
     least_from(lists, marks, floor)
 }
 
-// The least due, of which none is before the floor: from one marked day to the next, once through all lists. The first key of a list
-// is its least, so where none is due within 256 days, the least of these first keys is the first of all.
+// The least due, of which none is before the floor: from one marked day to the next, once through
+// all lists. The first key of a list is its least, so where none is due within 256 days, the least
+// of these first keys is the first of all.
 #[inline(never)]
 fn least_from(lists: &Lists, marks: &Marks, floor: u64) -> u64
     requires narrow { lists.now.width ≤ 56 }

@@ -5,7 +5,8 @@ use Rattle.sim_streams.specs.Word.{word}
 
 -- these are the words of a stream from a place on
 abbrev pub AreWords : List ℕ → ℕ → ℕ → List ℕ → Type 0
-AreWords seed stream first words = (i : ℕ) → i < length words → slice_index words i ≡ word seed stream (first + i)
+AreWords seed stream first words =
+    (i : ℕ) → i < length words → slice_index words i ≡ word seed stream (first + i)
 
 -- what is kept are words of a stream
 abbrev pub IsKept : List ℕ → ℕ → Kept → Type 0

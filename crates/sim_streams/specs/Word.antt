@@ -2,8 +2,8 @@
 use Rattle.std.specs.Prelude.{ℕ, ◌+◌, List}
 use Rattle.rand_chacha.specs.ChaCha.{word_at, key_of}
 
--- the 32-bit word at a place of a stream: ChaCha20 (20 rounds are 10 double rounds) under the seed as key,
--- with the stream's number as nonce
+-- the 32-bit word at a place of a stream: ChaCha20 (20 rounds are 10 double rounds) under the seed
+-- as key, with the stream's number as nonce
 unfoldable pub word : List ℕ → ℕ → ℕ → ℕ
 word seed stream place = word_at 10 (key_of seed) stream place
 
@@ -19,7 +19,8 @@ torn = 1
 abbrev pub stream_of : ℕ → ℕ
 stream_of host = 2 + host
 
--- the streams of one seed: how many words have been drawn of each, which is where its next word stands
+-- the streams of one seed: how many words have been drawn of each, which is where its next word
+-- stands
 pub record Places : Type 0 where
   pub seed : List ℕ
   pub places : List ℕ

@@ -1,5 +1,6 @@
 -- Records in a circle of slots, and what one more or one fewer of them says.
-use Rattle.std.specs.Prelude.{◌≡◌, ℕ, ◌-◌, List, [], ◌∷◌, ◌++◌, length, take, drop, Some, if◌then◌else◌}
+use Rattle.std.specs.Prelude.{◌≡◌, ℕ, ◌-◌, List, [], ◌∷◌, ◌++◌, length, take, drop, Some}
+use Rattle.std.specs.Prelude.{if◌then◌else◌}
 use Rattle.std.specs.List.{count_by}
 use Rattle.circular_buffer.specs.Buffer.{keep_last, last_item}
 use Rattle.sim_node.specs.declared.Setup.{Setup}
@@ -21,9 +22,12 @@ module _ {U : Type 0} where
   abbrev pub turned : List U → List U
   turned slots = drop 1 slots ++ take 1 slots
 
-module _ {State Msg Undo : Type 0} (told : State → Setup) (records : NodeRecords State Undo) (r : Rules State Msg) where
-  -- An event led from one world to the next, and its record is kept as the newest of at most so many.
-  pub record IsKept (capacity : ℕ) (old : List (Kept State Msg Undo)) (was : World State Msg) (e : Event) (new : List (Kept State Msg Undo))
+module _ {State Msg Undo : Type 0} (told : State → Setup) (records : NodeRecords State Undo)
+    (r : Rules State Msg) where
+  -- An event led from one world to the next, and its record is kept as the newest of at most so
+  -- many.
+  pub record IsKept (capacity : ℕ) (old : List (Kept State Msg Undo)) (was : World State Msg)
+      (e : Event) (new : List (Kept State Msg Undo))
       (now : InHand State Msg) : Type 0 where
     pub undo : Kept State Msg Undo
     pub kept : new ≡ keep_last capacity (old ++ undo ∷ [])
@@ -31,11 +35,17 @@ module _ {State Msg Undo : Type 0} (told : State → Setup) (records : NodeRecor
     pub leads : LeadsBack told records undo now
     pub acted : count_by is_reaction undo.changes ≡ (if acts was e then 1 else 0)
 
--- The newest record was taken out, and led back to the world before its event; the work was that of taking it back.
-pub record IsTakenBack {State Msg Undo : Type 0} (records : NodeRecords State Undo) (old : List (Kept State Msg Undo)) (now : InHand State Msg)
+-- The newest record was taken out, and led back to the world before its event; the work was that of
+-- taking it back.
+pub record IsTakenBack {State Msg Undo : Type 0} (records : NodeRecords State Undo)
+    (old : List (Kept State Msg Undo)) (now : InHand State Msg)
     (new : List (Kept State Msg Undo)) (was : InHand State Msg) (before after : Work) : Type 0 where
   pub undo : Kept State Msg Undo
   pub newest : last_item old ≡ Some undo
   pub others : new ≡ take (length old - 1) old
-  pub is : was ≡ record { world = back records undo.changes now.world; scenario = now.scenario; age = now.age - 1 }
+  pub is : was ≡ record {
+    world = back records undo.changes now.world;
+    scenario = now.scenario;
+    age = now.age - 1;
+  }
   pub work : after ≡ taken_back undo.changes before

@@ -1,5 +1,6 @@
 -- The worlds along a list of events, and the records of events, which lead back.
-use Rattle.std.specs.Prelude.{◌≡◌, ℕ, zero, suc, ◌+◌, ◌-◌, ◌*◌, ◌/◌, ◌≤◌, if◌then◌else◌, List, length, take, map, Some, slice_get, slice_index_or}
+use Rattle.std.specs.Prelude.{◌≡◌, ℕ, zero, suc, ◌+◌, ◌-◌, ◌*◌, ◌/◌, ◌≤◌, if◌then◌else◌, List}
+use Rattle.std.specs.Prelude.{length, take, map, Some, slice_get, slice_index_or}
 use Rattle.std.specs.List.{count_by}
 use Rattle.std.specs.Option.{unwrap_or}
 use Rattle.sim_node.specs.declared.Setup.{Setup}
@@ -44,26 +45,34 @@ module _ {State Msg : Type 0} (r : Rules State Msg) where
 
   -- beside each event stands the clock after it, which is at most that of 65,536 steps of 60,000 ms
   pub record AreClocks (entries : List Entry) : Type 0 where
-    pub clock : (i : ℕ) (e : Entry) → slice_get entries i ≡ Some e → e.clock ≡ (world_at (i + 1) (events_of entries)).clock
+    pub clock : (i : ℕ) (e : Entry) → slice_get entries i ≡ Some e → e.clock
+        ≡ (world_at (i + 1) (events_of entries)).clock
     pub small : (i : ℕ) (e : Entry) → slice_get entries i ≡ Some e → e.clock ≤ 60000 * 65536
 
   -- a checkpoint stands at the start and after each so many events
-  pub record AreCheckpoints (events : List Event) (checkpoints : List (InHand State Msg)) : Type 0 where
-    pub count : length checkpoints ≡ length events / r.scenario.interval + 1
-    pub worlds : (i : ℕ) (c : InHand State Msg) → slice_get checkpoints i ≡ Some c → IsAt events (i * r.scenario.interval) c
+  pub record AreCheckpoints (events : List Event) (checkpoints : List (InHand State Msg)) : Type 0
+    where
+      pub count : length checkpoints ≡ length events / r.scenario.interval + 1
+      pub worlds : (i : ℕ) (c : InHand State Msg) → slice_get checkpoints i ≡ Some c
+          → IsAt events (i * r.scenario.interval) c
 
-module _ {State Msg Undo : Type 0} (told : State → Setup) (records : NodeRecords State Undo) (r : Rules State Msg) where
+module _ {State Msg Undo : Type 0} (told : State → Setup) (records : NodeRecords State Undo)
+    (r : Rules State Msg) where
   -- the world in hand before the event of a record
   abbrev pub before : Kept State Msg Undo → InHand State Msg → InHand State Msg
-  before u w = record { world = back records u.changes w.world; scenario = w.scenario; age = w.age - 1 }
+  before u w =
+      record { world = back records u.changes w.world; scenario = w.scenario; age = w.age - 1 }
 
-  -- a record answers for the event at the place p: from the world after it, it leads back to the world before it
+  -- a record answers for the event at the place p: from the world after it, it leads back to the
+  -- world before it
   pub record Answers (events : List Event) (p : ℕ) (u : Kept State Msg Undo) : Type 0 where
     pub leads : (now : InHand State Msg) → IsAt r events (p + 1) now → LeadsBack told records u now
     pub back : (now : InHand State Msg) → IsAt r events (p + 1) now → IsAt r events p (before u now)
     pub acted : count_by is_reaction u.changes ≡ acts_at r p events
 
   -- the records are those of the last events before the place
-  pub record AreRecords (events : List Event) (place : ℕ) (undos : List (Kept State Msg Undo)) : Type 0 where
+  pub record AreRecords (events : List Event) (place : ℕ) (undos : List (Kept State Msg Undo)) :
+      Type 0 where
     pub reach : length undos ≤ place
-    pub answers : (i : ℕ) (u : Kept State Msg Undo) → slice_get undos i ≡ Some u → Answers events (place - length undos + i) u
+    pub answers : (i : ℕ) (u : Kept State Msg Undo) → slice_get undos i ≡ Some u
+        → Answers events (place - length undos + i) u

@@ -477,8 +477,7 @@ impl<N: Node> Tape<N> {
               scenario = log.scenario;
               events = events_of log.entries;
               place = place;
-              warm =
-                  false;
+              warm = false;
               reach = 0;
             }) }
     {

@@ -1,5 +1,7 @@
--- What is told of the next step before it happens: the word that is drawn, the state after the reaction, and what becomes of each effect.
-use Rattle.std.specs.Prelude.{ℕ, ◌+◌, ◌==◌, nat_le, Bool, true, List, [], ◌∷◌, length, map, Option, Some, None, if◌then◌else◌}
+-- What is told of the next step before it happens: the word that is drawn, the state after the
+-- reaction, and what becomes of each effect.
+use Rattle.std.specs.Prelude.{ℕ, ◌+◌, ◌==◌, nat_le, Bool, true, List, [], ◌∷◌, length, map, Option}
+use Rattle.std.specs.Prelude.{Some, None, if◌then◌else◌}
 use Rattle.sim_streams.specs.Word.{network, torn, stream_of}
 use Rattle.sim_queue.specs.declared.Item.{Item}
 use Rattle.sim_queue.specs.Pending.{first}
@@ -12,17 +14,20 @@ use Rattle.sim_node.specs.Effects.{Effect}
 use Rattle.sim_node.specs.Work.{Work, turned, copied}
 use Rattle.sim_world.specs.declared.account.Fate.{Fate}
 use Rattle.sim_world.specs.declared.account.Fate.TheVariants as fate
-use Rattle.sim_world.specs.World.{Body, Occurrence, World, input_of, host_at, place, drawn, with_host, with_node, with_disk, queued, without, is_timer_of, is_full, held_back, made_stable}
-use Rattle.sim_world.specs.Events.{Rules, is_lost, latency, next_word, words_from, effect, reaction, begun}
+use Rattle.sim_world.specs.World.{Body, Occurrence, World, input_of, host_at, place, drawn}
+use Rattle.sim_world.specs.World.{with_host, with_node, with_disk, queued, without, is_timer_of}
+use Rattle.sim_world.specs.World.{is_full, held_back, made_stable}
+use Rattle.sim_world.specs.Events.{Rules, is_lost, latency, next_word, words_from, effect, reaction}
+use Rattle.sim_world.specs.Events.{begun}
 
 -- an effect, and what becomes of it
 pub record ToldEffect (Msg : Type 0) : Type 0 where
   pub effect : Effect Msg
   pub fate : Fate
 
---     word       the word that is drawn for the host
---     state      the state of its node after the reaction
---     effects    what the node asks for, in order, each with what becomes of it
+-- word       the word that is drawn for the host
+-- state      the state of its node after the reaction
+-- effects    what the node asks for, in order, each with what becomes of it
 pub record Reaction (State Msg : Type 0) : Type 0 where
   pub word : ℕ
   pub state : State
@@ -36,8 +41,10 @@ module _ {State Msg : Type 0} (r : Rules State Msg) where
   -- Over an open link a message is lost, or it is pending after its latency.
   abbrev pub open_fate : ℕ → ℕ → World State Msg → Fate
   open_fate from to w =
-      if is_lost (way from to r.scenario.ways) (r.words network (place network w + 1)) then fate.Lost
-      else fate.Pending (w.clock + latency (way from to r.scenario.ways) (r.words network (place network w))) w.queue.next_serial
+      if is_lost (way from to r.scenario.ways) (r.words network (place network w + 1)) then
+      fate.Lost
+      else fate.Pending (w.clock + latency (way from to r.scenario.ways)
+      (r.words network (place network w))) w.queue.next_serial
 
   abbrev pub fate_over : LinkState → ℕ → ℕ → World State Msg → Fate
   fate_over state.Through from to w = open_fate from to w
@@ -54,14 +61,18 @@ module _ {State Msg : Type 0} (r : Rules State Msg) where
   abbrev pub fate_of : ℕ → Effect Msg → World State Msg → Fate
   fate_of h (Effect.Send to m) w = sent_fate h to w
   fate_of h (Effect.Timer delay) w = fate.Pending (w.clock + delay) w.queue.next_serial
-  fate_of h (Effect.Write offset bytes) w = if nat_le (offset + length bytes) 4096 then fate.Added else fate.Skipped
-  fate_of h Effect.Sync w = fate.Asked (w.clock + r.scenario.disk_latency) w.queue.next_serial (disk.not_asked (host_at h w).disk)
+  fate_of h (Effect.Write offset bytes) w =
+      if nat_le (offset + length bytes) 4096 then fate.Added else fate.Skipped
+  fate_of h Effect.Sync w =
+      fate.Asked (w.clock + r.scenario.disk_latency) w.queue.next_serial
+      (disk.not_asked (host_at h w).disk)
   fate_of h Effect.Done w = fate.Done
 
   -- the effects in order, each with what becomes of it in the world that those before it leave
   abbrev pub all_told : ℕ → List (Effect Msg) → World State Msg → List (ToldEffect Msg)
   all_told h [] w = []
-  all_told h (e ∷ es) w = record { effect = e; fate = fate_of h e w } ∷ all_told h es (effect r h e w)
+  all_told h (e ∷ es) w =
+      record { effect = e; fate = fate_of h e w } ∷ all_told h es (effect r h e w)
 
   -- what is told of a reaction of a host
   abbrev pub told_of : ℕ → State × List (Effect Msg) → World State Msg → Reaction State Msg
@@ -72,14 +83,18 @@ module _ {State Msg : Type 0} (r : Rules State Msg) where
   }
 
   -- at a stopped host there is no reaction
-  abbrev pub reaction_to : ℕ → Body Msg → Option State → World State Msg → Option (Reaction State Msg)
+  abbrev pub reaction_to : ℕ → Body Msg → Option State → World State Msg
+      → Option (Reaction State Msg)
   reaction_to h body None w = None
   reaction_to h body (Some state) w =
-      Some (told_of h (reaction r h state (input_of body) (made_stable h body w)) (made_stable h body w))
+      Some (told_of h (reaction r h state (input_of body) (made_stable h body w))
+      (made_stable h body w))
 
-  abbrev pub reaction_by : Option (Item (Occurrence Msg)) → World State Msg → Option (Reaction State Msg)
+  abbrev pub reaction_by : Option (Item (Occurrence Msg)) → World State Msg
+      → Option (Reaction State Msg)
   reaction_by None w = None
-  reaction_by (Some x) w = reaction_to x.body.host x.body.body (host_at x.body.host w).node (begun x w)
+  reaction_by (Some x) w =
+      reaction_to x.body.host x.body.body (host_at x.body.host w).node (begun x w)
 
   -- what is told of the next step
   abbrev pub next_reaction : World State Msg → Option (Reaction State Msg)
@@ -89,11 +104,12 @@ module _ {State Msg : Type 0} (r : Rules State Msg) where
   abbrev pub tears : ℕ → World State Msg → List ℕ
   tears h w =
       let writes = (host_at h w).disk.writes in
-      map (λ x. length x.bytes) (disk.all_kept (words_from r.words torn (place torn w) (length writes)) writes)
+      map (λ x. length x.bytes) (disk.all_kept (words_from r.words torn (place torn w)
+      (length writes)) writes)
 
 module _ {State Msg : Type 0} where
-  -- What the effect of a host makes of a world is known from what becomes of it: a message that another host gets, and one that is
-  -- lost, took two words of the network's stream.
+  -- What the effect of a host makes of a world is known from what becomes of it: a message that
+  -- another host gets, and one that is lost, took two words of the network's stream.
   abbrev pub paid : Fate → ℕ → Effect Msg → World State Msg → World State Msg
   paid fate.Lost h e w = drawn 2 network w
   paid (fate.Pending due serial) h (Effect.Send to m) w = if h == to then w else drawn 2 network w
@@ -101,10 +117,13 @@ module _ {State Msg : Type 0} where
 
   abbrev pub carried : Fate → ℕ → Effect Msg → World State Msg → World State Msg
   carried (fate.Pending due serial) h (Effect.Send to m) w = queued due to (Body.Message h m) w
-  carried (fate.Pending due serial) h (Effect.Timer delay) w = queued due h Body.Timer (without (is_timer_of h) w)
+  carried (fate.Pending due serial) h (Effect.Timer delay) w =
+      queued due h Body.Timer (without (is_timer_of h) w)
   carried fate.Held h (Effect.Send to m) w = held_back h to m w
-  carried fate.Added h (Effect.Write offset bytes) w = with_disk h (disk.written offset bytes (host_at h w).disk) w
-  carried (fate.Asked due serial count) h Effect.Sync w = queued due h (Body.Sync count) (with_disk h (disk.all_asked (host_at h w).disk) w)
+  carried fate.Added h (Effect.Write offset bytes) w =
+      with_disk h (disk.written offset bytes (host_at h w).disk) w
+  carried (fate.Asked due serial count) h Effect.Sync w =
+      queued due h (Body.Sync count) (with_disk h (disk.all_asked (host_at h w).disk) w)
   carried fate.Done h Effect.Done w = with_host h (record (host_at h w) { done = true }) w
   carried _ h e w = w
 
@@ -113,13 +132,16 @@ module _ {State Msg : Type 0} where
   all_carried h (t ∷ ts) w = all_carried h ts (carried t.fate h t.effect (paid t.fate h t.effect w))
 
   -- the world after a step, by what was told of its reaction
-  abbrev pub after_reaction : Option (Reaction State Msg) → Item (Occurrence Msg) → World State Msg → World State Msg
+  abbrev pub after_reaction : Option (Reaction State Msg) → Item (Occurrence Msg) → World State Msg
+      → World State Msg
   after_reaction None x w = begun x w
   after_reaction (Some t) x w =
       all_carried x.body.host t.effects
-      (with_node x.body.host (Some t.state) (drawn 1 (stream_of x.body.host) (made_stable x.body.host x.body.body (begun x w))))
+      (with_node x.body.host (Some t.state) (drawn 1 (stream_of x.body.host)
+      (made_stable x.body.host x.body.body (begun x w))))
 
-  abbrev pub after_told_by : Option (Item (Occurrence Msg)) → Option (Reaction State Msg) → World State Msg → World State Msg
+  abbrev pub after_told_by : Option (Item (Occurrence Msg)) → Option (Reaction State Msg)
+      → World State Msg → World State Msg
   after_told_by None t w = w
   after_told_by (Some x) t w = after_reaction t x w
 

@@ -15,11 +15,13 @@ is_cut state.Cut = true
 is_cut _ = false
 
 module _ {State Msg : Type 0} where
-  -- A message is dropped as it is sent where 4096 are in flight and held, and to another host where the direction is cut.
+  -- A message is dropped as it is sent where 4096 are in flight and held, and to another host where
+  -- the direction is cut.
   abbrev pub is_dropped : ℕ → ℕ → World State Msg → Bool
   is_dropped from to w = is_full w || (not (from == to) && is_cut (link from to w.links).state)
 
-  -- An effect of a host that changes nothing: a message that is dropped, a write past the end of the disk, being done once more.
+  -- An effect of a host that changes nothing: a message that is dropped, a write past the end of
+  -- the disk, being done once more.
   abbrev pub is_vain : ℕ → Effect Msg → World State Msg → Bool
   is_vain h (Effect.Send to m) w = is_dropped h to w
   is_vain h (Effect.Timer delay) w = false
@@ -27,7 +29,8 @@ module _ {State Msg : Type 0} where
   is_vain h Effect.Sync w = false
   is_vain h Effect.Done w = (host_at h w).done
 
-  -- An event is for a stopped host where it is a step at which no node reacts, or the crash of a host that doesn't run.
+  -- An event is for a stopped host where it is a step at which no node reacts, or the crash of a
+  -- host that doesn't run.
   abbrev pub is_for_stopped : Event → World State Msg → Bool
   is_for_stopped event.Step w = not (acts w event.Step)
   is_for_stopped (event.Advance to) w = false

@@ -46,8 +46,7 @@ impl<N: Node> Parts<N> {
         requires room { self.old.world.queue.next_serial < 2 ^ 40 }
         ensures world { OnOk result (
             self.new ≡ record self.old {
-              world = queued due host
-                  (body_of covered input) self.old.world;
+              world = queued due host (body_of covered input) self.old.world;
             }) }
         ensures serial { IfOk result (λ serial. serial ≡ self.old.world.queue.next_serial) }
         ensures leads { OnOk result (
@@ -75,8 +74,7 @@ impl<N: Node> Parts<N> {
         requires room { self.old.world.queue.next_serial < 2 ^ 40 }
         ensures world { OnOk result (
             self.new ≡ record self.old {
-              world = queued due host
-                  (body_of covered input) self.old.world;
+              world = queued due host (body_of covered input) self.old.world;
             }) }
         ensures trail { OnOk result (
             Extends N.records trail.old self.old.world trail.new self.new.world) }
@@ -98,8 +96,7 @@ impl<N: Node> Parts<N> {
         requires few { IsFalse (is_full self.old.world) }
         ensures world { OnOk result (
             self.new ≡ record self.old {
-              world = queued due letter.to
-                  (Body.Message letter.from letter.msg) self.old.world;
+              world = queued due letter.to (Body.Message letter.from letter.msg) self.old.world;
             }) }
         ensures index { OnOk result (IsIndex index.new self.new.world) }
         ensures trail { OnOk result (
@@ -124,8 +121,7 @@ impl<N: Node> Parts<N> {
         requires few { IsFalse (is_full self.old.world) }
         ensures world { OnOk result (
             self.new ≡ record self.old {
-              world = queued due letter.to
-                  (Body.Message letter.from letter.msg) self.old.world;
+              world = queued due letter.to (Body.Message letter.from letter.msg) self.old.world;
             }) }
         ensures index { OnOk result (IsIndex index.new self.new.world) }
         ensures items { OnOk result (
@@ -289,8 +285,7 @@ impl<N: Node> Parts<N> {
         requires few { IsFalse (is_full self.old.world) }
         ensures world { OnOk result (
             self.new ≡ record self.old {
-              world = held_back letter.from letter.to letter.msg
-                  self.old.world;
+              world = held_back letter.from letter.to letter.msg self.old.world;
             }) }
         ensures index { OnOk result (IsIndex index.new self.new.world) }
         ensures trail { OnOk result (
@@ -356,8 +351,7 @@ impl<N: Node> Parts<N> {
         ensures count { IfOk result (λ n. n ≡ disk.not_asked (host_at h self.old.world).disk) }
         ensures world { OnOk result (
             self.new ≡ record self.old {
-              world = with_disk h
-                  (disk.all_asked (host_at h self.old.world).disk) self.old.world;
+              world = with_disk h (disk.all_asked (host_at h self.old.world).disk) self.old.world;
             }) }
         ensures trail { OnOk result (
             Extends N.records trail.old self.old.world trail.new self.new.world) }
@@ -381,8 +375,7 @@ impl<N: Node> Parts<N> {
         requires room { self.old.world.queue.next_serial < 2 ^ 40 }
         ensures world { OnOk result (
             self.new ≡ record self.old {
-              world = asked
-                  (rules N.laws N.PROBES sc.now) h self.old.world;
+              world = asked (rules N.laws N.PROBES sc.now) h self.old.world;
             }) }
         ensures trail { OnOk result (
             Extends N.records trail.old self.old.world trail.new self.new.world) }

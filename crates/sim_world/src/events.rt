@@ -77,8 +77,7 @@ impl<N: Node> Parts<N> {
         requires spent { tools.old.effects ≡ record { hosts = sc.now.setup.hosts; list = [] } }
         ensures world { OnOk result (
             self.new ≡ record self.old {
-              world = after
-                  (rules N.laws N.PROBES sc.now) event self.old.world;
+              world = after (rules N.laws N.PROBES sc.now) event self.old.world;
             }) }
         ensures stopped { IsTrue (is_for_stopped event self.old.world) → IsOk result }
         ensures trail { OnOk result (

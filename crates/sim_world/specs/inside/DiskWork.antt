@@ -15,5 +15,7 @@ module _ {State Msg Undo : Type 0} where
   abbrev pub disk_changes : DiskWork → List (Compact State Msg Undo)
   disk_changes work.Nothing = []
   disk_changes (work.Wrote host writes) = written host writes
-  disk_changes (work.Asked host writes was) = written host writes ++ compact.Stored host (disk.DiskUndo.Asked was) ∷ []
-  disk_changes (work.Queued host writes was) = written host writes ++ compact.Stored host (disk.DiskUndo.Asked was) ∷ compact.Queued ∷ []
+  disk_changes (work.Asked host writes was) =
+      written host writes ++ compact.Stored host (disk.DiskUndo.Asked was) ∷ []
+  disk_changes (work.Queued host writes was) =
+      written host writes ++ compact.Stored host (disk.DiskUndo.Asked was) ∷ compact.Queued ∷ []

@@ -16,8 +16,10 @@ module _ {State Msg : Type 0} where
   abbrev pub OfNode : ℕ → World State Msg → (State → Type 0) → Type 0
   OfNode h w holds = (s : State) → (host_at h w).node ≡ Some s → holds s
 
--- An input can be given to a host of a run: there is room for what its node asks for, and nothing is asked for yet.
-pub record CanGive {State Msg : Type 0} (told : State → Setup) (s : Scenario) (h : ℕ) (i : Input Msg)
+-- An input can be given to a host of a run: there is room for what its node asks for, and nothing
+-- is asked for yet.
+pub record CanGive {State Msg : Type 0} (told : State → Setup) (s : Scenario) (h : ℕ)
+    (i : Input Msg)
     (kept : Index) (asked : Effects Msg) (p : Seeded State Msg) : Type 0 where
   pub seed : p.seed ≡ s.seed
   pub host : h < length p.world.hosts
@@ -28,10 +30,15 @@ pub record CanGive {State Msg : Type 0} (told : State → Setup) (s : Scenario) 
   pub setup : OfNode h p.world (λ node. (told node).hosts ≡ length p.world.hosts)
   pub sender : IsFrom (length p.world.hosts) i
 
-module _ {State Msg : Type 0} (told : State → Setup) (r : Rules State Msg) (h : ℕ) (i : Input Msg) where
-  -- The node of a host takes one word of its stream and reacts: it stands in the new parts, and asks for these effects.
-  pub record Reacts (old new : Seeded State Msg) (asked : List (Effect Msg)) (s : State) : Type 0 where
-    pub world : new ≡ record old { world = with_node h (Some (reaction r h s i old.world).0) (drawn 1 (stream_of h) old.world) }
+module _ {State Msg : Type 0} (told : State → Setup) (r : Rules State Msg) (h : ℕ)
+    (i : Input Msg) where
+  -- The node of a host takes one word of its stream and reacts: it stands in the new parts, and
+  -- asks for these effects.
+  pub record Reacts (old new : Seeded State Msg) (asked : List (Effect Msg))
+      (s : State) : Type 0 where
+    pub world : new ≡ record old {
+      world = with_node h (Some (reaction r h s i old.world).0) (drawn 1 (stream_of h) old.world);
+    }
     pub asks : asked ≡ (reaction r h s i old.world).1
     pub keeps : told (reaction r h s i old.world).0 ≡ told s
 

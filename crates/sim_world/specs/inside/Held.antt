@@ -1,4 +1,5 @@
--- All that a world in hand is made of: its parts, what is kept beside them, its scenario, and how many events led to it.
+-- All that a world in hand is made of: its parts, what is kept beside them, its scenario, and how
+-- many events led to it.
 use Rattle.std.specs.Prelude.{◌≡◌, ℕ, []}
 use Rattle.sim_node.specs.declared.Setup.{Setup}
 use Rattle.sim_node.specs.Effects.{Effects}

@@ -1,5 +1,7 @@
--- What the code keeps beside a world so that it need not look for it: counts of messages, and each host's pending timer.
-use Rattle.std.specs.Prelude.{◌≡◌, ◌≢◌, ℕ, ◌+◌, ◌-◌, ◌<◌, ◌≤◌, List, [], ◌∷◌, length, map, Option, Some, None, slice_index_or, slice_set}
+-- What the code keeps beside a world so that it need not look for it: counts of messages, and each
+-- host's pending timer.
+use Rattle.std.specs.Prelude.{◌≡◌, ◌≢◌, ℕ, ◌+◌, ◌-◌, ◌<◌, ◌≤◌, List, [], ◌∷◌, length, map, Option}
+use Rattle.std.specs.Prelude.{Some, None, slice_index_or, slice_set}
 use Rattle.std.specs.List.{filter}
 use Rattle.sim_queue.specs.declared.Item.{Item}
 use Rattle.sim_queue.specs.Pending.{first}
@@ -11,7 +13,8 @@ use Rattle.sim_node.specs.declared.Setup.{Setup}
 use Rattle.sim_world.specs.declared.index.Beside.{Beside}
 use Rattle.sim_world.specs.declared.index.Index.{Index}
 use Rattle.sim_world.specs.Acts.{first_host}
-use Rattle.sim_world.specs.World.{Scenario, Body, Occurrence, World, is_timer_of, in_flight, held_messages}
+use Rattle.sim_world.specs.World.{Scenario, Body, Occurrence, World, is_timer_of, in_flight}
+use Rattle.sim_world.specs.World.{held_messages}
 use Rattle.sim_world.specs.inside.Sound.{IsSound}
 
 -- a list of what an option has
@@ -44,7 +47,8 @@ stopped_host (fault.Crash h) = h
 stopped_host (fault.Bounce h) = h
 stopped_host _ = 0
 
--- the one host whose timer an event can change: that of a step, of a crash, of a bounce; else any, as 0
+-- the one host whose timer an event can change: that of a step, of a crash, of a bounce; else any,
+-- as 0
 abbrev pub changing_host : {State Msg : Type 0} → Event → World State Msg → ℕ
 changing_host event.Step w = first_host (first w.queue.items)
 changing_host (event.Advance to) w = 0
@@ -59,23 +63,28 @@ beside_of index h = record {
   timer = slice_index_or index.timers.items h None;
 }
 
--- the counts are those of the world, and each host has at most one pending timer, whose serial is kept
-pub record IsIndexOf {State Msg : Type 0} (flying waiting : ℕ) (serials : List (Option ℕ)) (w : World State Msg) : Type 0 where
+-- the counts are those of the world, and each host has at most one pending timer, whose serial is
+-- kept
+pub record IsIndexOf {State Msg : Type 0} (flying waiting : ℕ) (serials : List (Option ℕ))
+    (w : World State Msg) : Type 0 where
   pub in_flight : flying ≡ in_flight w
   pub held : waiting ≡ held_messages w
   pub few : flying + waiting ≤ 4096
   pub hosts : length serials ≡ length w.hosts
-  pub timers : (h : ℕ) → h < length w.hosts → timers_of h w.queue.items ≡ listed (slice_index_or serials h None)
+  pub timers : (h : ℕ) → h < length w.hosts → timers_of h w.queue.items
+      ≡ listed (slice_index_or serials h None)
 
 abbrev pub IsIndex : {State Msg : Type 0} → Index → World State Msg → Type 0
 IsIndex index w = IsIndexOf index.in_flight index.held index.timers.items w
 
--- After `age` events of a run of the scenario a world is sound, and this stood beside it; the timers of all hosts but one are those of a
--- later world.
-pub record IsBefore {State Msg : Type 0} (told : State → Setup) (beside : Beside) (s : Scenario) (age : ℕ) (before later : World State Msg) : Type 0 where
+-- After `age` events of a run of the scenario a world is sound, and this stood beside it; the
+-- timers of all hosts but one are those of a later world.
+pub record IsBefore {State Msg : Type 0} (told : State → Setup) (beside : Beside) (s : Scenario)
+    (age : ℕ) (before later : World State Msg) : Type 0 where
   pub sound : IsSound told s age before
   pub there : beside.host < length later.hosts
   pub in_flight : beside.in_flight ≡ in_flight before
   pub held : beside.held ≡ held_messages before
   pub timer : timers_of beside.host before.queue.items ≡ listed beside.timer
-  pub timers : (h : ℕ) → h ≢ beside.host → timers_of h before.queue.items ≡ timers_of h later.queue.items
+  pub timers : (h : ℕ) → h ≢ beside.host → timers_of h before.queue.items
+      ≡ timers_of h later.queue.items

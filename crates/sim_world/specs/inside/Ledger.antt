@@ -19,24 +19,26 @@ ledger_of index due o w = record {
 }
 
 -- A ledger follows a world of which the effects of a reaction of host h, at a time, made another.
-pub record Follows {State Msg : Type 0} (l : Ledger) (h : ℕ) (base w : World State Msg) : Type 0 where
-  pub clock : w.clock ≡ l.clock
-  pub words : place network w ≡ place network base + l.words
-  pub serial : w.queue.next_serial ≡ l.serial
-  pub messages : in_flight w + held_messages w ≡ l.messages
-  pub unasked : disk.not_asked (host_at h w).disk ≡ l.unasked
-  pub covered : (host_at h w).disk.asked ≤ length (host_at h w).disk.writes
-  pub states : (a b : ℕ) → (link a b w.links).state ≡ (link a b base.links).state
-  pub links : length w.links ≡ 1024
-  pub places : length w.places ≡ 34
-  pub host : h < length w.hosts
+pub record Follows {State Msg : Type 0} (l : Ledger) (h : ℕ) (base w : World State Msg) : Type 0
+  where
+    pub clock : w.clock ≡ l.clock
+    pub words : place network w ≡ place network base + l.words
+    pub serial : w.queue.next_serial ≡ l.serial
+    pub messages : in_flight w + held_messages w ≡ l.messages
+    pub unasked : disk.not_asked (host_at h w).disk ≡ l.unasked
+    pub covered : (host_at h w).disk.asked ≤ length (host_at h w).disk.writes
+    pub states : (a b : ℕ) → (link a b w.links).state ≡ (link a b base.links).state
+    pub links : length w.links ≡ 1024
+    pub places : length w.places ≡ 34
+    pub host : h < length w.hosts
 
 -- each disk was asked for no more writes than it has
 abbrev pub AreAsked : {State Msg : Type 0} → World State Msg → Type 0
 AreAsked w = (h : ℕ) → (host_at h w).disk.asked ≤ length (host_at h w).disk.writes
 
 -- There is room in the numbers of a ledger for so many effects more.
-pub record HasRoomFor (left : ℕ) {State Msg : Type 0} (base : World State Msg) (l : Ledger) : Type 0 where
+pub record HasRoomFor (left : ℕ) {State Msg : Type 0} (base : World State Msg)
+    (l : Ledger) : Type 0 where
   pub clock : l.clock < 2 ^ 40
   pub words : place network base + l.words + 2 * left ≤ 2 ^ 40
   pub serial : l.serial + left ≤ 2 ^ 40

@@ -9,8 +9,8 @@ use Rattle.sim_world.specs.Records.{InHand}
 use Rattle.sim_world.specs.inside.Sound.{IsSound}
 
 -- hosts, beside the serials of their pending timers
---     hosts      in the order of their numbers
---     timers     the serial of each host's pending timer
+-- hosts      in the order of their numbers
+-- timers     the serial of each host's pending timer
 pub record HostsInHand (State : Type 0) : Type 0 where
   pub hosts : List (Host State)
   pub timers : List (Option ℕ)
@@ -19,13 +19,16 @@ pub record HostsInHand (State : Type 0) : Type 0 where
 abbrev pub hosts_in : {State : Type 0} → List (KeptHost State) → List Disk → List (Host State)
 hosts_in [] disks = []
 hosts_in (k ∷ kept) [] = []
-hosts_in (k ∷ kept) (d ∷ disks) = record { node = k.node; disk = d; done = k.done } ∷ hosts_in kept disks
+hosts_in (k ∷ kept) (d ∷ disks) =
+    record { node = k.node; disk = d; done = k.done } ∷ hosts_in kept disks
 
 abbrev pub timers_in : {State : Type 0} → List (KeptHost State) → List (Option ℕ)
 timers_in kept = map (λ k. k.timer) kept
 
--- A world that is kept is one of a run, with the words of this seed; the counts are those of its messages, and the timers its hosts'.
-pub record IsPacked {State Msg : Type 0} (told : State → Setup) (key : List ℕ) (flying waiting : ℕ) (serials : List (Option ℕ))
+-- A world that is kept is one of a run, with the words of this seed; the counts are those of its
+-- messages, and the timers its hosts'.
+pub record IsPacked {State Msg : Type 0} (told : State → Setup) (key : List ℕ) (flying waiting : ℕ)
+    (serials : List (Option ℕ))
     (kept : InHand State Msg) : Type 0 where
   pub sound : IsSound told kept.scenario kept.age kept.world
   pub index : IsIndexOf flying waiting serials kept.world

@@ -10,4 +10,5 @@ abbrev pub timer_changes : {State Msg Undo : Type 0} → TimerChange → List (C
 timer_changes timer.Nothing = []
 timer_changes (timer.TookTimer host due serial) = compact.TookTimer host due serial ∷ []
 timer_changes timer.Queued = compact.Queued ∷ []
-timer_changes (timer.Reset host due serial) = compact.TookTimer host due serial ∷ compact.Queued ∷ []
+timer_changes (timer.Reset host due serial) =
+    compact.TookTimer host due serial ∷ compact.Queued ∷ []

@@ -1,5 +1,6 @@
 -- The small changes of an event as they are kept while it goes on.
-use Rattle.std.specs.Prelude.{◌≡◌, ℕ, zero, suc, ◌+◌, Bool, true, false, cond, IsTrue, List, [], ◌∷◌, ◌++◌, map, Option, Some, None}
+use Rattle.std.specs.Prelude.{◌≡◌, ℕ, zero, suc, ◌+◌, Bool, true, false, cond, IsTrue, List, []}
+use Rattle.std.specs.Prelude.{◌∷◌, ◌++◌, map, Option, Some, None}
 use Rattle.std.specs.List.{count_by}
 use Rattle.std.specs.Option.{option_map}
 use Rattle.sim_disk.specs.Disk as disk
@@ -25,16 +26,21 @@ pub record Changes (State Msg Undo : Type 0) : Type 0 where
   pub items : List (Small State Msg Undo)
 
 -- a trail with changes more, if it keeps them
-abbrev pub added : {State Msg Undo : Type 0} → Changes State Msg Undo → List (Small State Msg Undo) → Changes State Msg Undo
+abbrev pub added : {State Msg Undo : Type 0} → Changes State Msg Undo → List (Small State Msg Undo)
+    → Changes State Msg Undo
 added trail changes = cond trail.keeps (record trail { items = trail.items ++ changes }) trail
 
--- Of a trail that keeps changes: what led back from one world leads back from a later one to the same world, with the changes between the
--- two at its end, among which are so many reactions. Of one that keeps none nothing is said.
+-- Of a trail that keeps changes: what led back from one world leads back from a later one to the
+-- same world, with the changes between the two at its end, among which are so many reactions. Of
+-- one that keeps none nothing is said.
 pub record ExtendsBy {State Msg Undo : Type 0} (reactions : ℕ) (records : NodeRecords State Undo)
-    (old : Changes State Msg Undo) (was : World State Msg) (new : Changes State Msg Undo) (now : World State Msg) : Type 0 where
+    (old : Changes State Msg Undo) (was : World State Msg) (new : Changes State Msg Undo)
+    (now : World State Msg) : Type 0 where
   pub keeps : new.keeps ≡ old.keeps
-  pub leads : IsTrue old.keeps → (before : World State Msg) → IsTrail records old.items before was → IsTrail records new.items before now
-  pub count : IsTrue old.keeps → count_by is_reaction new.items ≡ count_by is_reaction old.items + reactions
+  pub leads : IsTrue old.keeps → (before : World State Msg) → IsTrail records old.items before was
+      → IsTrail records new.items before now
+  pub count : IsTrue old.keeps → count_by is_reaction new.items ≡ count_by is_reaction old.items
+      + reactions
 
 -- no reaction is among the changes between the two
 abbrev pub Extends : {State Msg Undo : Type 0} → NodeRecords State Undo
@@ -42,7 +48,8 @@ abbrev pub Extends : {State Msg Undo : Type 0} → NodeRecords State Undo
 Extends records old was new now = ExtendsBy 0 records old was new now
 
 -- what a step did first
-abbrev pub taken_changes : {State Msg Undo : Type 0} → Option (Taken Msg) → List (Small State Msg Undo)
+abbrev pub taken_changes : {State Msg Undo : Type 0} → Option (Taken Msg)
+    → List (Small State Msg Undo)
 taken_changes None = []
 taken_changes (Some t) = small.Took t.item ∷ small.Timed t.clock ∷ []
 
@@ -53,7 +60,15 @@ acted_in true host undo = option_map (λ u. (host, u)) undo
 
 -- the small change that a compact one is
 abbrev pub unboxed : {State Msg Undo : Type 0} → Compact State Msg Undo → Small State Msg Undo
-unboxed (compact.TookTimer h due serial) = small.Took (record { due = due; serial = serial; body = record { host = h; body = Body.Timer } })
+unboxed (compact.TookTimer h due serial) =
+    small.Took (record {
+      due = due;
+      serial = serial;
+      body = record {
+        host = h;
+        body = Body.Timer;
+      };
+    })
 unboxed (compact.Took x) = small.Took x.value
 unboxed compact.Queued = small.Queued
 unboxed (compact.Timed was) = small.Timed was
@@ -83,12 +98,15 @@ module _ {State Msg Undo : Type 0} where
   acted_change None = []
   acted_change (Some a) = small.Acted a.0 a.1 ∷ []
 
-  -- so many messages were sent over open directions: for each two words were drawn, and it was queued
+  -- so many messages were sent over open directions: for each two words were drawn, and it was
+  -- queued
   abbrev pub sent_changes : ℕ → List (Small State Msg Undo)
   sent_changes zero = []
   sent_changes (suc n) = sent_changes n ++ small.Drew 0 2 ∷ small.Queued ∷ []
 
   -- the changes of a trail: of the usual step, and then any others
-  abbrev pub changes_of : Option (ℕ × disk.DiskUndo) → Option ℕ → Option (ℕ × Undo) → ℕ → List (Compact State Msg Undo) → List (Small State Msg Undo)
+  abbrev pub changes_of : Option (ℕ × disk.DiskUndo) → Option ℕ → Option (ℕ × Undo) → ℕ
+      → List (Compact State Msg Undo) → List (Small State Msg Undo)
   changes_of synced drawn acted sent others =
-      synced_change synced ++ (drawn_change drawn ++ (acted_change acted ++ (sent_changes sent ++ map unboxed others)))
+      synced_change synced ++ (drawn_change drawn ++ (acted_change acted
+      ++ (sent_changes sent ++ map unboxed others)))

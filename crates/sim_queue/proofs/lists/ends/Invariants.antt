@@ -1,6 +1,6 @@
 use Rattle.std.proofs.Common.{◌≡◌, ℕ, ◌<◌, ◌≤◌, length}
 use Rattle.std.specs.Vec.{vec_capacity}
-use Rattle.sim_queue.specs.Lists.{node, end_of}
+use Rattle.sim_queue.specs.inside.Lists.{node, end_of}
 use Rattle.sim_queue.proofs.lists.ends.Given as goal
 
 abbrev pub invariant-loop-list : goal.invariant-loop-list

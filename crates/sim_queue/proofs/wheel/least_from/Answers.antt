@@ -1,7 +1,7 @@
 use Rattle.std.proofs.Common.{◌≡◌, ◌≢◌, ℕ, ◌+◌, ◌-◌, ◌*◌, ◌/◌, ◌%◌, ◌≤◌, min, sym, ap, ◌∙◌, subst, arith}
 use Rattle.sim_queue.specs.declared.lists.Node.{Node}
-use Rattle.sim_queue.specs.Lists.{node, day}
-use Rattle.sim_queue.specs.Wheel.{IsFloor}
+use Rattle.sim_queue.specs.inside.Lists.{node, day}
+use Rattle.sim_queue.specs.inside.Wheel.{IsFloor}
 use Rattle.sim_queue.proofs.Nodes.{key_within, node_read}
 use Rattle.sim_queue.proofs.Heads.{head_there, no_head}
 use Rattle.sim_queue.proofs.Marked.{IsPassed, passed_unmarked, passed_empty, passed_other, found_floor, passed_all, day_from, first_due}

@@ -1,7 +1,7 @@
 use Rattle.std.proofs.Common.{◌≡◌, length, refl, sym, ap, arith}
 use Rattle.std.proofs.Math.ListN.{set, length-set}
 use Rattle.sim_queue.specs.declared.lists.Node.{Node}
-use Rattle.sim_queue.specs.Lists.{node}
+use Rattle.sim_queue.specs.inside.Lists.{node}
 use Rattle.sim_queue.proofs.Nodes.{linked_within, node_read, sets_after, sets_before}
 use Rattle.sim_queue.proofs.Joining.{not_free, after_linked, joined, joined_lists}
 use Rattle.sim_queue.proofs.lists.Lists.join.Goals as goal

@@ -1,7 +1,7 @@
 use Rattle.std.proofs.Common.{◌≡◌, ℕ, ◌<◌, ◌≤◌, ◌^◌, length, refl, sym, ap, subst, ◌∙◌, arith, inr}
 use Rattle.std.proofs.Math.ListN.{set}
 use Rattle.sim_queue.specs.declared.lists.Node.{Node}
-use Rattle.sim_queue.specs.Lists.{node, list_of, IsEmptyList}
+use Rattle.sim_queue.specs.inside.Lists.{node, list_of, IsEmptyList}
 use Rattle.sim_queue.proofs.Nodes.{key_within, linked_within, node_read, sets_after, sets_before}
 use Rattle.sim_queue.proofs.Leaving.{left, left_lists, left_empty, apart_before, apart_after}
 use Rattle.sim_queue.proofs.lists.Lists.leave.Goals as goal

@@ -1,7 +1,7 @@
 use Rattle.std.proofs.Common.{◌≡◌, ◌+◌, List, [], ◌∷◌, ◌++◌, length, ap, ◌∙◌, arith}
 use Rattle.std.proofs.lemmas.List.{length_push}
 use Rattle.sim_queue.specs.declared.lists.Node.{Node}
-use Rattle.sim_queue.specs.Lists.{node, no_node}
+use Rattle.sim_queue.specs.inside.Lists.{node, no_node}
 use Rattle.sim_queue.proofs.Ends.{node_pushed, lists_same}
 use Rattle.sim_queue.proofs.lists.Lists.make_place.Goals as goal
 

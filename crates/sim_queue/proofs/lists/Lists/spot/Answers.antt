@@ -1,7 +1,7 @@
 use Rattle.std.proofs.Common.{◌≡◌, ℕ, ◌<◌, ◌≤◌, ◌%◌, length, sym, ap, subst, ◌∙◌, arith}
 use Rattle.std.proofs.lemmas.Bool.{ltb-true, ltb-false}
 use Rattle.sim_queue.specs.declared.lists.Node.{Node}
-use Rattle.sim_queue.specs.Lists.{node, day, order_of, key_order, HasKey}
+use Rattle.sim_queue.specs.inside.Lists.{node, day, order_of, key_order, HasKey}
 use Rattle.sim_queue.proofs.Nodes.{key_within, node_read, linked_key}
 use Rattle.sim_queue.proofs.Spots.{read_last, read_last_in, read_last_list, read_spot_last, read_first_key, read_spot_first, behind_other}
 use Rattle.sim_queue.proofs.lists.Lists.spot.Goals as goal

@@ -1,6 +1,6 @@
 use Rattle.std.proofs.Common.{◌≡◌, ℕ, ◌<◌, sym, ap, subst, ◌∙◌, arith, inr}
 use Rattle.sim_queue.specs.declared.lists.Node.{Node}
-use Rattle.sim_queue.specs.Lists.{node, list_of, order_of, key_order, IsLinked}
+use Rattle.sim_queue.specs.inside.Lists.{node, list_of, order_of, key_order, IsLinked}
 use Rattle.sim_queue.proofs.Nodes.{key_within, node_read}
 use Rattle.sim_queue.proofs.lists.Lists.spot_before.Goals as goal
 

@@ -1,5 +1,5 @@
 use Rattle.std.proofs.Common.{◌≡◌, ◌<◌, ◌≤◌, ◌%◌, suc, cond, nat_lt}
-use Rattle.sim_queue.specs.Lists.{node, day, list_of, order_of, key_order, IsLinked}
+use Rattle.sim_queue.specs.inside.Lists.{node, day, list_of, order_of, key_order, IsLinked}
 use Rattle.sim_queue.proofs.lists.Lists.spot_before.Given as goal
 
 abbrev pub invariant-loop-at : goal.invariant-loop-at

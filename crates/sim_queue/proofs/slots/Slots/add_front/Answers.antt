@@ -1,5 +1,5 @@
 use Rattle.std.proofs.Common.{rules, ◌≡◌, ◌≤◌, ◌+◌, ◌-◌, ◌++◌, ℕ, None, replicate, ap, sym, subst, ◌∙◌, vec_len}
-use Rattle.sim_queue.specs.Sparse.{SlotList, IsSparse, slots_of}
+use Rattle.sim_queue.specs.inside.Sparse.{SlotList, IsSparse, slots_of}
 use Rattle.sim_queue.proofs.Fronts.{widened_front, added_sparse, slots_behind}
 use Rattle.sim_queue.proofs.slots.Slots.add_front.Goals as goal
 

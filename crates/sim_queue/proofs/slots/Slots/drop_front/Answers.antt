@@ -1,6 +1,6 @@
 use Rattle.std.proofs.Common.{◌≡◌, ◌<◌, ◌≤◌, ◌-◌, ℕ, ap, sym, subst, ◌∙◌, length, vec_len}
-use Rattle.sim_queue.specs.Slots.{at}
-use Rattle.sim_queue.specs.Sparse.{SlotList, IsSparse, slots_of}
+use Rattle.sim_queue.specs.inside.Slots.{at}
+use Rattle.sim_queue.specs.inside.Sparse.{SlotList, IsSparse, slots_of}
 use Rattle.sim_queue.proofs.Fronts.{emptied_front, dropped_sparse, slots_behind}
 use Rattle.sim_queue.proofs.Sparse.{no_index, length_slots}
 use Rattle.sim_queue.proofs.slots.Slots.drop_front.Goals as goal

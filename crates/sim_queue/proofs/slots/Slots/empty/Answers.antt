@@ -1,5 +1,5 @@
 use Rattle.std.proofs.Common.{◌≡◌, None, replicate, ap, subst, sym, ◌∙◌}
-use Rattle.sim_queue.specs.Sparse.{IsSparse, slots_of}
+use Rattle.sim_queue.specs.inside.Sparse.{IsSparse, slots_of}
 use Rattle.sim_queue.proofs.Sparse.{empty_slots, empty_sparse}
 use Rattle.sim_queue.proofs.Fronts.{filled_empty}
 use Rattle.sim_queue.proofs.slots.Slots.empty.Goals as goal

@@ -1,6 +1,6 @@
 use Rattle.std.proofs.Common.{rules, ◌≡◌, ap, sym, ◌∙◌, arith}
-use Rattle.sim_queue.specs.Slots.{at}
-use Rattle.sim_queue.specs.Sparse.{SlotList}
+use Rattle.sim_queue.specs.inside.Slots.{at}
+use Rattle.sim_queue.specs.inside.Sparse.{SlotList}
 use Rattle.sim_queue.proofs.Sparse.{empty_slot}
 use Rattle.sim_queue.proofs.slots.Slots.empty_at_front.Goals as goal
 

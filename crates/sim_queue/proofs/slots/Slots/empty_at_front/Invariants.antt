@@ -1,5 +1,5 @@
 use Rattle.std.proofs.Common.{◌≡◌, ℕ, ◌<◌, None}
-use Rattle.sim_queue.specs.Sparse.{index_at}
+use Rattle.sim_queue.specs.inside.Sparse.{index_at}
 use Rattle.sim_queue.proofs.slots.Slots.empty_at_front.Given as goal
 
 abbrev pub invariant-loop-place : goal.invariant-loop-place

@@ -1,8 +1,8 @@
 use Rattle.std.proofs.Common.{◌≡◌, ◌+◌, ◌-◌, ℕ, Some, ap, sym, refl, ◌∙◌, arith, length}
 use Rattle.std.proofs.Math.ListN.{set}
-use Rattle.sim_queue.specs.Slots.{at}
+use Rattle.sim_queue.specs.inside.Slots.{at}
 use Rattle.sim_queue.specs.Items.{items_from}
-use Rattle.sim_queue.specs.Sparse.{SlotList, slots_of, index_at}
+use Rattle.sim_queue.specs.inside.Sparse.{SlotList, slots_of, index_at}
 use Rattle.sim_queue.proofs.Sparse.{no_index, length_slots, items_within, fresh_next, kept_sparse, filled_slots, filled_sparse}
 use Rattle.sim_queue.proofs.slots.Slots.fill.Goals as goal
 

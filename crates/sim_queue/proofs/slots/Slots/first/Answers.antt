@@ -1,6 +1,6 @@
 use Rattle.std.proofs.Common.{◌-◌, ap, subst}
-use Rattle.sim_queue.specs.Slots.{HasNoItem, IsFirstSlot}
-use Rattle.sim_queue.specs.Sparse.{SlotList}
+use Rattle.sim_queue.specs.inside.Slots.{HasNoItem, IsFirstSlot}
+use Rattle.sim_queue.specs.inside.Sparse.{SlotList}
 use Rattle.sim_queue.proofs.Sparse.{first_slot, no_slot}
 use Rattle.sim_queue.proofs.slots.Slots.first.Goals as goal
 

@@ -1,6 +1,6 @@
 use Rattle.std.proofs.Common.{◌≡◌, ◌<◌, ◌≤◌, ℕ, refl, ap, sym, ◌∙◌, arith, ⊎_elim}
 use Rattle.std.proofs.lemmas.Bool.{cases_lt}
-use Rattle.sim_queue.specs.Slots.{at, takes}
+use Rattle.sim_queue.specs.inside.Slots.{at, takes}
 use Rattle.sim_queue.proofs.slots.Slots.first_taken.Goals as goal
 use Rattle.sim_queue.proofs.slots.Slots.first_taken.Goals.{in-Some+else-test, in_default}
 

@@ -1,6 +1,6 @@
 use Rattle.std.proofs.Common.{Bool}
 use Rattle.sim_queue.specs.Pending.{Decides}
-use Rattle.sim_queue.specs.Slots.{Skips}
+use Rattle.sim_queue.specs.inside.Slots.{Skips}
 use Rattle.sim_queue.proofs.slots.Slots.first_taken.Given as goal
 
 abbrev pub invariant-loop-place : goal.invariant-loop-place

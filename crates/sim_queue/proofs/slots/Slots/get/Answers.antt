@@ -1,6 +1,6 @@
 use Rattle.std.proofs.Common.{rules, ◌≡◌, Some, is_some, sym, ap, ◌∙◌}
-use Rattle.sim_queue.specs.Slots.{at}
-use Rattle.sim_queue.specs.Sparse.{SlotList, index_at, body_at}
+use Rattle.sim_queue.specs.inside.Slots.{at}
+use Rattle.sim_queue.specs.inside.Sparse.{SlotList, index_at, body_at}
 use Rattle.sim_queue.proofs.Sparse.{got, read_body, spot_within}
 use Rattle.sim_queue.proofs.slots.Slots.get.Goals as goal
 

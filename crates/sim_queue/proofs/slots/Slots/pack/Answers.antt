@@ -1,7 +1,7 @@
 use Rattle.std.proofs.Common.{◌≡◌, ◌<◌, ◌+◌, ℕ, [], ◌∷◌, ◌++◌, Some, None, ap, sym, ◌∙◌, arith, length}
 use Rattle.sim_queue.specs.declared.Item.{Item}
 use Rattle.sim_queue.specs.Items.{item_of}
-use Rattle.sim_queue.specs.Sparse.{SlotList, slots_of}
+use Rattle.sim_queue.specs.inside.Sparse.{SlotList, slots_of}
 use Rattle.sim_queue.proofs.Sparse.{length_slots, packed_more}
 use Rattle.sim_queue.proofs.slots.Slots.pack.Goals as goal
 use Rattle.sim_queue.proofs.slots.Slots.pack.Goals.{in-Some+in_ok-item+in_ok-push, in_default}

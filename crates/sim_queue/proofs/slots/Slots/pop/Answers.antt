@@ -3,8 +3,8 @@ use Rattle.std.proofs.Math.ListN.{get_or, set, length-set}
 use Rattle.std.proofs.lemmas.List.{length_push}
 use Rattle.std.specs.Option.{option_map, option_to_list}
 use Rattle.sim_queue.specs.Items.{item_of}
-use Rattle.sim_queue.specs.Slots.{at}
-use Rattle.sim_queue.specs.Sparse.{SlotList, IsSparse, slots_of, index_at}
+use Rattle.sim_queue.specs.inside.Slots.{at}
+use Rattle.sim_queue.specs.inside.Sparse.{SlotList, IsSparse, slots_of, index_at}
 use Rattle.sim_queue.proofs.Sparse.{spot_within, spot_cleared, length_slots, shortened_slots, shortened_sparse, no_index, last_taken, dropped}
 use Rattle.sim_queue.proofs.Views.{entry_is}
 use Rattle.sim_queue.proofs.slots.Slots.pop.Goals as goal

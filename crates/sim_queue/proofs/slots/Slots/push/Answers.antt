@@ -1,6 +1,6 @@
 use Rattle.std.proofs.Common.{◌≡◌, ◌+◌, ◌-◌, ℕ, [], ◌∷◌, ◌++◌, Some, ap, sym, subst, ◌∙◌, arith, length}
 use Rattle.sim_queue.specs.Items.{items_from}
-use Rattle.sim_queue.specs.Sparse.{SlotList, slots_of, IsSparse}
+use Rattle.sim_queue.specs.inside.Sparse.{SlotList, slots_of, IsSparse}
 use Rattle.sim_queue.proofs.Sparse.{items_within, index_past, fresh_next, kept_sparse, pushed_slots, pushed_sparse}
 use Rattle.sim_queue.proofs.slots.Slots.push.Goals as goal
 

@@ -1,8 +1,8 @@
 use Rattle.std.proofs.Common.{◌≡◌, ◌+◌, Some, None, is_some, ap, sym, ◌∙◌, arith, length}
 use Rattle.std.proofs.Math.ListN.{set}
-use Rattle.sim_queue.specs.Slots.{at}
+use Rattle.sim_queue.specs.inside.Slots.{at}
 use Rattle.sim_queue.specs.Items.{items_from}
-use Rattle.sim_queue.specs.Sparse.{SlotList, slots_of, index_at}
+use Rattle.sim_queue.specs.inside.Sparse.{SlotList, slots_of, index_at}
 use Rattle.sim_queue.proofs.Sparse.{within_slots, read_index, empty_slot, set_none, found_slot, items_some, taken_slots, taken_sparse, item_here}
 use Rattle.sim_queue.proofs.slots.Slots.take.Goals as goal
 

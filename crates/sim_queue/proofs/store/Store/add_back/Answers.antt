@@ -2,7 +2,7 @@ use Rattle.std.proofs.Common.{◌≡◌, ◌<◌, ◌+◌, ◌-◌, ℕ, ◌∙�
 use Rattle.std.proofs.Math.ListN.{set}
 use Rattle.sim_queue.specs.Items.{items_from, pending}
 use Rattle.sim_queue.specs.Pending.{Pending, put_back, IsPending, with_serial}
-use Rattle.sim_queue.specs.Store.{pending_in}
+use Rattle.sim_queue.specs.inside.Store.{pending_in}
 use Rattle.sim_queue.proofs.Laws.{not_found}
 use Rattle.sim_queue.proofs.Packing.{on_ok}
 use Rattle.sim_queue.proofs.Views.{empty_at, put_again}

@@ -1,7 +1,7 @@
 use Rattle.std.proofs.Common.{ℕ, ◌<◌, ◌≤◌, ◌-◌, refl, sym, ap, ◌∙◌}
 use Rattle.std.specs.Option.{option_map}
 use Rattle.sim_queue.specs.Items.{item_of}
-use Rattle.sim_queue.specs.Slots.{at}
+use Rattle.sim_queue.specs.inside.Slots.{at}
 use Rattle.sim_queue.proofs.Views.{found_from, with-low}
 use Rattle.sim_queue.proofs.Packing.{option_twice}
 use Rattle.sim_queue.proofs.store.Store.get.Goals as goal

@@ -1,5 +1,5 @@
 use Rattle.std.proofs.Common.{◌-◌, ◌∙◌, length, Some, None}
-use Rattle.sim_queue.specs.Slots.{Skips, IsFound}
+use Rattle.sim_queue.specs.inside.Slots.{Skips, IsFound}
 use Rattle.sim_queue.proofs.Views.{that_found}
 use Rattle.sim_queue.proofs.store.Store.next_that.Goals as goal
 

@@ -3,8 +3,8 @@ use Rattle.sim_queue.specs.declared.Item.{Item}
 use Rattle.sim_queue.specs.Items.{pending}
 use Rattle.sim_queue.specs.Packed.{packed}
 use Rattle.sim_queue.specs.Pending.{Pending, put_back, IsPending, IsQueue}
-use Rattle.sim_queue.specs.Sparse.{SlotList}
-use Rattle.sim_queue.specs.Store.{pending_in}
+use Rattle.sim_queue.specs.inside.Sparse.{SlotList}
+use Rattle.sim_queue.specs.inside.Store.{pending_in}
 use Rattle.sim_queue.proofs.Packing.{empty_pending, next_below, next_absent, put_last, all_taken}
 use Rattle.sim_queue.proofs.store.Store.of.Goals as goal
 

@@ -1,6 +1,6 @@
 use Rattle.std.proofs.Common.{◌≡◌, ◌++◌}
 use Rattle.sim_queue.specs.Packed.{packed}
-use Rattle.sim_queue.specs.Store.{pending_in, IsKeyed}
+use Rattle.sim_queue.specs.inside.Store.{pending_in, IsKeyed}
 use Rattle.sim_queue.proofs.store.Store.of.Given as goal
 
 abbrev pub invariant-loop-item : goal.invariant-loop-item

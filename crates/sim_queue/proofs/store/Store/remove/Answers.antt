@@ -1,7 +1,7 @@
 use Rattle.std.proofs.Common.{rules, ◌≡◌, ℕ, ◌+◌, ◌<◌, ◌≤◌, ◌-◌, length, refl, sym, ap, ◌∙◌, arith}
 use Rattle.std.specs.Option.{option_map}
 use Rattle.sim_queue.specs.Items.{item_of}
-use Rattle.sim_queue.specs.Slots.{at}
+use Rattle.sim_queue.specs.inside.Slots.{at}
 use Rattle.sim_queue.proofs.Views.{taken_from, found_from, with-low, none_past, take_none}
 use Rattle.sim_queue.proofs.store.Store.remove.Goals as goal
 

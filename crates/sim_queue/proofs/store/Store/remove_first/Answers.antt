@@ -1,7 +1,7 @@
 use Rattle.std.proofs.Common.{◌≡◌, ℕ, ◌+◌, ◌-◌, None, sym, ap, ◌∙◌, arith}
 use Rattle.std.proofs.Math.ListN.{set}
 use Rattle.sim_queue.specs.Items.{pending}
-use Rattle.sim_queue.specs.Slots.{at}
+use Rattle.sim_queue.specs.inside.Slots.{at}
 use Rattle.sim_queue.proofs.FirstAt.{first_none, first_here}
 use Rattle.sim_queue.proofs.Sparse.{spot_within}
 use Rattle.sim_queue.proofs.Views.{taken_from, taken_some}

@@ -1,6 +1,6 @@
 use Rattle.std.proofs.Common.{◌≤◌, ℕ, ap, subst, ◌∙◌}
 use Rattle.sim_queue.specs.Items.{pending}
-use Rattle.sim_queue.specs.Sparse.{SlotList}
+use Rattle.sim_queue.specs.inside.Sparse.{SlotList}
 use Rattle.sim_queue.proofs.Fronts.{either, added_pending}
 use Rattle.sim_queue.proofs.store.Store.widen.Goals as goal
 

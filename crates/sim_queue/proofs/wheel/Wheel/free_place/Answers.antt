@@ -1,5 +1,5 @@
 use Rattle.std.proofs.Common.{ap, ◌∙◌}
-use Rattle.sim_queue.specs.Wheel.{key_at}
+use Rattle.sim_queue.specs.inside.Wheel.{key_at}
 use Rattle.sim_queue.proofs.Turning.{same_wheel, place_free, same_keys}
 use Rattle.sim_queue.proofs.wheel.Wheel.free_place.Goals as goal
 

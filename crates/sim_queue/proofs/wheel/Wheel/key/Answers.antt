@@ -1,6 +1,6 @@
 use Rattle.std.proofs.Common.{◌≡◌, ◌+◌, Some, is_some, true, ap, ◌∙◌}
 use Rattle.sim_queue.specs.declared.lists.Node.{Node}
-use Rattle.sim_queue.specs.Wheel.{keys_of, key_at}
+use Rattle.sim_queue.specs.inside.Wheel.{keys_of, key_at}
 use Rattle.sim_queue.proofs.Nodes.{key_within, node_read}
 use Rattle.sim_queue.proofs.Turning.{key_of_some, key_of_node}
 use Rattle.sim_queue.proofs.wheel.Wheel.key.Goals as goal

@@ -1,7 +1,7 @@
 use Rattle.std.proofs.Common.{◌≡◌, ◌⊎◌, ℕ, ◌+◌, ◌%◌, ◌<◌, ◌≤◌, min, sym, ap, ◌∙◌, arith, inl, inr, ⊎_elim}
 use Rattle.std.proofs.lemmas.Bool.{cases_lt}
-use Rattle.sim_queue.specs.Lists.{day}
-use Rattle.sim_queue.specs.Wheel.{keys_of, key_at, IsPlace}
+use Rattle.sim_queue.specs.inside.Lists.{day}
+use Rattle.sim_queue.specs.inside.Wheel.{keys_of, key_at, IsPlace}
 use Rattle.sim_queue.proofs.Turning.{fresh_node, free_place, put_wheel, kept_keys}
 use Rattle.sim_queue.proofs.wheel.Wheel.put.Goals as goal
 

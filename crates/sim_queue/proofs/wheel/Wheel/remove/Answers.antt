@@ -2,8 +2,8 @@ use Rattle.std.proofs.Common.{◌≡◌, ℕ, ◌+◌, ◌%◌, ◌==◌, true, 
 use Rattle.std.proofs.lemmas.Bool.{eqb-true}
 use Rattle.sim_queue.specs.declared.lists.Node.{Node}
 use Rattle.sim_queue.specs.declared.marks.Marks.{Marks}
-use Rattle.sim_queue.specs.Lists.{node, day, list_of, IsEmptyList}
-use Rattle.sim_queue.specs.Wheel.{keys_of, key_at}
+use Rattle.sim_queue.specs.inside.Lists.{node, day, list_of, IsEmptyList}
+use Rattle.sim_queue.specs.inside.Wheel.{keys_of, key_at}
 use Rattle.sim_queue.proofs.Turning.{key_of_some, left_marked, left_from, left_floor, left_wheel, kept_keys, on_false}
 use Rattle.sim_queue.proofs.wheel.Wheel.remove.Goals as goal
 

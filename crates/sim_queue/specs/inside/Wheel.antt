@@ -1,8 +1,9 @@
 -- Keys in lists, of which the first is at hand.
-use Rattle.std.specs.Prelude.{◌≡◌, ◌≢◌, ◌⊎◌, ◌+◌, ◌^◌, ℕ, ◌<◌, ◌≤◌, nat_lt, if◌then◌else◌, List, Option, None, Some, map, length, slice_index_or}
+use Rattle.std.specs.Prelude.{◌≡◌, ◌≢◌, ◌⊎◌, ◌+◌, ◌^◌, ℕ, ◌<◌, ◌≤◌, nat_lt, if◌then◌else◌, List}
+use Rattle.std.specs.Prelude.{Option, None, Some, map, length, slice_index_or}
 use Rattle.sim_queue.specs.declared.lists.Node.{Node}
-use Rattle.sim_queue.specs.Lists.{node, day, HasKey, IsLists}
-use Rattle.sim_queue.specs.Marks.{IsMarked}
+use Rattle.sim_queue.specs.inside.Lists.{node, day, HasKey, IsLists}
+use Rattle.sim_queue.specs.inside.Marks.{IsMarked}
 
 -- the due and the serial of a node that has a key
 abbrev pub key_of : Node → Option (ℕ × ℕ)
@@ -58,7 +59,8 @@ pub record IsFloor (floor : ℕ) (nodes : List Node) : Type 0 where
 
 -- the days of all keys are marked
 abbrev pub HasMarks : ℕ → List ℕ → List Node → Type 0
-HasMarks width words nodes = (i : ℕ) → HasKey (node nodes i) → IsMarked words (day width (node nodes i).due)
+HasMarks width words nodes =
+    (i : ℕ) → HasKey (node nodes i) → IsMarked words (day width (node nodes i).due)
 
 -- all dues are in range
 abbrev pub Fits64 : List Node → Type 0

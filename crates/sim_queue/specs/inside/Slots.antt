@@ -1,6 +1,7 @@
 -- How a queue's items stand in slots by their serials.
-use Rattle.std.specs.Prelude.{◌≡◌, ℕ, ◌<◌, ◌≤◌, Bool, true, false, List, length, Option, None, Some, MatchOption, slice_index_or}
-use Rattle.sim_queue.specs.Wheel.{NotAfter}
+use Rattle.std.specs.Prelude.{◌≡◌, ℕ, ◌<◌, ◌≤◌, Bool, true, false, List, length, Option, None, Some}
+use Rattle.std.specs.Prelude.{MatchOption, slice_index_or}
+use Rattle.sim_queue.specs.inside.Wheel.{NotAfter}
 
 -- the slot at a place, none past the end
 abbrev pub at : {B : Type 0} → List (Option (ℕ × B)) → ℕ → Option (ℕ × B)
@@ -28,6 +29,8 @@ Skips p slots from to = (j : ℕ) → from ≤ j → j < to → takes p (at slot
 abbrev pub IsFound : {B : Type 0} → (B → Bool) → List (Option (ℕ × B)) → ℕ → ℕ → Type 0
 IsFound p slots from i = (from ≤ i) × (takes p (at slots i) ≡ true) × Skips p slots from i
 
--- what a search from one place on answers: the first place whose body p takes, or that there is none
+-- what a search from one place on answers: the first place whose body p takes, or that there is
+-- none
 abbrev pub IsFirstTaken : {B : Type 0} → (B → Bool) → List (Option (ℕ × B)) → ℕ → Option ℕ → Type 0
-IsFirstTaken p slots from result = MatchOption result (Skips p slots from (length slots)) (λ i. IsFound p slots from i)
+IsFirstTaken p slots from result =
+    MatchOption result (Skips p slots from (length slots)) (λ i. IsFound p slots from i)

@@ -1,9 +1,11 @@
 -- Slots, of which most are empty: each has the place of its item's key and body, if it has an item.
-use Rattle.std.specs.Prelude.{◌≡◌, ◌≢◌, ℕ, ◌+◌, ◌-◌, ◌≤◌, List, length, map, Option, None, Some, slice_index_or}
+use Rattle.std.specs.Prelude.{◌≡◌, ◌≢◌, ℕ, ◌+◌, ◌-◌, ◌≤◌, List, length, map, Option, None, Some}
+use Rattle.std.specs.Prelude.{slice_index_or}
 use Rattle.sim_queue.specs.Items.{items_from}
-use Rattle.sim_queue.specs.Wheel.{key_at, HasSameBut}
+use Rattle.sim_queue.specs.inside.Wheel.{key_at, HasSameBut}
 
--- slots, of which the first stands for the serial `base`: each has the due and the body of its item, if one is there
+-- slots, of which the first stands for the serial `base`: each has the due and the body of its
+-- item, if one is there
 pub record SlotList (B : Type 0) : Type 0 where
   pub base : ℕ
   pub items : List (Option (ℕ × B))
@@ -23,18 +25,21 @@ entry (Some key) None = None
 entry (Some key) (Some body) = Some (key.0, body)
 
 -- the slot that has this place
-abbrev pub slot_of : {B : Type 0} → List (Option (ℕ × ℕ)) → List (Option B) → Option ℕ → Option (ℕ × B)
+abbrev pub slot_of : {B : Type 0} → List (Option (ℕ × ℕ)) → List (Option B) → Option ℕ
+    → Option (ℕ × B)
 slot_of keys bodies None = None
 slot_of keys bodies (Some k) = entry (key_at keys k) (body_at bodies k)
 
-abbrev pub slots_of : {B : Type 0} → List (Option (ℕ × ℕ)) → List (Option B) → List (Option ℕ) → List (Option (ℕ × B))
+abbrev pub slots_of : {B : Type 0} → List (Option (ℕ × ℕ)) → List (Option B) → List (Option ℕ)
+    → List (Option (ℕ × B))
 slots_of keys bodies places = map (slot_of keys bodies) places
 
 abbrev pub HasSameBodies : {B : Type 0} → List (Option B) → List (Option B) → Type 0
 HasSameBodies old new = (j : ℕ) → body_at new j ≡ body_at old j
 
 -- an item came to a place that had no key, and all else stays
-pub record IsPut {B : Type 0} (k d s : ℕ) (b : B) (keys new : List (Option (ℕ × ℕ))) (bodies more : List (Option B)) : Type 0 where
+pub record IsPut {B : Type 0} (k d s : ℕ) (b : B) (keys new : List (Option (ℕ × ℕ)))
+    (bodies more : List (Option B)) : Type 0 where
   pub was : key_at keys k ≡ None
   pub there : key_at new k ≡ Some (d, s)
   pub others : HasSameBut k keys new
@@ -42,20 +47,23 @@ pub record IsPut {B : Type 0} (k d s : ℕ) (b : B) (keys new : List (Option (�
   pub rest : (j : ℕ) → j ≢ k → body_at more j ≡ body_at bodies j
 
 -- the item at a place left, and all else stays
-pub record IsTaken {B : Type 0} (k : ℕ) (keys new : List (Option (ℕ × ℕ))) (bodies more : List (Option B)) : Type 0 where
+pub record IsTaken {B : Type 0} (k : ℕ) (keys new : List (Option (ℕ × ℕ)))
+    (bodies more : List (Option B)) : Type 0 where
   pub gone : key_at new k ≡ None
   pub others : HasSameBut k keys new
   pub rest : (j : ℕ) → j ≢ k → body_at more j ≡ body_at bodies j
 
 -- an item of this serial stands at a place
-pub record IsStored {B : Type 0} (keys : List (Option (ℕ × ℕ))) (bodies : List (Option B)) (k serial : ℕ) : Type 0 where
+pub record IsStored {B : Type 0} (keys : List (Option (ℕ × ℕ))) (bodies : List (Option B))
+    (k serial : ℕ) : Type 0 where
   pub due : ℕ
   pub body : B
   pub key : key_at keys k ≡ Some (due, serial)
   pub there : body_at bodies k ≡ Some body
 
 -- a slot has the place where the item of its serial stands, and each key is that of such an item
-pub record IsSparse {B : Type 0} (keys : List (Option (ℕ × ℕ))) (bodies : List (Option B)) (places : List (Option ℕ)) (base count : ℕ) : Type 0 where
+pub record IsSparse {B : Type 0} (keys : List (Option (ℕ × ℕ))) (bodies : List (Option B))
+    (places : List (Option ℕ)) (base count : ℕ) : Type 0 where
   pub found : (i k : ℕ) → index_at places i ≡ Some k → IsStored keys bodies k (base + i)
   pub from : (k d s : ℕ) → key_at keys k ≡ Some (d, s) → base ≤ s
   pub placed : (k d s : ℕ) → key_at keys k ≡ Some (d, s) → index_at places (s - base) ≡ Some k

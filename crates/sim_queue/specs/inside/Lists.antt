@@ -1,5 +1,7 @@
--- Keys in lists by their days: nodes in rings, of which each begins and ends at one of the first 256 nodes.
-use Rattle.std.specs.Prelude.{◌≡◌, ◌≢◌, ◌⊎◌, ◌+◌, ◌*◌, ◌^◌, ◌/◌, ◌%◌, ℕ, ◌<◌, ◌≤◌, List, length, slice_index_or}
+-- Keys in lists by their days: nodes in rings, of which each begins and ends at one of the first
+-- 256 nodes.
+use Rattle.std.specs.Prelude.{◌≡◌, ◌≢◌, ◌⊎◌, ◌+◌, ◌*◌, ◌^◌, ◌/◌, ◌%◌, ℕ, ◌<◌, ◌≤◌, List, length}
+use Rattle.std.specs.Prelude.{slice_index_or}
 use Rattle.sim_queue.specs.declared.lists.Node.{Node}
 
 -- the node at a place, and past the end one without a key
@@ -29,25 +31,29 @@ order_of x = key_order x.due x.serial
 
 -- the end of a list, with no key in it
 abbrev pub end_of : ℕ → ℕ → Node
-end_of width i = record { due = i * 2 ^ width; serial = 18446744073709551615; before = i; after = i }
+end_of width i =
+    record { due = i * 2 ^ width; serial = 18446744073709551615; before = i; after = i }
 
 -- the node i stands in a list: it is the end of one, or has a key
 abbrev pub IsLinked : List Node → ℕ → Type 0
 IsLinked nodes i = ((i < 256) × (i < length nodes)) ⊎ HasKey (node nodes i)
 
--- the node before the node i stands in the same list, leads to it, and has a lesser key where both have keys
+-- the node before the node i stands in the same list, leads to it, and has a lesser key where both
+-- have keys
 pub record IsBehind (width : ℕ) (nodes : List Node) (i : ℕ) : Type 0 where
   pub linked : IsLinked nodes (node nodes i).before
   pub back : (node nodes (node nodes i).before).after ≡ i
   pub list : list_of width (node nodes (node nodes i).before) ≡ list_of width (node nodes i)
-  pub rising : 256 ≤ i → 256 ≤ (node nodes i).before → order_of (node nodes (node nodes i).before) < order_of (node nodes i)
+  pub rising : 256 ≤ i → 256 ≤ (node nodes i).before → order_of (node nodes (node nodes i).before)
+      < order_of (node nodes i)
 
 -- the node after the node i stands in a list, and leads back to it
 pub record IsAhead (nodes : List Node) (i : ℕ) : Type 0 where
   pub linked : IsLinked nodes (node nodes i).after
   pub forth : (node nodes (node nodes i).after).before ≡ i
 
--- the first 256 nodes are the ends of the lists, and each node of a list stands between its neighbours
+-- the first 256 nodes are the ends of the lists, and each node of a list stands between its
+-- neighbours
 pub record IsLists (width : ℕ) (nodes : List Node) : Type 0 where
   pub ends : (i : ℕ) → i < 256 → 2 ^ 40 ≤ (node nodes i).serial
   pub lists : (i : ℕ) → i < 256 → i < length nodes → list_of width (node nodes i) ≡ i
@@ -69,11 +75,14 @@ pub record IsSpot (width due serial b : ℕ) (nodes : List Node) : Type 0 where
   pub linked : IsLinked nodes b
   pub list : list_of width (node nodes b) ≡ day width due % 256
   pub above : 256 ≤ b → order_of (node nodes b) < key_order due serial
-  pub below : 256 ≤ (node nodes b).after → key_order due serial < order_of (node nodes (node nodes b).after)
+  pub below : 256 ≤ (node nodes b).after → key_order due serial
+      < order_of (node nodes (node nodes b).after)
 
 -- the keys of all other nodes stay
 abbrev pub KeepsOthers : ℕ → List Node → List Node → Type 0
-KeepsOthers p old new = (i : ℕ) → i ≢ p → ((node new i).due ≡ (node old i).due) × ((node new i).serial ≡ (node old i).serial)
+KeepsOthers p old new =
+    (i : ℕ) → i ≢ p → ((node new i).due ≡ (node old i).due)
+    × ((node new i).serial ≡ (node old i).serial)
 
 -- no key is in a list
 abbrev pub IsEmptyList : ℕ → ℕ → List Node → Type 0

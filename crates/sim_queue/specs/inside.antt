@@ -1,0 +1,8 @@
+-- What serves the private functions alone: no crate above cites these files.
+pub mod Link
+pub mod Lists
+pub mod Marks
+pub mod Slots
+pub mod Sparse
+pub mod Store
+pub mod Wheel
