@@ -11,6 +11,7 @@
 //! - [`play_strictly`] is a play that ends with the answer to the first line of its script that is at
 //!   fault: a [`ScriptFault`], which [`tell_fault`] tells on standard error.
 //! - [`Status`] says how a play ended; its number is the exit status of the program.
+//! - [`explain_fault`] tells on standard error why a text is no scenario; [`open`] calls it.
 //! - [`write_text`] writes a text and flushes the writer, as for the line of a scenario's fault.
 //!
 //! The contract of `play` holds for every reader and writer whose bytes contracts can name. Where
@@ -36,6 +37,7 @@
 #![tactic(auto)]
 
 mod answering;
+mod explaining;
 mod fault;
 mod opened;
 mod opening;
@@ -47,6 +49,7 @@ mod strictly;
 mod subjects;
 
 pub use answering::{answer_lines, turn_of};
+pub use explaining::explain_fault;
 pub use fault::{LineFault, ScriptFault, fault_of_turn, tell_fault, tells_want};
 pub use opened::Opened;
 pub use opening::{open, set_up, write_text};

@@ -226,7 +226,7 @@ pub fn play_strictly<L: Subjects, H: Eprint, R: Read, W: Write>(
     ensures within { IsWithinReads (R.remaining reader.old) (R.remaining reader.new) }
 {
     let mut ahead = Ahead::new();
-    match open::<L, R, W>(alloc, reader, &mut ahead, writer) {
+    match open::<L, H, R, W>(host, alloc, reader, &mut ahead, writer) {
         Ok(opened) => {
             let task = PlayingStrictly { alloc, host };
             L::carry_out(opened.protocol, &task, &opened, reader, &mut ahead, writer)

@@ -38,8 +38,8 @@ pub fn explain_no_tables<W: fmt::Write>(
     }
 }
 
-/// Writes which server has no name that is one: its item is no string if `types`, else it is a string
-/// that is no name.
+/// Writes which server has no name: its item is no string if `types`, else it is a string that is
+/// no name.
 pub fn explain_servers<W: fmt::Write>(
     f: &mut fmt::Formatter<W>,
     table: &Table,

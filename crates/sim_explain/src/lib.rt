@@ -1,7 +1,7 @@
 //! Says in a sentence why a text is no scenario: what was found, and what is allowed.
 //!
-//! [`Explanation::new`] takes the text, the fault that `sim_scenario::read` returned for it, and the
-//! protocols that a scenario may name. What it prints is one line without its end:
+//! [`Explanation::new`] takes the text, the fault that `sim_scenario::read` returned for it, and
+//! the protocols that a scenario may name. What it prints is one line without its end:
 //!
 //! ```text
 //! tick is 0; it has to be a whole number from 1 to 60,000 (ms)
@@ -14,7 +14,8 @@
 //!
 //! - `sentences`: the small parts of a sentence: a quoted text, a value that was found, what is
 //!   wanted in its place.
-//! - `keys`: the keys of the text itself. `hosts`: servers, clients and their names. `links`: links.
+//! - `keys`: the keys of the text itself. `hosts`: servers, clients and their names. `links`: the
+//!   links.
 //! - `position`: the line and the column of a place in the text.
 #![tactic(auto)]
 
