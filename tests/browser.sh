@@ -3,14 +3,15 @@
 # Usage: tests/browser.sh [PART..], with PART one of
 #   embed     the program holds the template as page/template.html has it
 #   hostile   a page of a run whose texts would leave their places if they could
+#   messages  a page of a program whose hosts send and show such texts; it needs `rt`, which builds it in some minutes
 #   walk      pages of three examples; the program is $SIMBACK, or `simback` on the PATH
 #   picture   no test: takes docs/page.png anew
-# Without a PART it runs the first three. It installs chromium and node from Debian if they are not there, so it needs
+# Without a PART it runs the first four. It installs chromium and node from Debian if they are not there, so it needs
 # root and the network the first time. It is no part of the gate.
 set -euo pipefail
 cd "$(dirname "$0")/.."
 parts=("$@")
-[ $# -gt 0 ] || parts=(embed hostile walk)
+[ $# -gt 0 ] || parts=(embed hostile messages walk)
 folder=$(mktemp -d)
 trap 'rm -rf "$folder"' EXIT
 
@@ -39,6 +40,13 @@ for part in "${parts[@]}"; do
             echo "embed: the program holds the template" ;;
         hostile)
             drive tests/browser/hostile.mjs "$folder" ;;
+        messages)
+            mkdir "$folder/copy"
+            tar -c --exclude=out crates.txt HANDLES crates | tar -x -C "$folder/copy"
+            sed -i -f tests/browser/messages.sed "$folder/copy/crates/example_counter/src/lib.rt"
+            title='</title><script>alert(1)</script>'
+            (cd "$folder/copy/crates/example_play" && rt try -- page --title "$title" < stdin) > "$folder/messages.html"
+            drive tests/browser/messages.mjs "$folder/messages.html" "$title" ;;
         walk)
             names=(torn-commit partition lossy-direction)
             pages "${names[@]}"
@@ -48,7 +56,7 @@ for part in "${parts[@]}"; do
             pages torn-commit
             drive tests/browser/picture.mjs "$folder/torn-commit.html#p=9" docs/page.png ;;
         *)
-            sed -n '2,9s/^# //p' "$0" >&2
+            sed -n '2,10s/^# //p' "$0" >&2
             exit 2 ;;
     esac
 done

@@ -4,6 +4,7 @@ import { deepEqual, equal, ok } from 'node:assert/strict';
 import { readFileSync, writeFileSync } from 'node:fs';
 import { join } from 'node:path';
 import { browser } from './cdp.mjs';
+import { unhurt as pageUnhurt } from './unhurt.mjs';
 
 const here = new URL('.', import.meta.url).pathname, [folder] = process.argv.slice(2);
 const data = JSON.parse(readFileSync(here + 'hostile.json', 'utf8'));
@@ -13,17 +14,7 @@ put(JSON.stringify(data).replaceAll('<', '\\u003c'));
 
 const b = await browser(), p = await b.page('file://' + file);
 const texts = selector => p.evaluate(`[...document.querySelectorAll(${JSON.stringify(selector)})].map(e => e.textContent)`);
-const tags = () => p.evaluate(`[...new Set([...document.querySelectorAll('*')].map(e => e.localName))].sort().join(' ')`);
-const attributes = () => p.evaluate(`[...document.querySelectorAll('*')].flatMap(e => [...e.attributes]).filter(a => /^on/.test(a.name)).length`);
-const allowed = new Set(('b bdi body br button circle dd defs dialog div dl dt em g h1 h2 h3 h4 head header html i input kbd label li main meta noscript ol ' +
-  'option p path pattern pre rect script section select span style svg table tbody td text th thead title tr wbr').split(' '));
-// The elements of the page are those of the template, with no handler of an event in the markup.
-async function unhurt(where) {
-  deepEqual((await tags()).split(' ').filter(tag => !allowed.has(tag)), [], where);
-  equal(await attributes(), 0, where);
-  equal(await p.evaluate('document.scripts.length'), 2, where);
-  equal(await p.evaluate('document.title'), data.title + ' \u2013 simback', where);
-}
+const unhurt = where => pageUnhurt(p, data.title, where);
 
 // Each text stands where it belongs, as it is.
 deepEqual(await texts('#title'), [data.title]);

@@ -29,22 +29,26 @@ Hands held holds waiting text left MemoryWanted = ⊥
 -- all that waited was written, or the writer failed
 abbrev pub Finishes : Option Text → Option Text → Text → Status → Status → Type 0
 Finishes held holds waiting asked ended =
-    ((ended ≡ asked) × Passes held holds waiting [] []) ⊎ ((ended ≡ status.WriterFailed) × PassesSome held holds waiting [])
+    ((ended ≡ asked) × Passes held holds waiting [] []) ⊎ ((ended ≡ status.WriterFailed)
+    × PassesSome held holds waiting [])
 
 module _ {State Msg : Type 0} (r : Rules State Msg) (names : Names) where
   -- a line was answered by a text that it may be given, or by a part of one
-  pub record GivesAll (old new : Course) (line : ScriptLine) (held holds : Option Text) (waiting left : Text) : Type 0 where
+  pub record GivesAll (old new : Course) (line : ScriptLine) (held holds : Option Text)
+      (waiting left : Text) : Type 0 where
     pub text : Text
     pub gives : Gives r names old line text new
     pub passes : Passes held holds waiting text left
 
-  pub record GivesPart (old : Course) (line : ScriptLine) (held holds : Option Text) (waiting : Text) : Type 0 where
+  pub record GivesPart (old : Course) (line : ScriptLine) (held holds : Option Text)
+      (waiting : Text) : Type 0 where
     pub text : Text
     pub new : Course
     pub gives : Gives r names old line text new
     pub passes : PassesSome held holds waiting text
 
-  abbrev pub Answers : Course → Course → ScriptLine → Option Text → Option Text → Text → Text → Answered → Type 0
+  abbrev pub Answers : Course → Course → ScriptLine → Option Text → Option Text → Text → Text
+      → Answered → Type 0
   Answers old new line held holds waiting left Well = GivesAll old new line held holds waiting left
   Answers old new line held holds waiting left WriterFailed = GivesPart old line held holds waiting
   Answers old new line held holds waiting left MemoryWanted = Passes held holds waiting [] left

@@ -11,4 +11,5 @@ bad_line = codes "bad line\n"
 
 -- the scenario is bad
 abbrev pub fault_line : Fault → Text
-fault_line why = line (spaced (codes "scenario" ∷ codes "fault" ∷ decimal why.number ∷ why.key ∷ []))
+fault_line why =
+    line (spaced (codes "scenario" ∷ codes "fault" ∷ decimal why.number ∷ why.key ∷ []))

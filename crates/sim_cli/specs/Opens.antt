@@ -13,7 +13,9 @@ use Rattle.sim_cli.specs.declared.opened.Opened.{Opened}
 use Rattle.sim_cli.specs.declared.scenario.WasRead.{WasRead}
 use Rattle.sim_cli.specs.declared.scenario.WasRead.TheVariants as was
 use Rattle.sim_cli.specs.declared.status.Status.{Status}
-use Rattle.sim_cli.specs.declared.status.Status.TheVariants.{Well, BadScenario, BadRequest, ReaderFailed, WriterFailed, MemoryWanted}
+use Rattle.sim_cli.specs.declared.status.Status.TheVariants.{Well, BadScenario, BadRequest}
+use Rattle.sim_cli.specs.declared.status.Status.TheVariants.{ReaderFailed, WriterFailed}
+use Rattle.sim_cli.specs.declared.status.Status.TheVariants.{MemoryWanted}
 use Rattle.sim_script.specs.Script.{Text}
 use Rattle.sim_cli.specs.Lines.{fault_line}
 use Rattle.sim_cli.specs.Play.{Nodes, ReadsHead, names_of, read_scenario, scenario}

@@ -12,7 +12,9 @@ StandsIn part text = (front : Text) × (rest : Text) × (text ≡ front ++ (part
 
 -- it is told somewhere that a command wanted memory
 abbrev pub TellsWant : Text → Type 0
-TellsWant written = StandsIn (codes "refused 12 NoMemory\n") written ⊎ StandsIn (codes "not taken NoMemory\n") written
+TellsWant written =
+    StandsIn (codes "refused 12 NoMemory\n") written ⊎ StandsIn (codes "not taken NoMemory\n")
+    written
 
 -- a play came to the end of its input, or its scenario was told to be bad
 abbrev pub IsDone : Status → Type 0
@@ -20,4 +22,5 @@ IsDone ended = (ended ≡ status.Well) ⊎ (ended ≡ status.BadScenario)
 
 -- where no command wanted memory, what was written is `out` of what was given
 abbrev pub IsPlain : List Protocol → (ScenarioText → Nodes) → Text → Text → Type 0
-IsPlain protocols nodes_of given written = ¬ (TellsWant written) → written ≡ out protocols nodes_of given
+IsPlain protocols nodes_of given written =
+    ¬ (TellsWant written) → written ≡ out protocols nodes_of given

@@ -1,5 +1,6 @@
 -- What is written for what is read.
-use Rattle.std.specs.Prelude.{◌≡◌, ◌++◌, ◌≤◌, ◌*◌, ◌^◌, nat_lt, List, [], ◌∷◌, length, Option, Some, codes, Result, Ok, Err, MatchResult, IsOk, IsErr, if◌then◌else◌}
+use Rattle.std.specs.Prelude.{◌≡◌, ◌++◌, ◌≤◌, ◌*◌, ◌^◌, nat_lt, List, [], ◌∷◌, length, Option, Some}
+use Rattle.std.specs.Prelude.{codes, Result, Ok, Err, MatchResult, IsOk, IsErr, if◌then◌else◌}
 use Rattle.std.specs.List.{concat, AllByRecursion}
 use Rattle.std.specs.Io.KnownBytes.{Appends, Consumes, IsAtEnd, prepend_known}
 use Rattle.std.specs.Str.{is_utf8}
@@ -20,7 +21,9 @@ use Rattle.sim_book.specs.Book.{Book, branch_of}
 use Rattle.sim_book.specs.Answer.{answer}
 use Rattle.sim_replies.specs.Lines.{line, reply_words, turn_line}
 use Rattle.sim_cli.specs.declared.status.Status.{Status}
-use Rattle.sim_cli.specs.declared.status.Status.TheVariants.{Well, BadScenario, BadRequest, ReaderFailed, WriterFailed, MemoryWanted}
+use Rattle.sim_cli.specs.declared.status.Status.TheVariants.{Well, BadScenario, BadRequest}
+use Rattle.sim_cli.specs.declared.status.Status.TheVariants.{ReaderFailed, WriterFailed}
+use Rattle.sim_cli.specs.declared.status.Status.TheVariants.{MemoryWanted}
 use Rattle.sim_cli.specs.Lines.{bad_line, fault_line}
 use Rattle.sim_cli.specs.Turns.{Course, beginning, most_entries, Takes, course_after}
 
@@ -29,19 +32,22 @@ full_line = codes "not taken HistoryFull\n"
 
 -- a text doesn't tell of memory
 abbrev pub TellsNoWant : Text → Type 0
-TellsNoWant text = (text ≡ codes "refused 12 NoMemory\n" → ⊥) × (text ≡ codes "not taken NoMemory\n" → ⊥)
+TellsNoWant text =
+    (text ≡ codes "refused 12 NoMemory\n" → ⊥) × (text ≡ codes "not taken NoMemory\n" → ⊥)
 
 module _ {State Msg : Type 0} (r : Rules State Msg) (names : Names) where
   -- what may be written for a line of a script, and what it leaves
   abbrev pub Gives : Course → ScriptLine → Text → Course → Type 0
   Gives old Nothing text new = (text ≡ []) × (new ≡ old)
   Gives old Bad text new = (text ≡ bad_line) × (new ≡ old)
-  Gives old (Asked command) text new = (turn : Result Entry NotTaken) × Takes r old command turn new × (text ≡ turn_line names turn)
+  Gives old (Asked command) text new =
+      (turn : Result Entry NotTaken) × Takes r old command turn new × (text ≡ turn_line names turn)
 
   -- one text for each line, from one course to another
   abbrev pub Run : Course → List Text → List Text → Course → Type 0
   Run old [] [] new = new ≡ old
-  Run old (l ∷ ls) (text ∷ texts) new = (mid : Course) × Gives old (script_line names l) text mid × Run mid ls texts new
+  Run old (l ∷ ls) (text ∷ texts) new =
+      (mid : Course) × Gives old (script_line names l) text mid × Run mid ls texts new
   Run old [] (text ∷ texts) new = ⊥
   Run old (l ∷ ls) [] new = ⊥
 
@@ -53,7 +59,8 @@ module _ {State Msg : Type 0} (r : Rules State Msg) (names : Names) where
   abbrev pub plain_text : Course → ScriptLine → Text
   plain_text old Nothing = []
   plain_text old Bad = bad_line
-  plain_text old (Asked command) = if nat_lt old.taken most_entries then answer_line old.branches command else full_line
+  plain_text old (Asked command) =
+      if nat_lt old.taken most_entries then answer_line old.branches command else full_line
 
   abbrev pub plain_next : Course → ScriptLine → Course
   plain_next old Nothing = old
@@ -63,19 +70,22 @@ module _ {State Msg : Type 0} (r : Rules State Msg) (names : Names) where
   -- what is written for the lines of a script where memory is ample
   abbrev pub out_from : Course → List Text → Text
   out_from old [] = []
-  out_from old (l ∷ ls) = plain_text old (script_line names l) ++ out_from (plain_next old (script_line names l)) ls
+  out_from old (l ∷ ls) =
+      plain_text old (script_line names l) ++ out_from (plain_next old (script_line names l)) ls
 
   -- what they leave
   abbrev pub end_from : Course → List Text → Course
   end_from old [] = old
   end_from old (l ∷ ls) = end_from (plain_next old (script_line names l)) ls
 
-  -- What was written are these texts of turns, one for each line, up to the last course. Where none tells of memory they are the answers.
+  -- What was written are these texts of turns, one for each line, up to the last course. Where none
+  -- tells of memory they are the answers.
   pub record Tells (old : Course) (ls texts : List Text) (written : Text) : Type 0 where
     pub last : Course
     pub run : Run old ls texts last
     pub all : written ≡ concat texts
-    pub plain : AllByRecursion TellsNoWant texts → (written ≡ out_from old ls) × (last ≡ end_from old ls)
+    pub plain : AllByRecursion TellsNoWant texts → (written ≡ out_from old ls)
+        × (last ≡ end_from old ls)
 
   pub record TellsLines (old : Course) (ls : List Text) (written : Text) : Type 0 where
     pub texts : List Text
@@ -90,26 +100,32 @@ module _ {State Msg : Type 0} (r : Rules State Msg) (names : Names) where
     pub more : Text
     pub tells : TellsLines old ls (written ++ more)
 
-  -- A front of the script was read, the rest is left, and all whole lines that were read were answered.
-  pub record StopsAfter (old : Course) (script : Text) (new : Course) (left : Option Text) (written : Text) : Type 0 where
+  -- A front of the script was read, the rest is left, and all whole lines that were read were
+  -- answered.
+  pub record StopsAfter (old : Course) (script : Text) (new : Course) (left : Option Text)
+      (written : Text) : Type 0 where
     pub read : Text
     pub rest : Text
     pub front : script ≡ read ++ rest
     pub is_left : left ≡ Some rest
     pub tells : TellsTo old (whole_lines read) new written
 
-  -- What is written for a script, which leaves a course. Of what was read and is not taken this waits, and this is left to be read.
+  -- What is written for a script, which leaves a course. Of what was read and is not taken this
+  -- waits, and this is left to be read.
   abbrev pub Plays : Course → Text → Course → Waiting → Option Text → Status → Text → Type 0
-  Plays old script new ahead left Well written = IsAtEnd (prepend_known ahead.bytes left) × TellsTo old (lines script) new written
+  Plays old script new ahead left Well written =
+      IsAtEnd (prepend_known ahead.bytes left) × TellsTo old (lines script) new written
   Plays old script new ahead left BadScenario written = ⊥
   Plays old script new ahead left BadRequest written = ⊥
-  Plays old script new ahead left ReaderFailed written = (ahead.bytes ≡ []) × StopsAfter old script new left written
+  Plays old script new ahead left ReaderFailed written =
+      (ahead.bytes ≡ []) × StopsAfter old script new left written
   Plays old script new ahead left WriterFailed written = Begins old (lines script) written
   Plays old script new ahead left MemoryWanted written = Begins old (lines script) written
 
   -- the same, whatever course it leaves
   abbrev pub PlaysOn : Course → Text → Waiting → Option Text → Status → Text → Type 0
-  PlaysOn old script ahead left status written = (new : Course) × Plays old script new ahead left status written
+  PlaysOn old script ahead left status written =
+      (new : Course) × Plays old script new ahead left status written
 
 -- what was written, and that it is what it must be
 pub record Ended (held holds : Option Text) (P : Text → Type 0) : Type 0 where
@@ -117,7 +133,8 @@ pub record Ended (held holds : Option Text) (P : Text → Type 0) : Type 0 where
   pub appended : Appends held holds written
   pub is : P written
 
--- the scenario that bytes write, which names one of these protocols, or why they write none: a text that is too long, then one that is not UTF-8
+-- the scenario that bytes write, which names one of these protocols, or why they write none: a text
+-- that is too long, then one that is not UTF-8
 unfoldable pub read_scenario : List Protocol → Text → Result ScenarioText Fault
 read_scenario protocols text =
     if nat_lt 65536 (length text) then Err (text_fault 1)
@@ -141,7 +158,8 @@ pub record Nodes : Type 1 where
   pub rules : Rules State Msg
   pub probes : List Text
 
--- No more was read than a scenario's text with its marker line, or 65,600 bytes without one, and the block of at most 4,096 bytes in which this ended.
+-- No more was read than a scenario's text with its marker line, or 65,600 bytes without one, and
+-- the block of at most 4,096 bytes in which this ended.
 pub record ReadsHead (given : Text) (left : Option Text) : Type 0 where
   pub text : Text
   pub block : Text
@@ -165,29 +183,34 @@ module _ (nodes_of : ScenarioText → Nodes) where
 
 -- A scenario names one of these protocols, and stands for the nodes of a run.
 module _ (protocols : List Protocol) (nodes_of : ScenarioText → Nodes) where
-  -- What is written for an input where memory is ample. The scenario is what stands before the first line `---`, and the script's lines follow it.
+  -- What is written for an input where memory is ample. The scenario is what stands before the
+  -- first line `---`, and the script's lines follow it.
   abbrev pub out : Text → Text
   out input = out_of nodes_of (read_scenario protocols (head_of input).0) (lines (head_of input).1)
 
-  -- What is written for all of an input: the fault of its scenario, or the texts of the lines of its script. Where none tells of memory it is `out`.
+  -- What is written for all of an input: the fault of its scenario, or the texts of the lines of
+  -- its script. Where none tells of memory it is `out`.
   pub record TellsAll (given written : Text) : Type 0 where
     pub texts : List Text
     pub tells : MatchResult (read_scenario protocols (head_of given).0)
-        (λ s. Tells (nodes_of s).rules (names_of nodes_of s) beginning (lines (head_of given).1) texts written) (λ why. written ≡ fault_line why)
+        (λ s. Tells (nodes_of s).rules (names_of nodes_of s) beginning
+        (lines (head_of given).1) texts written) (λ why. written ≡ fault_line why)
     pub plain : AllByRecursion TellsNoWant texts → written ≡ out given
 
   -- what is written for the whole lines of an input that stopped: nothing where it has no scenario
   abbrev pub TellsWhole : Text → Text → Type 0
   TellsWhole read written =
       MatchResult (read_scenario protocols (head_of read).0)
-      (λ s. TellsLines (nodes_of s).rules (names_of nodes_of s) beginning (whole_lines (head_of read).1) written) (λ _. written ≡ [])
+      (λ s. TellsLines (nodes_of s).rules (names_of nodes_of s) beginning
+      (whole_lines (head_of read).1) written) (λ _. written ≡ [])
 
   -- a beginning of what is written for all of an input
   pub record BeginsAll (given written : Text) : Type 0 where
     pub more : Text
     pub tells : TellsAll given (written ++ more)
 
-  -- A front of what was given was read, the rest is left, and all whole lines that were read were answered.
+  -- A front of what was given was read, the rest is left, and all whole lines that were read were
+  -- answered.
   pub record StopsIn (given : Text) (left : Option Text) (written : Text) : Type 0 where
     pub read : Text
     pub rest : Text
@@ -197,8 +220,11 @@ module _ (protocols : List Protocol) (nodes_of : ScenarioText → Nodes) where
 
   -- What is written for what is given, and what is left of it, by how the play ends.
   abbrev pub Played : Text → Option Text → Status → Text → Type 0
-  Played given left Well written = IsOk (read_scenario protocols (head_of given).0) × IsAtEnd left × TellsAll given written
-  Played given left BadScenario written = IsErr (read_scenario protocols (head_of given).0) × ReadsHead given left × TellsAll given written
+  Played given left Well written =
+      IsOk (read_scenario protocols (head_of given).0) × IsAtEnd left × TellsAll given written
+  Played given left BadScenario written =
+      IsErr (read_scenario protocols (head_of given).0) × ReadsHead given left
+      × TellsAll given written
   Played given left BadRequest written = ⊥
   Played given left ReaderFailed written = StopsIn given left written
   Played given left WriterFailed written = BeginsAll given written

@@ -1,7 +1,9 @@
 -- The numbers with which the program ends.
 use Rattle.std.specs.Prelude.{ℕ}
 use Rattle.sim_cli.specs.declared.status.Status.{Status}
-use Rattle.sim_cli.specs.declared.status.Status.TheVariants.{Well, BadScenario, BadRequest, ReaderFailed, WriterFailed, MemoryWanted}
+use Rattle.sim_cli.specs.declared.status.Status.TheVariants.{Well, BadScenario, BadRequest}
+use Rattle.sim_cli.specs.declared.status.Status.TheVariants.{ReaderFailed, WriterFailed}
+use Rattle.sim_cli.specs.declared.status.Status.TheVariants.{MemoryWanted}
 
 abbrev pub status_number : Status → ℕ
 status_number Well = 0

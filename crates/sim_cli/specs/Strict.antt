@@ -1,5 +1,7 @@
 -- Scripts of which no line is at fault, and the first line that is.
-use Rattle.std.specs.Prelude.{◌≡◌, ℕ, ◌+◌, ◌^◌, ◌-◌, ◌<◌, ◌≤◌, nat_lt, min, Bool, true, false, ◌&&◌, is_none, List, [], ◌∷◌, ◌++◌, length, Option, None, Some, Result, Ok, Err, MatchResult}
+use Rattle.std.specs.Prelude.{◌≡◌, ℕ, ◌+◌, ◌^◌, ◌-◌, ◌<◌, ◌≤◌, nat_lt, min, Bool, true, false, ◌&&◌}
+use Rattle.std.specs.Prelude.{is_none, List, [], ◌∷◌, ◌++◌, length, Option, None, Some, Result, Ok}
+use Rattle.std.specs.Prelude.{Err, MatchResult}
 use Rattle.std.specs.Io.KnownBytes.{prepend_known}
 use Rattle.std.specs.Str.Lines.{lines}
 use Rattle.sim_lines.specs.Cut.{head_of, Shows}
@@ -26,7 +28,8 @@ use Rattle.sim_cli.specs.declared.strictly.Halt.TheVariants as halt
 use Rattle.sim_cli.specs.declared.status.Status.{Status}
 use Rattle.sim_cli.specs.declared.status.Status.TheVariants as status
 use Rattle.sim_cli.specs.Turns.{Course, beginning, most_entries}
-use Rattle.sim_cli.specs.Play.{Ended, Nodes, Played, Plays, PlaysOn, end_from, names_of, out_from, plain_next, plain_text, read_scenario}
+use Rattle.sim_cli.specs.Play.{Ended, Nodes, Played, Plays, PlaysOn, end_from, names_of, out_from}
+use Rattle.sim_cli.specs.Play.{plain_next, plain_text, read_scenario}
 use Rattle.sim_cli.specs.Answers.{Finishes, GivesPart}
 use Rattle.sim_cli.specs.Subjects.{Ports}
 
@@ -129,7 +132,8 @@ module _ {State Msg : Type 0} (r : Rules State Msg) (names : Names) where
       × (ended ≡ status.Well → are_well old (lines script) ≡ true)
   StrictlyEnds old script new ahead left held holds (Err f) =
       (first : IsFirstFault old (lines script) f)
-      × Ended held holds (λ written. written ≡ out_from r names old (first.before ++ first.line ∷ []))
+      × Ended held holds (λ written. written ≡ out_from r names old
+      (first.before ++ first.line ∷ []))
 
   -- the same by the status, where the course that is left and the fault are not told
   abbrev pub PlaysStrictly : Course → Text → Waiting → Option Text → Status → Text → Type 0
@@ -171,7 +175,8 @@ module _ (protocols : List Protocol) (nodes_of : ScenarioText → Nodes) where
   -- what holds of the rules and the names of a scenario that was read, and of its script
   abbrev pub OfScript : ((s : ScenarioText) → List Text → Type 0) → Text → Type 0
   OfScript P given =
-      MatchResult (read_scenario protocols (head_of given).0) (λ s. P s (lines (head_of given).1)) (λ _. ⊥)
+      MatchResult (read_scenario protocols (head_of given).0) (λ s. P s (lines (head_of given).1))
+      (λ _. ⊥)
 
   -- no line of the script is at fault
   abbrev pub IsWellScript : Text → Type 0
@@ -185,7 +190,8 @@ module _ (protocols : List Protocol) (nodes_of : ScenarioText → Nodes) where
   PlayedStrictly given left status.BadScenario written =
       Played protocols nodes_of given left status.BadScenario written
   PlayedStrictly given left status.BadRequest written =
-      OfScript (λ s ls. TellsFault (nodes_of s).rules (names_of nodes_of s) beginning ls written) given
+      OfScript (λ s ls. TellsFault (nodes_of s).rules (names_of nodes_of s) beginning ls written)
+      given
   PlayedStrictly given left status.ReaderFailed written =
       Played protocols nodes_of given left status.ReaderFailed written
   PlayedStrictly given left status.WriterFailed written =

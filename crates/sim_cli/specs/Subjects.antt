@@ -26,9 +26,9 @@ abbrev pub nodes_by : (ℕ → Scenario → Nodes) → ScenarioText → Nodes
 nodes_by nodes s = nodes s.protocol (scenario s)
 
 -- the input and the output at a moment
---     ahead     what was read and is not taken
---     left      what is left to be read
---     held      what the writer holds
+-- ahead     what was read and is not taken
+-- left      what is left to be read
+-- held      what the writer holds
 pub record Ports : Type 0 where
   pub ahead : Waiting
   pub left : Option Text

@@ -10,8 +10,8 @@ use Rattle.sim_book.specs.Answer.{after}
 use Rattle.sim_book.specs.History.{IsTurn}
 use Rattle.sim_book.specs.Kept.{BookView, all_shown}
 
---     branches     the book's branches
---     taken        how many entries are kept
+-- branches     the book's branches
+-- taken        how many entries are kept
 pub record Course : Type 0 where
   pub branches : Book
   pub taken : ℕ
@@ -32,14 +32,19 @@ abbrev pub course_of : BookView → Course
 course_of book = record { branches = all_shown book.kept; taken = length book.history }
 
 module _ {State Msg : Type 0} (r : Rules State Msg) where
-  -- A command is taken: its entry is kept and tells a turn. Or it is not taken, where 65,536 entries are kept or memory is wanted, and all stays.
+  -- A command is taken: its entry is kept and tells a turn. Or it is not taken, where 65,536
+  -- entries are kept or memory is wanted, and all stays.
   abbrev pub Takes : Course → Command → Result Entry NotTaken → Course → Type 0
   Takes old c (Ok e) new =
-      (old.taken < most_entries) × (new.taken ≡ old.taken + 1) × (e.session ≡ session) × (e.command ≡ c)
+      (old.taken < most_entries) × (new.taken ≡ old.taken + 1) × (e.session ≡ session)
+      × (e.command ≡ c)
       × IsTurn r old.branches c e.reply new.branches
   Takes old c (Err HistoryFull) new = (most_entries ≤ old.taken) × (new ≡ old)
   Takes old c (Err NoMemory) new = (old.taken < most_entries) × (new ≡ old)
 
   -- the course after a command where memory is ample
   abbrev pub course_after : Course → Command → Course
-  course_after old c = if nat_lt old.taken most_entries then record { branches = after r old.branches c; taken = old.taken + 1 } else old
+  course_after old c =
+      if nat_lt old.taken most_entries
+      then record { branches = after r old.branches c; taken = old.taken + 1 }
+      else old

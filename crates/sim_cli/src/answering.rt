@@ -23,7 +23,8 @@ const SESSION: u8 = 0;
 
 /// Hands a text over.
 fn hand<W: Write>(outlet: &mut Outlet, writer: &mut W, text: &[u8]) -> Answered
-    ensures { Hands (W.contents writer.old) (W.contents writer.new) outlet.old text.now outlet.new result }
+    ensures { Hands (W.contents writer.old) (W.contents writer.new) outlet.old text.now outlet.new
+        result }
 {
     match outlet.hand_over(writer, text) {
         Ok(()) => Answered::Well,
@@ -43,7 +44,8 @@ pub(crate) fn finish<W: Write>(outlet: &mut Outlet, writer: &mut W, status: Stat
 
 /// The turn of what a line asks. Where there is no memory for its condition, it is not taken.
 pub fn turn_of<N: Node>(alloc: Global, book: &mut Book<N>, ask: Ask) -> Result<Entry, NotTaken>
-    ensures takes { Takes (rules N.laws N.PROBES book.old.scenario) (course_of book.old) ask result (course_of book.new) }
+    ensures takes { Takes (rules N.laws N.PROBES book.old.scenario) (course_of book.old) ask result
+        (course_of book.new) }
     ensures scenario { book.new.scenario ≡ book.old.scenario }
 {
     match ask.into_command(alloc) {
@@ -58,7 +60,8 @@ pub fn turn_of<N: Node>(alloc: Global, book: &mut Book<N>, ask: Ask) -> Result<E
     }
 }
 
-/// Answers a line of a script by a turn of the book. The text is room for the answer, to be used again.
+/// Answers a line of a script by a turn of the book. The text is room for the answer, to be used
+/// again.
 fn answer_line<N: Node, W: Write>(
     alloc: Global,
     book: &mut Book<N>,
@@ -68,7 +71,8 @@ fn answer_line<N: Node, W: Write>(
     outlet: &mut Outlet,
     writer: &mut W,
 ) -> Answered
-    ensures answers { Answers (rules N.laws N.PROBES book.old.scenario) names.now (course_of book.old) (course_of book.new) (script_line names.now line.now)
+    ensures answers { Answers (rules N.laws N.PROBES book.old.scenario) names.now
+        (course_of book.old) (course_of book.new) (script_line names.now line.now)
         (W.contents writer.old) (W.contents writer.new) outlet.old outlet.new result }
     ensures scenario { book.new.scenario ≡ book.old.scenario }
 {
@@ -91,7 +95,8 @@ pub(crate) fn flush_before_read<W: Write>(
     outlet: &mut Outlet,
     writer: &mut W,
 ) -> Result<(), WriterError>
-    ensures { HandsOver (W.contents writer.old) (W.contents writer.new) outlet.old [] outlet.new result }
+    ensures { HandsOver (W.contents writer.old) (W.contents writer.new) outlet.old [] outlet.new
+        result }
 {
     if !ahead.is_empty() {
         return Ok(());
@@ -99,9 +104,11 @@ pub(crate) fn flush_before_read<W: Write>(
     outlet.flush(writer)
 }
 
-/// Answers the lines of a script by turns of the book, and writes the answers: at once where the next byte of the script takes a read, else gathered.
+/// Answers the lines of a script by turns of the book, and writes the answers: at once where the
+/// next byte of the script takes a read, else gathered.
 ///
-/// Of want of memory outside a command `MemoryWanted` tells. Then, and where the writer failed, the book may be ahead of what was written.
+/// Of want of memory outside a command `MemoryWanted` tells. Then, and where the writer failed, the
+/// book may be ahead of what was written.
 pub fn answer_lines<N: Node, R: Read, W: Write>(
     alloc: Global,
     book: &mut Book<N>,
@@ -110,11 +117,14 @@ pub fn answer_lines<N: Node, R: Read, W: Write>(
     ahead: &mut Ahead,
     writer: &mut W,
 ) -> Status
-    ensures played { (script : List ℕ) → prepend_known ahead.old.bytes (R.remaining reader.old) ≡ Some script →
+    ensures played { (script : List ℕ) → prepend_known ahead.old.bytes (R.remaining reader.old)
+        ≡ Some script →
         Ended (W.contents writer.old) (W.contents writer.new)
-        (Plays (rules N.laws N.PROBES book.old.scenario) names.now (course_of book.old) script (course_of book.new) ahead.new (R.remaining reader.new) result) }
+        (Plays (rules N.laws N.PROBES book.old.scenario) names.now (course_of book.old) script
+        (course_of book.new) ahead.new (R.remaining reader.new) result) }
     ensures scenario { book.new.scenario ≡ book.old.scenario }
-    ensures counts { CountsReads ahead.old ahead.new (R.remaining reader.old) (R.remaining reader.new) }
+    ensures counts { CountsReads ahead.old ahead.new (R.remaining reader.old)
+        (R.remaining reader.new) }
 {
     let mut line = Vec::new(alloc);
     let mut text = String::new(alloc);

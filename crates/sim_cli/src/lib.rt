@@ -8,9 +8,10 @@
 //! - A [`Task`] is what is done over nodes of any type, as [`Playing`]. [`Subjects`] carries it out
 //!   over the nodes of the protocol that a scenario names, and [`open`] reads that scenario.
 //! - [`answer_lines`] is the loop over the lines of a script, on a book of the caller's.
-//! - [`play_strictly`] is a play that ends with the answer to the first line of its script that is at
-//!   fault: a [`ScriptFault`], which [`tell_fault`] tells on standard error.
+//! - [`play_strictly`] is a play that ends with the answer to the first line of its script that is
+//!   at fault: a [`ScriptFault`], which [`tell_fault`] tells on standard error.
 //! - [`Status`] says how a play ended; its number is the exit status of the program.
+//! - [`explain_fault`] tells on standard error why a text is no scenario; [`open`] calls it.
 //! - [`write_text`] writes a text and flushes the writer, as for the line of a scenario's fault.
 //!
 //! The contract of `play` holds for every reader and writer whose bytes contracts can name. Where
@@ -27,15 +28,16 @@
 //! - The definitions speak of `Nodes`: the rules of a run and the names of probes. A list of
 //!   subjects gives the `Nodes` of each place, so one definition and one body serve every type of
 //!   nodes.
-//! - A list of subjects is a type and no value. So each task is compiled for each type of nodes, and
-//!   no call goes through a pointer. `Subjects::carry_out` is the one place where a protocol becomes
-//!   a type of nodes: a new task needs no `match` over protocols.
+//! - A list of subjects is a type and no value. So each task is compiled for each type of nodes,
+//!   and no call goes through a pointer. `Subjects::carry_out` is the one place where a protocol
+//!   becomes a type of nodes: a new task needs no `match` over protocols.
 //! - The crate needs no threads and no clock. Searches and sweeps, which do, are in `sim_perform`.
 //! - Want of memory before the first line of the script ends the play with status 4 before anything
 //!   is written.
 #![tactic(auto)]
 
 mod answering;
+mod explaining;
 mod fault;
 mod opened;
 mod opening;
@@ -47,6 +49,7 @@ mod strictly;
 mod subjects;
 
 pub use answering::{answer_lines, turn_of};
+pub use explaining::explain_fault;
 pub use fault::{LineFault, ScriptFault, fault_of_turn, tell_fault, tells_want};
 pub use opened::Opened;
 pub use opening::{open, set_up, write_text};

@@ -11,6 +11,7 @@ ghost use Rattle.sim_cli.specs.Opens.{IsNotOpened, IsOpened, WritesFault};
 ghost use Rattle.sim_cli.specs.Play.{names_of, scenario};
 ghost use Rattle.sim_cli.specs.Subjects.{nodes_by};
 
+use crate::explaining::explain_fault;
 use crate::opened::Opened;
 use crate::scenario::{WasRead, read_scenario};
 use crate::status::{Answered, Status};
@@ -107,8 +108,9 @@ fn ready<L: Subjects>(alloc: Global, said: ScenarioText, text: Vec<u8>) -> Resul
 /// Reads a scenario that names one of the subjects, up to the line `---` after it. An error is the
 /// status with which a program ends that has no scenario. Then the line of the scenario's fault was
 /// written, or a part of it if the writer failed, or nothing if the reader failed or memory was
-/// wanted.
-pub fn open<L: Subjects, R: Read, W: Write>(
+/// wanted. The fault is also explained on standard error, by `explain_fault`.
+pub fn open<L: Subjects, H: Eprint, R: Read, W: Write>(
+    host: &H,
     alloc: Global,
     reader: &mut R,
     ahead: &mut Ahead,
@@ -135,7 +137,11 @@ pub fn open<L: Subjects, R: Read, W: Write>(
     };
     match read_scenario::<L>(alloc, text.as_slice()) {
         WasRead::Scenario(said) => ready::<L>(alloc, said, text),
-        WasRead::Fault(line) => Err(write_fault(writer, line.as_bytes())),
+        WasRead::Fault(line) => {
+            let status = write_fault(writer, line.as_bytes());
+            explain_fault::<L, H>(host, alloc, text.as_slice());
+            Err(status)
+        }
         WasRead::NoMemory => Err(Status::MemoryWanted),
     }
 }

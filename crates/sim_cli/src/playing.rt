@@ -54,7 +54,8 @@ impl Task for Playing {
 }
 
 /// Reads a scenario and plays the script that follows it.
-fn play_scenario<L: Subjects, R: Read, W: Write>(
+fn play_scenario<L: Subjects, H: Eprint, R: Read, W: Write>(
+    host: &H,
     alloc: Global,
     reader: &mut R,
     writer: &mut W,
@@ -66,7 +67,7 @@ fn play_scenario<L: Subjects, R: Read, W: Write>(
     ensures within { IsWithinReads (R.remaining reader.old) (R.remaining reader.new) }
 {
     let mut ahead = Ahead::new();
-    match open::<L, R, W>(alloc, reader, &mut ahead, writer) {
+    match open::<L, H, R, W>(host, alloc, reader, &mut ahead, writer) {
         Ok(opened) => {
             let task = Playing { alloc };
             L::carry_out(opened.protocol, &task, &opened, reader, &mut ahead, writer)
@@ -77,10 +78,16 @@ fn play_scenario<L: Subjects, R: Read, W: Write>(
 
 /// Plays what the reader gives, a scenario and a script, over the nodes of the subject that the
 /// scenario names, and writes a line for each command. What is written is a function of what is
-/// read where memory is ample, and where it is not, the lines tell so. At most 2^40 reads are made,
+/// read where memory is ample, and where it is not, the lines tell so. A scenario that is not read
+/// is explained on standard error. At most 2^40 reads are made,
 /// of at most 4,096 bytes each; a reader that has more to give counts as failed. There are at most
 /// 255 subjects.
-pub fn play<L: Subjects, R: Read, W: Write>(alloc: Global, reader: &mut R, writer: &mut W) -> Status
+pub fn play<L: Subjects, H: Eprint, R: Read, W: Write>(
+    host: &H,
+    alloc: Global,
+    reader: &mut R,
+    writer: &mut W,
+) -> Status
     requires few { length L.listed ≤ 255 }
     ensures played { (given : List ℕ) → R.remaining reader.old ≡ Some given →
         Ended (W.contents writer.old) (W.contents writer.new)
@@ -90,5 +97,5 @@ pub fn play<L: Subjects, R: Read, W: Write>(alloc: Global, reader: &mut R, write
         (IsPlain L.listed (nodes_by L.nodes) given) }
     ensures within { IsWithinReads (R.remaining reader.old) (R.remaining reader.new) }
 {
-    play_scenario::<L, R, W>(alloc, reader, writer)
+    play_scenario::<L, H, R, W>(host, alloc, reader, writer)
 }

@@ -6,7 +6,7 @@ use sim_scenario::{Protocols, ScenarioText};
 use std::alloc::Global;
 
 /// The longest text of a scenario (bytes).
-const MAX_TEXT: usize = 65_536;
+pub const MAX_TEXT: usize = 65_536;
 
 /// A scenario that was read, or why there is none.
 #[derive(Drop)]

@@ -11,7 +11,8 @@ pub enum Status {
     BadScenario,
     /// What was asked for can't be done.
     BadRequest,
-    /// The reader failed, or still gave bytes after 2^40 reads. All whole lines that were read were answered.
+    /// The reader failed, or still gave bytes after 2^40 reads. All whole lines that were read were
+    /// answered.
     ReaderFailed,
     /// The writer failed, and nothing more was written.
     WriterFailed,
@@ -20,7 +21,8 @@ pub enum Status {
 }
 
 impl Status {
-    /// The number with which the program ends, 0 to 4. A reader's and a writer's failure have the same.
+    /// The number with which the program ends, 0 to 4. A reader's and a writer's failure have the
+    /// same.
     pub fn number(self) -> u8
         ensures { result ≡ status_number self }
     {

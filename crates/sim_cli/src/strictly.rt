@@ -7,7 +7,8 @@ ghost use Rattle.sim_script.specs.Script.{script_line};
 ghost use Rattle.sim_cli.specs.Turns.{course_of};
 ghost use Rattle.sim_cli.specs.Play.{Ended, IsWithinReads};
 ghost use Rattle.sim_cli.specs.Subjects.{nodes_by};
-ghost use Rattle.sim_cli.specs.Strict.{AnswersStrictly, Halts, PlayedStrictly, PlaysScriptStrictly, StrictlyEnds};
+ghost use Rattle.sim_cli.specs.Strict.{AnswersStrictly, Halts, PlayedStrictly, PlaysScriptStrictly};
+ghost use Rattle.sim_cli.specs.Strict.{StrictlyEnds};
 
 use crate::answering::{finish, flush_before_read, turn_of};
 use crate::fault::{LineFault, ScriptFault, fault_of_turn, tell_fault, tells_want};
@@ -120,8 +121,8 @@ fn end_at<W: Write>(
 }
 
 /// Answers the lines of a script by turns of the book, as `answer_lines` does, up to the first line
-/// that is at fault. The error is that line; its answer is the last that was written. Where a command
-/// wants memory its answer is not written, and the play ends with `MemoryWanted`.
+/// that is at fault. The error is that line; its answer is the last that was written. Where a
+/// command wants memory its answer is not written, and the play ends with `MemoryWanted`.
 pub fn answer_lines_strictly<N: Node, R: Read, W: Write>(
     alloc: Global,
     book: &mut Book<N>,
@@ -209,10 +210,10 @@ impl<'a, H: Eprint> Task for PlayingStrictly<'a, H> {
     }
 }
 
-/// Plays what the reader gives, a scenario and a script, as `play` does, up to the first line of the
-/// script that is at fault: one that is no command, or whose command is refused or not taken. Such a
-/// line is told on standard error, its answer is the last that is written, and the play ends with
-/// `BadRequest`.
+/// Plays what the reader gives, a scenario and a script, as `play` does, up to the first line of
+/// the script that is at fault: one that is no command, or whose command is refused or not taken.
+/// Such a line is told on standard error, its answer is the last that is written, and the play ends
+/// with `BadRequest`.
 pub fn play_strictly<L: Subjects, H: Eprint, R: Read, W: Write>(
     host: &H,
     alloc: Global,
@@ -226,7 +227,7 @@ pub fn play_strictly<L: Subjects, H: Eprint, R: Read, W: Write>(
     ensures within { IsWithinReads (R.remaining reader.old) (R.remaining reader.new) }
 {
     let mut ahead = Ahead::new();
-    match open::<L, R, W>(alloc, reader, &mut ahead, writer) {
+    match open::<L, H, R, W>(host, alloc, reader, &mut ahead, writer) {
         Ok(opened) => {
             let task = PlayingStrictly { alloc, host };
             L::carry_out(opened.protocol, &task, &opened, reader, &mut ahead, writer)

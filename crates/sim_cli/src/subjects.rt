@@ -1,6 +1,7 @@
 //! The protocols of a program, and the one place where a protocol becomes a type of nodes.
 ghost use Rattle.std.specs.Prelude.{◌≡◌, ◌≤◌, ◌<◌, ℕ, List, [], ◌∷◌, length, map, vec_len};
-ghost use Rattle.std.specs.Prelude.{IfOk, string_bytes};
+ghost use Rattle.std.specs.Prelude.{IfOk, slice_get, string_bytes};
+ghost use Rattle.std.specs.Option.{option_copied, option_map};
 ghost use Rattle.sim_world.specs.World.{Scenario as ScenarioValue};
 ghost use Rattle.sim_world.specs.Events.{Rules, rules};
 ghost use Rattle.sim_scenario.specs.Scenario.{Protocol};
@@ -85,6 +86,10 @@ pub trait Subjects: Protocols {
     /// The nodes of the protocol at a place, in a scenario.
     ghost nodes: { ℕ → ScenarioValue → Nodes };
 
+    /// The name of the protocol at a place, or none past the end of the list.
+    fn protocol_name(place: usize) -> Option<&'static str>
+        ensures { option_copied result ≡ option_map (λ p. p.name) (slice_get Self.listed place) };
+
     /// The names of the probes of the protocol at a place, in the order of their numbers.
     fn probe_names(alloc: Global, place: usize) -> Result<Vec<String>, AllocError>
         requires { place < length Self.listed }
@@ -168,6 +173,10 @@ fn owned(alloc: Global, texts: &[&str]) -> Result<Vec<String>, AllocError>
 impl<S: Subject> Subjects for Only<S> {
     ghost nodes = { λ place. nodes_with S.Node.laws S.Node.PROBES S.probes };
 
+    fn protocol_name(place: usize) -> Option<&'static str> {
+        if place == 0 { Some(S::name()) } else { None }
+    }
+
     fn probe_names(alloc: Global, _place: usize) -> Result<Vec<String>, AllocError> {
         owned(alloc, S::probe_names())
     }
@@ -186,6 +195,14 @@ impl<S: Subject> Subjects for Only<S> {
 
 impl<S: Subject, L: Subjects> Subjects for With<S, L> {
     ghost nodes = { first_or (nodes_with S.Node.laws S.Node.PROBES S.probes) L.nodes };
+
+    fn protocol_name(place: usize) -> Option<&'static str> {
+        if place == 0 {
+            Some(S::name())
+        } else {
+            L::protocol_name(place - 1)
+        }
+    }
 
     fn probe_names(alloc: Global, place: usize) -> Result<Vec<String>, AllocError> {
         if place == 0 {

@@ -165,7 +165,8 @@ impl<'a> Task for RunWriting<'a> {
 /// Writes `bad range` with status 2 if the spacing of faults is not 2 to 65,536 or there are more
 /// than 65,534 events with the quiet end, and `no input` with status 2 if the run has none. Takes
 /// at most 255 subjects.
-pub fn write_run<L: Subjects, R: Read, W: Write>(
+pub fn write_run<L: Subjects, H: Eprint, R: Read, W: Write>(
+    host: &H,
     alloc: Global,
     run: SeedRun,
     reader: &mut R,
@@ -177,7 +178,7 @@ pub fn write_run<L: Subjects, R: Read, W: Write>(
         (Written (seed_run_right run) L.listed (nodes_by L.nodes) given result) }
 {
     let mut ahead = Ahead::new();
-    match open::<L, R, W>(alloc, reader, &mut ahead, writer) {
+    match open::<L, H, R, W>(host, alloc, reader, &mut ahead, writer) {
         Ok(opened) => {
             let text = opened.text.as_slice();
             let task = RunWriting { alloc, text, run };

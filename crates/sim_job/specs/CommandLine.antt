@@ -1,8 +1,10 @@
 -- The command line of the program, as clap reads it, and the request that the matches make.
-use Rattle.std.specs.Prelude.{◌≡◌, ◌≢◌, ◌⊎◌, ◌<◌, ◌≤◌, ◌^◌, ℕ, Bool, true, false, codes, List, [], ◌∷◌, Option, None, Some, option_map, ⊤}
+use Rattle.std.specs.Prelude.{◌≡◌, ◌≢◌, ◌⊎◌, ◌<◌, ◌≤◌, ◌^◌, ℕ, Bool, true, false, codes, List, []}
+use Rattle.std.specs.Prelude.{◌∷◌, Option, None, Some, option_map, ⊤}
 use Rattle.std.specs.Borrow.{Bor}
 use Rattle.std.specs.Str.Parse.{IsNumeral, digits_value, without_leading_plus}
-use Rattle.clap.specs.Words.{App, Row, Rule, Shape, Text, IsAmong, Kinds, fault_of, first_of, new_rule, one_of, rule_of, shape_of, subcommand_of}
+use Rattle.clap.specs.Words.{App, Row, Rule, Shape, Text, IsAmong, Kinds, fault_of, first_of}
+use Rattle.clap.specs.Words.{new_rule, one_of, rule_of, shape_of, subcommand_of}
 use Rattle.clap.specs.Simple.{new_shape}
 use Rattle.clap.specs.declared.builder.arg.Arg.{Arg}
 use Rattle.clap.specs.declared.builder.command.Command.{Command}
@@ -98,24 +100,32 @@ play = command (codes "play") (strict ∷ input ∷ [])
 
 abbrev pub search : Shape
 search = command (codes "search")
-    (workers ∷ progress ∷ strict ∷ number (codes "lo") ∷ number (codes "hi") ∷ word (codes "cond") ∷ input ∷ [])
+    (workers ∷ progress ∷ strict ∷ number (codes "lo") ∷ number (codes "hi") ∷ word (codes "cond")
+    ∷ input ∷ [])
 
 abbrev pub sweep : Shape
 sweep = command (codes "sweep")
     (workers ∷ progress ∷ with_script ∷ strict ∷ faults ∷ quiet ∷ at_end ∷ json
-    ∷ number (codes "first") ∷ number (codes "count") ∷ number (codes "events") ∷ word (codes "cond") ∷ input ∷ [])
+    ∷ number (codes "first") ∷ number (codes "count") ∷ number (codes "events")
+    ∷ word (codes "cond") ∷ input ∷ [])
 
 abbrev pub script : Shape
-script = command (codes "script") (faults ∷ quiet ∷ number (codes "seed") ∷ number (codes "events") ∷ input ∷ [])
+script =
+    command (codes "script") (faults ∷ quiet ∷ number (codes "seed") ∷ number (codes "events")
+    ∷ input ∷ [])
 
 abbrev pub shrink : Shape
 shrink = command (codes "shrink") (progress ∷ word (codes "cond") ∷ input ∷ [])
 
 abbrev pub log : Shape
-log = command (codes "log") (optional_number (codes "from") ∷ optional_number (codes "to") ∷ json ∷ input ∷ [])
+log =
+    command (codes "log") (optional_number (codes "from") ∷ optional_number (codes "to") ∷ json
+    ∷ input ∷ [])
 
 abbrev pub page : Shape
-page = command (codes "page") (optional_word (codes "title") ∷ optional_word (codes "watch") ∷ input ∷ [])
+page =
+    command (codes "page") (optional_word (codes "title") ∷ optional_word (codes "watch") ∷ input
+    ∷ [])
 
 -- the program without its subcommands
 abbrev pub bare : App
@@ -150,9 +160,12 @@ pub record IsCommand (shape : Shape) (made : Command) : Type 0 where
 
 -- ---- the job
 
--- a value is there, and is read as the number: decimal digits, a plus sign before them or none, below 2^64
+-- a value is there, and is read as the number: decimal digits, a plus sign before them or none,
+-- below 2^64
 abbrev pub IsRead : Text → ℕ → Type 0
-IsRead text n = (IsNumeral 10 (without_leading_plus text) × (digits_value 10 (without_leading_plus text) < 2 ^ 64))
+IsRead text n =
+    (IsNumeral 10 (without_leading_plus text) × (digits_value 10 (without_leading_plus text)
+    < 2 ^ 64))
     × (n ≡ digits_value 10 (without_leading_plus text))
 
 abbrev pub HasNumber : Text → List Row → ℕ → Type 0
@@ -192,10 +205,14 @@ pub record HasFaultPlan (rows : List Row) (plan : FaultPlan) : Type 0 where
 abbrev pub Asks : Text → List Row → Job → Type 0
 Asks name rows (job.Play strict) = (name ≡ codes "play") × HasFlag (codes "strict") rows strict
 Asks name rows (job.Search team strict lo hi cond) = (name ≡ codes "search") × HasTeam rows team
-    × HasFlag (codes "strict") rows strict × HasNumber (codes "lo") rows lo × HasNumber (codes "hi") rows hi × HasWord (codes "cond") rows cond.now
-Asks name rows (job.Sweep team plan at_end script strict json first count events cond) = (name ≡ codes "sweep") × HasTeam rows team
-    × HasFaultPlan rows plan × HasFlag (codes "at-end") rows at_end × HasFlag (codes "script") rows script
-    × HasFlag (codes "strict") rows strict × HasFlag (codes "json") rows json × HasNumber (codes "first") rows first × HasNumber (codes "count") rows count
+    × HasFlag (codes "strict") rows strict × HasNumber (codes "lo") rows lo
+    × HasNumber (codes "hi") rows hi × HasWord (codes "cond") rows cond.now
+Asks name rows (job.Sweep team plan at_end script strict json first count events cond) =
+    (name ≡ codes "sweep") × HasTeam rows team
+    × HasFaultPlan rows plan × HasFlag (codes "at-end") rows at_end
+    × HasFlag (codes "script") rows script
+    × HasFlag (codes "strict") rows strict × HasFlag (codes "json") rows json
+    × HasNumber (codes "first") rows first × HasNumber (codes "count") rows count
     × HasNumber (codes "events") rows events × HasWord (codes "cond") rows cond.now
 Asks name rows (job.Script plan seed events) = (name ≡ codes "script") × HasFaultPlan rows plan
     × HasNumber (codes "seed") rows seed × HasNumber (codes "events") rows events
@@ -203,7 +220,8 @@ Asks name rows (job.Shrink progress cond) = (name ≡ codes "shrink")
     × HasFlag (codes "progress") rows progress × HasWord (codes "cond") rows cond.now
 Asks name rows (job.Log from to json) = (name ≡ codes "log") × HasOption (codes "from") rows from
     × HasOption (codes "to") rows to × HasFlag (codes "json") rows json
-Asks name rows (job.Page title watch) = (name ≡ codes "page") × HasOptionalWord (codes "title") rows title
+Asks name rows (job.Page title watch) =
+    (name ≡ codes "page") × HasOptionalWord (codes "title") rows title
     × HasOptionalWord (codes "watch") rows watch
 
 -- the job's workers, if it has any, are 1 to 16
@@ -234,9 +252,11 @@ AsksText kinds = IsAmong kind.DisplayHelp kinds ⊎ IsAmong kind.DisplayVersion 
 
 -- clap finds a mistake
 abbrev pub HasMistake : Kinds → Type 0
-HasMistake kinds = (k : ErrorKind) × IsAmong k kinds × (k ≢ kind.DisplayHelp) × (k ≢ kind.DisplayVersion)
+HasMistake kinds =
+    (k : ErrorKind) × IsAmong k kinds × (k ≢ kind.DisplayHelp) × (k ≢ kind.DisplayVersion)
 
--- Help is told where it is asked for, and usage where clap finds a mistake, or finds none and a value is missing.
+-- Help is told where it is asked for, and usage where clap finds a mistake, or finds none and a
+-- value is missing.
 abbrev pub IsFault : List Text → LineError → Type 0
 IsFault words (line_fault.Help text) = AsksText (fault_of program words)
 IsFault words (line_fault.Usage text) = HasMistake (fault_of program words)

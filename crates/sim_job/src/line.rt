@@ -1,7 +1,9 @@
 //! The request that the words of a command line make.
-ghost use Rattle.std.specs.Prelude.{◌≡◌, ◌≢◌, ◌⊎◌, ℕ, codes, map, IfOk, MatchOption, MatchResult, Option, Some, option_map};
+ghost use Rattle.std.specs.Prelude.{◌≡◌, ◌≢◌, ◌⊎◌, ℕ, codes, map, IfOk, MatchOption, MatchResult};
+ghost use Rattle.std.specs.Prelude.{Option, Some, option_map};
 ghost use Rattle.clap.specs.Words.{first_of, found_of, kind_of, rows_of, subcommand_rows_of};
-ghost use Rattle.sim_job.specs.CommandLine.{Asks, HasFewWorkers, HasFlag, HasNumber, HasOption, HasTeam, HasFaultPlan, HasWorkers};
+ghost use Rattle.sim_job.specs.CommandLine.{Asks, HasFewWorkers, HasFlag, HasNumber, HasOption};
+ghost use Rattle.sim_job.specs.CommandLine.{HasTeam, HasFaultPlan, HasWorkers};
 ghost use Rattle.sim_job.specs.CommandLine.{IsFault, IsHelp, IsRequestOf, IsUsage};
 
 use crate::definition::program;
@@ -24,7 +26,8 @@ pub enum LineError {
 impl LineError {
     ghost use Rattle.sim_job.specs.Status.{status_of};
 
-    /// The exit status of the program: 0 for help, 2 for a mistake, and 4 where there was not enough memory.
+    /// The exit status of the program: 0 for help, 2 for a mistake, and 4 where there was not
+    /// enough memory.
     pub fn status(&self) -> u8
         ensures { result ≡ status_of self.now }
     {
@@ -46,7 +49,8 @@ fn number_of(matches: &ArgMatches<'_>, id: &str) -> Option<u64>
 
 /// The number that an option has, or that it was not given; none where its value is no number.
 fn option_of(matches: &ArgMatches<'_>, id: &str) -> Option<Option<u64>>
-    ensures { MatchOption result ((n : Option ℕ) → ¬ HasOption id.now (rows_of (found_of matches.now)) n)
+    ensures { MatchOption result ((n : Option ℕ) → ¬ HasOption id.now
+        (rows_of (found_of matches.now)) n)
         (HasOption id.now (rows_of (found_of matches.now))) }
 {
     matches.try_get_one::<u64>(id).ok()
@@ -92,7 +96,8 @@ fn team_of(matches: &ArgMatches<'_>) -> Option<Team>
 
 /// The faults that are asked for, or none where a value is missing.
 fn fault_plan_of(matches: &ArgMatches<'_>) -> Option<FaultPlan>
-    ensures { MatchOption result ((plan : FaultPlan) → ¬ HasFaultPlan (rows_of (found_of matches.now)) plan)
+    ensures { MatchOption result ((plan : FaultPlan) → ¬ HasFaultPlan
+        (rows_of (found_of matches.now)) plan)
         (HasFaultPlan (rows_of (found_of matches.now))) }
 {
     Some(FaultPlan {
@@ -112,7 +117,8 @@ fn play_of<'a>(matches: &ArgMatches<'a>) -> Job<'a>
 
 /// The search that is asked for, or none where a value is missing.
 fn search_of<'a>(matches: &ArgMatches<'a>) -> Option<Job<'a>>
-    ensures { MatchOption result ((asked : Job) → ¬ Asks (codes "search") (rows_of (found_of matches.now)) asked)
+    ensures { MatchOption result ((asked : Job) → ¬ Asks (codes "search")
+        (rows_of (found_of matches.now)) asked)
         (Asks (codes "search") (rows_of (found_of matches.now))) }
 {
     Some(Job::Search {
@@ -126,7 +132,8 @@ fn search_of<'a>(matches: &ArgMatches<'a>) -> Option<Job<'a>>
 
 /// The sweep that is asked for, or none where a value is missing.
 fn sweep_of<'a>(matches: &ArgMatches<'a>) -> Option<Job<'a>>
-    ensures { MatchOption result ((asked : Job) → ¬ Asks (codes "sweep") (rows_of (found_of matches.now)) asked)
+    ensures { MatchOption result ((asked : Job) → ¬ Asks (codes "sweep")
+        (rows_of (found_of matches.now)) asked)
         (Asks (codes "sweep") (rows_of (found_of matches.now))) }
 {
     Some(Job::Sweep {
@@ -145,7 +152,8 @@ fn sweep_of<'a>(matches: &ArgMatches<'a>) -> Option<Job<'a>>
 
 /// The script that is asked for, or none where a value is missing.
 fn script_of<'a>(matches: &ArgMatches<'a>) -> Option<Job<'a>>
-    ensures { MatchOption result ((asked : Job) → ¬ Asks (codes "script") (rows_of (found_of matches.now)) asked)
+    ensures { MatchOption result ((asked : Job) → ¬ Asks (codes "script")
+        (rows_of (found_of matches.now)) asked)
         (Asks (codes "script") (rows_of (found_of matches.now))) }
 {
     Some(Job::Script {
@@ -157,7 +165,8 @@ fn script_of<'a>(matches: &ArgMatches<'a>) -> Option<Job<'a>>
 
 /// The shrinking that is asked for, or none where a value is missing.
 fn shrink_of<'a>(matches: &ArgMatches<'a>) -> Option<Job<'a>>
-    ensures { MatchOption result ((asked : Job) → ¬ Asks (codes "shrink") (rows_of (found_of matches.now)) asked)
+    ensures { MatchOption result ((asked : Job) → ¬ Asks (codes "shrink")
+        (rows_of (found_of matches.now)) asked)
         (Asks (codes "shrink") (rows_of (found_of matches.now))) }
 {
     Some(Job::Shrink {
@@ -168,7 +177,8 @@ fn shrink_of<'a>(matches: &ArgMatches<'a>) -> Option<Job<'a>>
 
 /// The log that is asked for, or none where a value is missing.
 fn log_of<'a>(matches: &ArgMatches<'a>) -> Option<Job<'a>>
-    ensures { MatchOption result ((asked : Job) → ¬ Asks (codes "log") (rows_of (found_of matches.now)) asked)
+    ensures { MatchOption result ((asked : Job) → ¬ Asks (codes "log")
+        (rows_of (found_of matches.now)) asked)
         (Asks (codes "log") (rows_of (found_of matches.now))) }
 {
     Some(Job::Log {
@@ -190,7 +200,8 @@ fn page_of<'a>(matches: &ArgMatches<'a>) -> Job<'a>
 
 /// The job of a subcommand, or none where a value is missing.
 fn asked_by<'a>(name: &str, matches: &ArgMatches<'a>) -> Option<Job<'a>>
-    ensures { MatchOption result ((asked : Job) → ¬ Asks name.now (rows_of (found_of matches.now)) asked)
+    ensures { MatchOption result ((asked : Job) → ¬ Asks name.now (rows_of (found_of matches.now))
+        asked)
         (Asks name.now (rows_of (found_of matches.now))) }
 {
     match name {
@@ -208,8 +219,10 @@ fn asked_by<'a>(name: &str, matches: &ArgMatches<'a>) -> Option<Job<'a>>
 /// The request of the matches, or none where a value is missing.
 fn asked_in<'a>(matches: &ArgMatches<'a>) -> Option<Request<'a>>
     ensures { MatchOption result
-        ((name : _) (rows : _) (asked : Job) → subcommand_rows_of matches.now ≡ Some (name, rows) → ¬ Asks name rows asked)
-        (λ asked. (name : _) × (rows : _) × (subcommand_rows_of matches.now ≡ Some (name, rows)) × Asks name rows asked.job
+        ((name : _) (rows : _) (asked : Job) → subcommand_rows_of matches.now ≡ Some (name, rows)
+        → ¬ Asks name rows asked)
+        (λ asked. (name : _) × (rows : _) × (subcommand_rows_of matches.now ≡ Some (name, rows))
+        × Asks name rows asked.job
         × (option_map (λ s. s.now) asked.file ≡ first_of (codes "file") rows)) }
 {
     let (name, found) = matches.subcommand()?;
@@ -221,8 +234,10 @@ fn asked_in<'a>(matches: &ArgMatches<'a>) -> Option<Request<'a>>
 
 /// What a fault of clap's is here.
 fn line_fault(alloc: Global, error: &Error) -> LineError
-    ensures help { IsHelp result → (kind_of error.now ≡ ErrorKind.DisplayHelp) ⊎ (kind_of error.now ≡ ErrorKind.DisplayVersion) }
-    ensures usage { IsUsage result → (kind_of error.now ≢ ErrorKind.OutOfMemory) × (kind_of error.now ≢ ErrorKind.DisplayHelp)
+    ensures help { IsHelp result → (kind_of error.now ≡ ErrorKind.DisplayHelp)
+        ⊎ (kind_of error.now ≡ ErrorKind.DisplayVersion) }
+    ensures usage { IsUsage result → (kind_of error.now ≢ ErrorKind.OutOfMemory)
+        × (kind_of error.now ≢ ErrorKind.DisplayHelp)
         × (kind_of error.now ≢ ErrorKind.DisplayVersion) }
 {
     if error.kind() == ErrorKind::OutOfMemory {
@@ -252,7 +267,8 @@ fn missing_value(alloc: Global) -> LineError
 
 /// The request that the words of a command line make, the first of which names the program.
 pub fn request<'a, S: AsStr>(alloc: Global, words: &'a [S]) -> Result<Request<'a>, LineError>
-    ensures answer { MatchResult result (IsRequestOf (map S.text words.entry.now)) (IsFault (map S.text words.entry.now)) }
+    ensures answer { MatchResult result (IsRequestOf (map S.text words.entry.now))
+        (IsFault (map S.text words.entry.now)) }
     ensures workers { IfOk result (λ asked. HasFewWorkers asked.job) }
 {
     let Ok(command) = program(alloc) else {

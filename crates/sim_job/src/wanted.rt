@@ -69,7 +69,8 @@ pub enum Job<'a> {
         to: Option<u64>,
         json: bool,
     },
-    /// Writes the run that a script leaves as a page, with a title and a condition if they are given.
+    /// Writes the run that a script leaves as a page, with a title and a condition if they are
+    /// given.
     Page {
         title: Option<&'a str>,
         watch: Option<&'a str>,

@@ -150,7 +150,7 @@ pub fn write_page<L: Subjects, H: Eprint, R: Read, W: Write>(
         (Written (page_right asked.entry) L.listed (nodes_by L.nodes) given result) }
 {
     let mut ahead = Ahead::new();
-    match open::<L, R, W>(alloc, reader, &mut ahead, writer) {
+    match open::<L, H, R, W>(host, alloc, reader, &mut ahead, writer) {
         Ok(opened) => {
             let text = opened.text.as_slice();
             let task = Paging {

@@ -11,7 +11,8 @@ use Rattle.sim_perform.specs.declared.answer.Answer.{Answer}
 use Rattle.sim_perform.specs.declared.answer.Form.{Form}
 use Rattle.sim_perform.specs.declared.answer.Form.TheVariants.{Words, Json}
 use Rattle.sim_perform.specs.declared.answer.Swept.{Swept}
-use Rattle.sim_perform.specs.declared.answer.Answer.TheVariants.{Place, Seed, Nowhere, BadRange, BadCondition, BadScript}
+use Rattle.sim_perform.specs.declared.answer.Answer.TheVariants.{Place, Seed, Nowhere, BadRange}
+use Rattle.sim_perform.specs.declared.answer.Answer.TheVariants.{BadCondition, BadScript}
 
 abbrev pub answer_words : Answer → List ℕ
 answer_words (Place p) = codes "first " ++ decimal p

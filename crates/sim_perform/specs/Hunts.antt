@@ -1,5 +1,6 @@
 -- What a search and a sweep find, by the definitions of a first failing place and of their faults.
-use Rattle.std.specs.Prelude.{◌≡◌, ℕ, zero, suc, ◌≤◌, ◌==◌, ◌&&◌, Bool, not, is_none, List, [], ◌∷◌, length, Option, None, Some, Result, Ok, Err, ⊤, if◌then◌else◌}
+use Rattle.std.specs.Prelude.{◌≡◌, ℕ, zero, suc, ◌≤◌, ◌==◌, ◌&&◌, Bool, not, is_none, List, [], ◌∷◌}
+use Rattle.std.specs.Prelude.{length, Option, None, Some, Result, Ok, Err, ⊤, if◌then◌else◌}
 use Rattle.std.specs.Str.Lines.{lines}
 use Rattle.sim_world.specs.declared.Event.{Event}
 use Rattle.sim_node.specs.Node.{NodeLaws}

@@ -1,5 +1,6 @@
 -- What a job writes, and the status with which it ends.
-use Rattle.std.specs.Prelude.{◌≡◌, ℕ, Bool, true, false, List, [], ◌++◌, Option, Result, Ok, Err, ◌⊎◌}
+use Rattle.std.specs.Prelude.{◌≡◌, ℕ, Bool, true, false, List, [], ◌++◌, Option, Result, Ok, Err}
+use Rattle.std.specs.Prelude.{◌⊎◌}
 use Rattle.std.specs.Borrow.{Bor}
 use Rattle.std.specs.Io.KnownBytes.{Appends}
 use Rattle.sim_lines.specs.Cut.{head_of}
@@ -9,7 +10,9 @@ use Rattle.sim_script.specs.Script.{Text}
 use Rattle.sim_job.specs.declared.wanted.Job.{Job}
 use Rattle.sim_job.specs.declared.wanted.Job.TheVariants as jobs
 use Rattle.sim_cli.specs.declared.status.Status.{Status}
-use Rattle.sim_cli.specs.declared.status.Status.TheVariants.{Well, BadScenario, BadRequest, ReaderFailed, WriterFailed, MemoryWanted}
+use Rattle.sim_cli.specs.declared.status.Status.TheVariants.{Well, BadScenario, BadRequest}
+use Rattle.sim_cli.specs.declared.status.Status.TheVariants.{ReaderFailed, WriterFailed}
+use Rattle.sim_cli.specs.declared.status.Status.TheVariants.{MemoryWanted}
 use Rattle.sim_cli.specs.Lines.{fault_line}
 use Rattle.sim_cli.specs.Play.{Nodes, Played, names_of, read_scenario}
 use Rattle.sim_cli.specs.Strict.{PlayedStrictly}
@@ -66,7 +69,8 @@ EndsBy o ReaderFailed written = written ≡ []
 EndsBy o WriterFailed written = (more : Text) × (o.line ≡ written ++ more)
 EndsBy o MemoryWanted written = written ≡ []
 
--- a line was written and its status given, or the writer failed and has a part from the line's front
+-- a line was written and its status given, or the writer failed and has a part from the line's
+-- front
 abbrev pub WritesOutcome : Option Text → Option Text → Outcome → Status → Type 0
 WritesOutcome held holds o ended =
     ((ended ≡ o.status) × Appends held holds o.line)
@@ -75,7 +79,8 @@ WritesOutcome held holds o ended =
 -- the line of an answer was written with its status, or memory was wanted and nothing was written
 abbrev pub WritesAnswer : Option Text → Option Text → Form → Answer → Status → Type 0
 WritesAnswer held holds form a ended =
-    WritesOutcome held holds (answered form a) ended ⊎ ((ended ≡ MemoryWanted) × Appends held holds [])
+    WritesOutcome held holds (answered form a) ended ⊎ ((ended ≡ MemoryWanted)
+    × Appends held holds [])
 
 -- A scenario names one of these protocols, and stands for the nodes of a run.
 module _ (protocols : List Protocol) (nodes_of : ScenarioText → Nodes) where

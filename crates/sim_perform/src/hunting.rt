@@ -126,7 +126,8 @@ where
     N::Msg: Send + Sync,
     N::Undo: Send + Sync,
     requires { IsTeam quest.now.hunt.now.team.workers }
-    ensures { IfOk result (λ a. a ≡ sweep_answer (rules N.laws N.PROBES quest.now.opened.now.scenario)
+    ensures { IfOk result (λ a. a ≡ sweep_answer (rules N.laws N.PROBES
+        quest.now.opened.now.scenario)
         quest.now.cond first count events) }
 {
     let scenario = &quest.opened.scenario;

@@ -179,7 +179,7 @@ fn hunt_scenario<L: Searchable, H: Threads + Wait + Sync + Clock + Eprint, R: Re
         (Hunted L.listed (nodes_by L.nodes) form hunt.now.area hunt.now.cond.now given result) }
 {
     let mut ahead = Ahead::new();
-    let opened = match open::<L, R, W>(alloc, reader, &mut ahead, writer) {
+    let opened = match open::<L, H, R, W>(rt, alloc, reader, &mut ahead, writer) {
         Ok(opened) => opened,
         Err(status) => return status,
     };
@@ -248,7 +248,7 @@ pub fn perform<L: Searchable, H: Threads + Wait + Sync + Clock + Eprint, R: Read
             if strict {
                 play_strictly::<L, H, R, W>(rt, alloc, reader, writer)
             } else {
-                play::<L, R, W>(alloc, reader, writer)
+                play::<L, H, R, W>(rt, alloc, reader, writer)
             }
         }
         Job::Search {
@@ -301,7 +301,7 @@ pub fn perform<L: Searchable, H: Threads + Wait + Sync + Clock + Eprint, R: Read
                 faults: plan.faults,
                 quiet: plan.quiet,
             };
-            write_run::<L, R, W>(alloc, run, reader, writer)
+            write_run::<L, H, R, W>(rt, alloc, run, reader, writer)
         }
         Job::Shrink { progress, cond } => {
             write_shrunk::<L, H, R, W>(rt, alloc, Shrink { cond, progress }, reader, writer)

@@ -9,7 +9,8 @@ use Rattle.sim_plan.specs.Owing.{healings}
 
 abbrev pub yet_planned : Forecast → List Event
 yet_planned f =
-    planned_from (word_at 10 f.rng.key f.rng.stream) f.servers f.hosts f.spacing f.quiet f.rng.word_pos f.left (healings f.owed)
+    planned_from (word_at 10 f.rng.key f.rng.stream) f.servers f.hosts f.spacing f.quiet
+    f.rng.word_pos f.left (healings f.owed)
 
 -- its numbers are within the limits, and the generator does not come to its end
 pub record IsForecast (f : Forecast) : Type 0 where

@@ -15,11 +15,13 @@ module _ {State Msg : Type 0} (r : Rules State Msg) where
   happening w (e ∷ es) = elim (next r w e) [ None ↦ happening w es | Some v ↦ e ∷ happening v es ]
 
 -- The run of a scenario: of the given events and then of the planned ones, those that can happen.
-abbrev pub planned_run : {State Msg : Type 0} → NodeLaws State Msg → ℕ → Scenario → List Event → Plan → List Event
+abbrev pub planned_run : {State Msg : Type 0} → NodeLaws State Msg → ℕ → Scenario → List Event
+    → Plan → List Event
 planned_run node probes s given plan =
     happening (rules node probes s) (start (rules node probes s)) (given ++ planned s plan)
 
--- A plan with the events given before it is within the limits: a spacing, if it has one, of 2 to 65,536, and room for two healings.
+-- A plan with the events given before it is within the limits: a spacing, if it has one, of 2 to
+-- 65,536, and room for two healings.
 pub record IsPlan (given : ℕ) (plan : Plan) : Type 0 where
   pub spacing : ForSome plan.spacing (λ f. (2 ≤ f) × (f ≤ 65536))
   pub events : given + plan.events + plan.quiet ≤ 65534

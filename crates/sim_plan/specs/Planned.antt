@@ -1,5 +1,7 @@
 -- The planned events of a numbered run: steps, and at random places faults and what heals them.
-use Rattle.std.specs.Prelude.{◌≡◌, ℕ, zero, suc, ◌+◌, ◌-◌, ◌/◌, ◌%◌, ◌==◌, Bool, ◌&&◌, ◌||◌, Option, None, Some, List, [], ◌∷◌, ◌++◌, length, map, replicate, if◌then◌else◌}
+use Rattle.std.specs.Prelude.{◌≡◌, ℕ, zero, suc, ◌+◌, ◌-◌, ◌/◌, ◌%◌, ◌==◌, Bool, ◌&&◌, ◌||◌, Option}
+use Rattle.std.specs.Prelude.{None, Some, List, [], ◌∷◌, ◌++◌, length, map, replicate}
+use Rattle.std.specs.Prelude.{if◌then◌else◌}
 use Rattle.sim_streams.specs.Word.{word}
 use Rattle.sim_world.specs.declared.Event.{Event}
 use Rattle.sim_world.specs.declared.Event.TheVariants as event
@@ -20,7 +22,8 @@ heals v owed = (length owed == 2) || ((v % 2 == 1) && (length owed == 1))
 abbrev pub healing : ℕ → List Fault → Event × List Fault
 healing k [] = (event.Step, [])
 healing k (f ∷ []) = (event.Fault f, [])
-healing k (f ∷ g ∷ more) = if k % 2 == 0 then (event.Fault f, g ∷ more) else (event.Fault g, f ∷ more)
+healing k (f ∷ g ∷ more) =
+    if k % 2 == 0 then (event.Fault f, g ∷ more) else (event.Fault g, f ∷ more)
 
 -- the fault of a kind, and what heals it, if it is a wound
 abbrev pub fault_of_kind : ℕ → ℕ → ℕ → ℕ → Fault × List Fault
@@ -31,7 +34,8 @@ fault_of_kind kind server a b =
     else if kind == 4 then (fault.CutOneway a b, fault.RepairOneway a b ∷ [])
     else (fault.Bounce server, [])
 
--- The least digit of a number, by 6, says the kind; the rest says the server, and the two hosts, which differ.
+-- The least digit of a number, by 6, says the kind; the rest says the server, and the two hosts,
+-- which differ.
 abbrev pub new_fault : ℕ → ℕ → ℕ → Fault × List Fault
 new_fault servers hosts u =
     let x = u / 6 in
@@ -42,9 +46,13 @@ new_fault servers hosts u =
 abbrev pub struck : ℕ → ℕ → ℕ → List Fault → Event × List Fault
 struck servers hosts v owed =
     if heals v owed then healing (v / 2) owed
-    else (event.Fault (new_fault servers hosts (v / 2)).0, owed ++ (new_fault servers hosts (v / 2)).1)
+    else (
+      event.Fault (new_fault servers hosts (v / 2)).0,
+      owed ++ (new_fault servers hosts (v / 2)).1,
+    )
 
--- What a word plans: a step, but for each word that the spacing divides. Without a spacing each plans a step.
+-- What a word plans: a step, but for each word that the spacing divides. Without a spacing each
+-- plans a step.
 abbrev pub planned_by : ℕ → ℕ → Option ℕ → ℕ → List Fault → Event × List Fault
 planned_by servers hosts None w owed = (event.Step, owed)
 planned_by servers hosts (Some spacing) w owed =
@@ -63,8 +71,8 @@ module _ (words : ℕ → ℕ) (servers hosts : ℕ) (spacing : Option ℕ) (qui
       (planned_by servers hosts spacing (words place) owed).0
       ∷ planned_from (place + 1) n (planned_by servers hosts spacing (words place) owed).1
 
--- The planned events: by the seed, the numbers of servers and hosts, the spacing if there is one, the number of events and the
--- quiet end alone.
+-- The planned events: by the seed, the numbers of servers and hosts, the spacing if there is one,
+-- the number of events and the quiet end alone.
 unfoldable pub planned_events : List ℕ → ℕ → ℕ → Plan → List Event
 planned_events seed servers hosts plan =
     planned_from (word seed planning) servers hosts plan.spacing plan.quiet 0 plan.events []
@@ -73,9 +81,11 @@ planned_events seed servers hosts plan =
 abbrev pub planned : Scenario → Plan → List Event
 planned s plan = planned_events s.seed s.setup.servers s.setup.hosts plan
 
--- The law of planning: one seed, equally many servers and hosts, one spacing or none in both, and the same numbers of events and
--- quiet steps give the same events.
+-- The law of planning: one seed, equally many servers and hosts, one spacing or none in both, and
+-- the same numbers of events and quiet steps give the same events.
 abbrev pub PlansAlike : Scenario → Plan → Type 0
 PlansAlike s plan =
-    (t : Scenario) (other : Plan) → t.seed ≡ s.seed → t.setup.servers ≡ s.setup.servers → t.setup.hosts ≡ s.setup.hosts
-    → other.spacing ≡ plan.spacing → other.events ≡ plan.events → other.quiet ≡ plan.quiet → planned t other ≡ planned s plan
+    (t : Scenario) (other : Plan) → t.seed ≡ s.seed → t.setup.servers ≡ s.setup.servers
+    → t.setup.hosts ≡ s.setup.hosts
+    → other.spacing ≡ plan.spacing → other.events ≡ plan.events → other.quiet ≡ plan.quiet
+    → planned t other ≡ planned s plan

@@ -44,7 +44,8 @@ fn planned_by(servers: u32, hosts: u32, spacing: u32, word: u32, owed: Owed) -> 
     requires hosts { (2 ≤ hosts) × (hosts ≤ 32) }
     requires spacing { 1 ≤ spacing }
     ensures event { result.0 ≡ (planned_by servers hosts (Some spacing) word (healings owed)).0 }
-    ensures owed { healings result.1 ≡ (planned_by servers hosts (Some spacing) word (healings owed)).1 }
+    ensures owed { healings result.1 ≡ (planned_by servers hosts (Some spacing) word
+        (healings owed)).1 }
 {
     if word % spacing == 0 {
         struck(servers, hosts, word / spacing, owed)

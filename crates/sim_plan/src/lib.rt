@@ -4,7 +4,8 @@
 //! and how many quiet steps follow. A [`Planner`] gives the planned events of a scenario one by
 //! one: steps, and now and then a fault or the healing of an earlier one. At most two faults wait
 //! for their healing. [`run_of`] gives the run of a scenario as a list: the planned events that can
-//! happen. [`run_of_planner`] does it for any planner, such as one that gives the events of a slice.
+//! happen. [`run_of_planner`] does it for any planner, such as one that gives the events of a
+//! slice.
 //!
 //! The faults follow from the seed, the spacing and the numbers of servers and hosts alone. What
 //! the nodes do does not change which faults are planned.

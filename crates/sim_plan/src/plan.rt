@@ -12,8 +12,8 @@ pub const MAX_PLANNED: u64 = 65_534;
 /// How a run is planned.
 #[derive(Clone, Copy, Debug, PartialEq, Eq)]
 pub struct Plan {
-    /// One event in so many is a fault or a healing, on average: 2 to 65,536. With none, each planned
-    /// event is a step.
+    /// One event in so many is a fault or a healing, on average: 2 to 65,536. With none, each
+    /// planned event is a step.
     pub spacing: Option<u32>,
     /// How many events are planned before the quiet end.
     pub events: u32,

@@ -8,8 +8,8 @@ use sim_node::Node;
 use sim_world::{Event, Scenario, Undo, World};
 use std::alloc::Global;
 
-/// The run of a scenario: of the given events and then of the planned ones, those that can happen, one after the other. The seed
-/// is the scenario's. The only error is want of memory.
+/// The run of a scenario: of the given events and then of the planned ones, those that can happen,
+/// one after the other. The seed is the scenario's. The only error is want of memory.
 pub fn run_of<N: Node>(
     alloc: Global,
     scenario: &Scenario,
@@ -20,13 +20,15 @@ pub fn run_of<N: Node>(
 ) -> Result<Vec<Event>, NoMemory>
     requires seed { seed ≡ scenario.now.seed }
     requires plan { IsPlan (length given.now) plan }
-    ensures { IfOk result (λ run. run.items ≡ planned_run N.laws N.PROBES scenario.now given.now plan) }
+    ensures { IfOk result (λ run. run.items ≡ planned_run N.laws N.PROBES scenario.now given.now
+        plan) }
 {
     let planner = Planner::new(scenario, seed, given, plan);
     run_of_planner::<N>(alloc, scenario, planner, meter)
 }
 
-/// The run that the events of a planner make: those that can happen, one after the other. The only error is want of memory.
+/// The run that the events of a planner make: those that can happen, one after the other. The only
+/// error is want of memory.
 pub fn run_of_planner<N: Node>(
     alloc: Global,
     scenario: &Scenario,

@@ -1,7 +1,10 @@
 -- The faults that the reader answers, as the faults of the format.
 use Rattle.std.specs.Prelude.{◌≡◌, ◌≢◌, ℕ, List, codes, Result, Ok, Err, string_bytes}
 use Rattle.sim_scenario.specs.declared.fault.Key.{Key}
-use Rattle.sim_scenario.specs.declared.fault.Key.TheVariants.{Format, Seed, Protocol, Tick, LatencyMin, LatencyMax, Loss, Servers, Checkpoint, Window, Client, DiskLatency, Link}
+use Rattle.sim_scenario.specs.declared.fault.Key.TheVariants.{Format, Seed, Protocol, Tick}
+use Rattle.sim_scenario.specs.declared.fault.Key.TheVariants.{LatencyMin, LatencyMax, Loss, Servers}
+use Rattle.sim_scenario.specs.declared.fault.Key.TheVariants.{Checkpoint, Window, Client}
+use Rattle.sim_scenario.specs.declared.fault.Key.TheVariants.{DiskLatency, Link}
 use Rattle.sim_scenario.specs.declared.fault.ScenarioFault.{ScenarioFault}
 use Rattle.sim_scenario.specs.declared.fault.ScenarioFault.TheVariants as reader
 use Rattle.sim_scenario.specs.Scenario.{Fault, text_fault}
@@ -22,7 +25,8 @@ key_text Client = codes "client"
 key_text DiskLatency = codes "disk_latency"
 key_text Link = codes "link"
 
--- The number of a fault and the key that is written with it. Want of memory is no fault of the text, and has the number 0.
+-- The number of a fault and the key that is written with it. Want of memory is no fault of the
+-- text, and has the number 0.
 abbrev pub fault_of : ScenarioFault → Fault
 fault_of reader.TooLong = text_fault 1
 fault_of reader.NotToml = text_fault 2

@@ -11,4 +11,5 @@ module _ {S : Type 0} where
 
   -- the number of each name is its place
   abbrev pub IsNumbered : IndexMap (String Global) ℕ S → Type 0
-  IsNumbered hosts = map (λ e. (e.1, string_bytes e.0)) hosts.entries ≡ enumerate_from 0 (names_in hosts)
+  IsNumbered hosts =
+      map (λ e. (e.1, string_bytes e.0)) hosts.entries ≡ enumerate_from 0 (names_in hosts)

@@ -1,26 +1,31 @@
--- The text of a scenario: a TOML document with these keys and no others, and the faults of other texts in the order in which they are looked for.
-use Rattle.std.specs.Prelude.{ℕ, zero, suc, ◌+◌, ◌==◌, nat_lt, nat_le, Bool, true, false, ◌&&◌, ◌||◌, ℤ, pos, negsuc, codes, List, [], ◌∷◌, ◌++◌, length, map, take, replicate, Option, Some, None, is_some, Result, Ok, Err, if◌then◌else◌}
+-- The text of a scenario: a TOML document with these keys and no others, and the faults of other
+-- texts in the order in which they are looked for.
+use Rattle.std.specs.Prelude.{ℕ, zero, suc, ◌+◌, ◌==◌, nat_lt, nat_le, Bool, true, false, ◌&&◌}
+use Rattle.std.specs.Prelude.{◌||◌, ℤ, pos, negsuc, codes, List, [], ◌∷◌, ◌++◌, length, map, take}
+use Rattle.std.specs.Prelude.{replicate, Option, Some, None, is_some, Result, Ok, Err}
+use Rattle.std.specs.Prelude.{if◌then◌else◌}
 use Rattle.std.specs.Option.{unwrap_or, option_map, option_and_then}
 use Rattle.std.specs.Result.{result_ok}
 use Rattle.std.specs.Str.{bytes_eq}
 use Rattle.std.specs.List.{list_any, list_all, position}
 use Rattle.hex.specs.Hex.{decode_of, is_hex_digit}
-use Rattle.toml.specs.Data.{Data, Items, Members, string, integer, no_items, item, no_members, member, same_key, get_member, as_str, as_integer, as_array, as_table}
+use Rattle.toml.specs.Data.{Data, Items, Members, string, integer, no_items, item, no_members}
+use Rattle.toml.specs.Data.{member, same_key, get_member, as_str, as_integer, as_array, as_table}
 use Rattle.toml.specs.Parse.{parse_document}
 use Rattle.sim_links.specs.declared.Way.{Way}
 use Rattle.sim_links.specs.Ways.{Ways, all, with_way}
 
 -- what a scenario says
---     names            the hosts in the order of their numbers, the servers first
---     protocol         its place in the list of the protocols
---     seed             32 bytes
---     tick             how long a tick is (ms)
---     ways             the latencies (ms) and the loss (in a thousand) of each ordered pair of hosts
---     disk_latency     how long a sync takes (ms)
---     servers          how many there are
---     ops              each host's operations, of which a server has none
---     checkpoint       how many events lie between two checkpoints
---     window           how many events can be undone by their records
+-- names            the hosts in the order of their numbers, the servers first
+-- protocol         its place in the list of the protocols
+-- seed             32 bytes
+-- tick             how long a tick is (ms)
+-- ways             the latencies (ms) and the loss (in a thousand) of each ordered pair of hosts
+-- disk_latency     how long a sync takes (ms)
+-- servers          how many there are
+-- ops              each host's operations, of which a server has none
+-- checkpoint       how many events lie between two checkpoints
+-- window           how many events can be undone by their records
 pub record ScenarioText : Type 0 where
   pub names : List (List ℕ)
   pub protocol : ℕ
@@ -39,8 +44,8 @@ pub record Fault : Type 0 where
   pub key : List ℕ
 
 -- a protocol that a scenario may name
---     name              as it stands in the text
---     least_servers     how many servers it needs
+-- name              as it stands in the text
+-- least_servers     how many servers it needs
 pub record Protocol : Type 0 where
   pub name : List ℕ
   pub least_servers : ℕ
@@ -69,12 +74,15 @@ begins_with_letter [] = false
 begins_with_letter (c ∷ cs) = is_letter c
 
 abbrev pub is_name : List ℕ → Bool
-is_name name = (nat_le (length name) 16 && begins_with_letter name) && list_all (λ c. is_letter c || is_digit c) name
+is_name name =
+    (nat_le (length name) 16 && begins_with_letter name) && list_all
+    (λ c. is_letter c || is_digit c) name
 
 -- the keys, in the order in which their faults are looked for
 abbrev pub top_keys : List (List ℕ)
 top_keys =
-    codes "format" ∷ codes "seed" ∷ codes "protocol" ∷ codes "tick" ∷ codes "latency_min" ∷ codes "latency_max" ∷ codes "loss"
+    codes "format" ∷ codes "seed" ∷ codes "protocol" ∷ codes "tick" ∷ codes "latency_min"
+    ∷ codes "latency_max" ∷ codes "loss"
     ∷ codes "servers" ∷ codes "checkpoint" ∷ codes "window" ∷ codes "client" ∷ []
 
 -- a text of format 2 may have two more
@@ -82,7 +90,8 @@ abbrev pub format_2_keys : List (List ℕ)
 format_2_keys = codes "disk_latency" ∷ codes "link" ∷ []
 
 abbrev pub link_keys : List (List ℕ)
-link_keys = codes "source" ∷ codes "target" ∷ codes "latency_min" ∷ codes "latency_max" ∷ codes "loss" ∷ []
+link_keys =
+    codes "source" ∷ codes "target" ∷ codes "latency_min" ∷ codes "latency_max" ∷ codes "loss" ∷ []
 
 abbrev pub client_keys : List (List ℕ)
 client_keys = codes "name" ∷ codes "ops" ∷ []
@@ -93,7 +102,8 @@ is_known known key = list_any (same_key key) known
 -- A document has its keys in byte order, so the first that is not known is the least.
 abbrev pub unknown_key : List (List ℕ) → Members → Option (List ℕ)
 unknown_key known no_members = None
-unknown_key known (member key value rest) = if is_known known key then unknown_key known rest else Some key
+unknown_key known (member key value rest) =
+    if is_known known key then unknown_key known rest else Some key
 
 abbrev pub data_of : Items → List Data
 data_of no_items = []
@@ -143,9 +153,15 @@ abbrev pub is_empty : {A : Type 0} → List A → Bool
 is_empty [] = true
 is_empty (_ ∷ _) = false
 
-abbrev pub list_fault : {B : Type 0} → (List B → Option ℕ) → (Data → Option B) → Option Data → Option ℕ
+abbrev pub list_fault : {B : Type 0} → (List B → Option ℕ) → (Data → Option B) → Option Data
+    → Option ℕ
 list_fault own f None = Some missing
-list_fault own f (Some d) = elim (list_of f d) [ None ↦ Some wrong_type | Some xs ↦ if is_empty xs then Some out_of_range else own xs ]
+list_fault own f (Some d) =
+    elim (list_of f d) [
+      | None ↦ Some wrong_type
+      | Some xs ↦ if is_empty xs then Some out_of_range
+          else own xs
+    ]
 
 -- names: 10 where one is bad
 abbrev pub names_fault : List (List ℕ) → Option ℕ
@@ -164,13 +180,16 @@ clients_fault clients = first_some (map client_fault clients)
 
 -- What a document says, where a key may be missing or wrong.
 abbrev pub whole : List ℕ → Members → ℕ
-whole key doc = elim (option_and_then as_integer (get_member key doc)) [ None ↦ 0 | Some z ↦ elim z [ pos n ↦ n | negsuc n ↦ 0 ] ]
+whole key doc =
+    elim (option_and_then as_integer (get_member key doc))
+    [ None ↦ 0 | Some z ↦ elim z [ pos n ↦ n | negsuc n ↦ 0 ] ]
 
 abbrev pub text_at : List ℕ → Members → List ℕ
 text_at key doc = unwrap_or (option_and_then as_str (get_member key doc)) []
 
 abbrev pub server_names : Members → List (List ℕ)
-server_names doc = unwrap_or (option_and_then (list_of as_str) (get_member (codes "servers") doc)) []
+server_names doc =
+    unwrap_or (option_and_then (list_of as_str) (get_member (codes "servers") doc)) []
 
 abbrev pub clients : Members → List Members
 clients doc = unwrap_or (option_and_then (list_of as_table) (get_member (codes "client") doc)) []
@@ -184,7 +203,12 @@ protocol_of protocols doc = unwrap_or (place_named protocols (text_at (codes "pr
 
 -- the way that a table says: the latencies and the loss
 abbrev pub way_of : Members → Way
-way_of members = record { latency_min = whole (codes "latency_min") members; latency_max = whole (codes "latency_max") members; loss = whole (codes "loss") members }
+way_of members =
+    record {
+      latency_min = whole (codes "latency_min") members;
+      latency_max = whole (codes "latency_max") members;
+      loss = whole (codes "loss") members;
+    }
 
 -- a text of format 2, which may have links
 abbrev pub is_format_2 : Members → Bool
@@ -200,14 +224,20 @@ link_fault link = first_some
     ∷ string_fault (λ _. true) wrong_type (get_member (codes "source") link)
     ∷ string_fault (λ _. true) wrong_type (get_member (codes "target") link)
     ∷ whole_fault (is_within 0 60000) out_of_range (get_member (codes "latency_min") link)
-    ∷ whole_fault (is_within (whole (codes "latency_min") link) 60000) out_of_range (get_member (codes "latency_max") link)
+    ∷ whole_fault (is_within (whole (codes "latency_min") link) 60000) out_of_range
+    (get_member (codes "latency_max") link)
     ∷ whole_fault (is_within 0 1000) out_of_range (get_member (codes "loss") link)
     ∷ [])
 
 -- there may be no links at all
 abbrev pub links_fault : Option Data → Option ℕ
 links_fault None = None
-links_fault (Some d) = elim (list_of as_table d) [ None ↦ Some wrong_type | Some tables ↦ first_some (map link_fault tables) ]
+links_fault (Some d) =
+    elim (list_of as_table d) [
+      | None ↦ Some wrong_type
+      | Some tables ↦ first_some
+          (map link_fault tables)
+    ]
 
 -- a link by the names of its hosts, and how messages go from the source to the target
 pub record LinkText : Type 0 where
@@ -216,7 +246,12 @@ pub record LinkText : Type 0 where
   pub way : Way
 
 abbrev pub link_text : Members → LinkText
-link_text link = record { source = text_at (codes "source") link; target = text_at (codes "target") link; way = way_of link }
+link_text link =
+    record {
+      source = text_at (codes "source") link;
+      target = text_at (codes "target") link;
+      way = way_of link;
+    }
 
 abbrev pub link_tables : Members → List Members
 link_tables doc = unwrap_or (option_and_then (list_of as_table) (get_member (codes "link") doc)) []
@@ -234,11 +269,14 @@ pub record Link : Type 0 where
 abbrev pub between : Way → Option ℕ → Option ℕ → Option Link
 between way None target = None
 between way (Some a) None = None
-between way (Some a) (Some b) = if a == b then None else Some (record { source = a; target = b; way = way })
+between way (Some a) (Some b) =
+    if a == b then None else Some (record { source = a; target = b; way = way })
 
--- the link among hosts with these names, or none where its source or its target is no host, or both are one
+-- the link among hosts with these names, or none where its source or its target is no host, or both
+-- are one
 abbrev pub link_between : List (List ℕ) → LinkText → Option Link
-link_between names link = between link.way (position (same_key link.source) names) (position (same_key link.target) names)
+link_between names link =
+    between link.way (position (same_key link.source) names) (position (same_key link.target) names)
 
 abbrev pub links_between : List (List ℕ) → List LinkText → Option (List Link)
 links_between names links = all_some (link_between names) links
@@ -256,7 +294,8 @@ is_repeated [] = false
 is_repeated (link ∷ more) = list_any (is_same_pair link) more || is_repeated more
 
 abbrev pub pair_fault : List Link → Option Fault
-pair_fault links = if is_repeated links then Some (record { number = 14; key = codes "link" }) else None
+pair_fault links =
+    if is_repeated links then Some (record { number = 14; key = codes "link" }) else None
 
 -- the ways with those of some links in place of theirs
 abbrev pub with_links : List Link → Ways → Ways
@@ -266,7 +305,8 @@ with_links (link ∷ more) ways = with_links more (with_way link.source link.tar
 abbrev pub links_of : Members → Option (List Link)
 links_of doc = links_between (host_names doc) (links doc)
 
--- the way of each ordered pair of hosts: what its link says, and where it has none what the text says for all
+-- the way of each ordered pair of hosts: what its link says, and where it has none what the text
+-- says for all
 abbrev pub ways_of : Members → Ways
 ways_of doc = with_links (unwrap_or (links_of doc) []) (all (way_of doc))
 
@@ -282,11 +322,16 @@ at_key key doc fault = keyed key (fault (get_member key doc))
 -- the first name, in the order of the hosts, that an earlier host has: its place
 abbrev pub repeated_from : ℕ → List (List ℕ) → List (List ℕ) → Option ℕ
 repeated_from k earlier [] = None
-repeated_from k earlier (name ∷ names) = if list_any (same_key name) earlier then Some k else repeated_from (k + 1) (name ∷ earlier) names
+repeated_from k earlier (name ∷ names) =
+    if list_any (same_key name) earlier then Some k
+    else repeated_from (k + 1) (name ∷ earlier) names
 
 abbrev pub repeated_fault : Members → Option Fault
 repeated_fault doc =
-    option_map (λ k. record { number = 12; key = if nat_lt k (length (server_names doc)) then codes "servers" else codes "client" }) (repeated_from 0 [] (host_names doc))
+    option_map (λ k. record {
+      number = 12;
+      key = if nat_lt k (length (server_names doc)) then codes "servers" else codes "client";
+    }) (repeated_from 0 [] (host_names doc))
 
 abbrev pub first_32 : List ℕ → List ℕ
 first_32 ns = take 32 (ns ++ replicate 32 0)
@@ -304,19 +349,22 @@ module _ (protocols : List Protocol) where
       ∷ at_key (codes "protocol") doc (string_fault (λ s. is_some (place_named protocols s)) 7)
       ∷ at_key (codes "tick") doc (whole_fault (is_within 1 60000) out_of_range)
       ∷ at_key (codes "latency_min") doc (whole_fault (is_within 0 60000) out_of_range)
-      ∷ at_key (codes "latency_max") doc (whole_fault (is_within (whole (codes "latency_min") doc) 60000) out_of_range)
+      ∷ at_key (codes "latency_max") doc (whole_fault (is_within (whole (codes "latency_min") doc)
+      60000) out_of_range)
       ∷ at_key (codes "loss") doc (whole_fault (is_within 0 1000) out_of_range)
       ∷ at_key (codes "servers") doc (list_fault names_fault as_str)
       ∷ at_key (codes "checkpoint") doc (whole_fault (is_within 1 1024) out_of_range)
       ∷ at_key (codes "window") doc (whole_fault (is_within 1 4096) out_of_range)
       ∷ at_key (codes "client") doc (list_fault clients_fault as_table)
-      ∷ (if is_format_2 doc then at_key (codes "disk_latency") doc (whole_fault (is_within 0 60000) out_of_range) else None)
+      ∷ (if is_format_2 doc then at_key (codes "disk_latency") doc
+      (whole_fault (is_within 0 60000) out_of_range) else None)
       ∷ (if is_format_2 doc then at_key (codes "link") doc links_fault else None)
       ∷ []
 
   abbrev pub count_fault : Members → Option Fault
   count_fault doc =
-      if nat_lt 32 (length (host_names doc)) || nat_lt (length (server_names doc)) (least_servers protocols (protocol_of protocols doc))
+      if nat_lt 32 (length (host_names doc)) || nat_lt (length (server_names doc))
+      (least_servers protocols (protocol_of protocols doc))
       then Some (record { number = 11; key = codes "servers" }) else None
 
   abbrev pub document_fault : Members → Option Fault
@@ -338,15 +386,19 @@ module _ (protocols : List Protocol) where
     ways = ways_of doc;
     disk_latency = if is_format_2 doc then whole (codes "disk_latency") doc else 0;
     servers = length (server_names doc);
-    ops = first_32 (replicate (length (server_names doc)) 0 ++ map (whole (codes "ops")) (clients doc));
+    ops =
+        first_32 (replicate (length (server_names doc)) 0 ++ map (whole (codes "ops"))
+        (clients doc));
     checkpoint = whole (codes "checkpoint") doc;
     window = whole (codes "window") doc;
   }
 
   abbrev pub read_document : Option Members → Result ScenarioText Fault
   read_document None = Err (text_fault 2)
-  read_document (Some doc) = elim (document_fault doc) [ Some fault ↦ Err fault | None ↦ Ok (scenario_of doc) ]
+  read_document (Some doc) =
+      elim (document_fault doc) [ Some fault ↦ Err fault | None ↦ Ok (scenario_of doc) ]
 
   -- what a text is read as, by its bytes
   abbrev pub read : List ℕ → Result ScenarioText Fault
-  read text = if nat_lt 65536 (length text) then Err (text_fault 1) else read_document (parse_document text)
+  read text =
+      if nat_lt 65536 (length text) then Err (text_fault 1) else read_document (parse_document text)

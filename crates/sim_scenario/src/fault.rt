@@ -55,7 +55,8 @@ impl fmt::Display for Key {
     }
 }
 
-/// The first thing that is wrong with the text of a scenario, or that memory was wanted and not there.
+/// The first thing that is wrong with the text of a scenario, or that memory was wanted and not
+/// there.
 #[derive(Debug, Drop, Error)]
 pub enum ScenarioFault {
     #[error("the text is longer than 65,536 bytes")]
@@ -115,7 +116,8 @@ impl<T: Drop> From<AllocFailed<T>> for ScenarioFault {
 }
 
 impl ScenarioFault {
-    /// The number of the fault, 1 to 14. Want of memory, which is no fault of the text, has the number 0.
+    /// The number of the fault, 1 to 14. Want of memory, which is no fault of the text, has the
+    /// number 0.
     pub fn number(&self) -> u8
         ensures { result ≡ (fault_of self.now).number }
     {
@@ -140,8 +142,9 @@ impl ScenarioFault {
         }
     }
 
-    /// The key that is written with the number: the key at fault, `text` for a text that is too long or not TOML, and
-    /// `memory` for want of memory. An unknown key is written as it is, whatever its characters.
+    /// The key that is written with the number: the key at fault, `text` for a text that is too
+    /// long or not TOML, and `memory` for want of memory. An unknown key is written as it is,
+    /// whatever its characters.
     pub fn key(&self) -> &str
         ensures { result.now ≡ (fault_of self.now).key }
     {

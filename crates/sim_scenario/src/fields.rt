@@ -23,7 +23,8 @@ pub fn field<'a>(table: &'a Table, name: &str) -> Option<&'a Value>
 
 /// The first key of a table that is not among the known ones.
 pub fn unknown_key<'a>(table: &'a Table, known: &[&str]) -> Option<&'a str>
-    ensures { option_copied result ≡ scenario.unknown_key (map (λ k. k.now) known.now) (table_view table.now) }
+    ensures { option_copied result ≡ scenario.unknown_key (map (λ k. k.now) known.now)
+        (table_view table.now) }
 {
     for (key, _) in table.iter() {
         if !is_among(key.as_str(), known) {
@@ -39,12 +40,14 @@ fn is_among(key: &str, known: &[&str]) -> bool
     known.iter().any(|k| key == *k)
 }
 
-/// The text at a key. Its faults, that the value is missing or of another type, are written with `key`, whatever is asked
-/// of the text.
+/// The text at a key. Its faults, that the value is missing or of another type, are written with
+/// `key`, whatever is asked of the text.
 pub fn text_at<'a>(table: &'a Table, name: &str, key: Key) -> Result<&'a str, ScenarioFault>
-    ensures text { IfOk result (λ text. get_member name.now (table_view table.now) ≡ Some (string text.now)) }
+    ensures text { IfOk result (λ text. get_member name.now (table_view table.now)
+        ≡ Some (string text.now)) }
     ensures fault { IfErr result (λ e. (test : List ℕ → Bool) (own : ℕ) →
-        scenario.keyed (faults.key_text key) (scenario.string_fault test own (get_member name.now (table_view table.now))) ≡ Some (faults.fault_of e)) }
+        scenario.keyed (faults.key_text key) (scenario.string_fault test own
+        (get_member name.now (table_view table.now))) ≡ Some (faults.fault_of e)) }
 {
     let Some(value) = field(table, name) else {
         return Err(ScenarioFault::Missing(key));
@@ -57,9 +60,11 @@ pub fn text_at<'a>(table: &'a Table, name: &str, key: Key) -> Result<&'a str, Sc
 
 /// The whole number at a key. Its faults are as those of `text_at`.
 pub fn integer_at(table: &Table, name: &str, key: Key) -> Result<i64, ScenarioFault>
-    ensures number { IfOk result (λ z. get_member name.now (table_view table.now) ≡ Some (integer z)) }
+    ensures number { IfOk result (λ z. get_member name.now (table_view table.now)
+        ≡ Some (integer z)) }
     ensures fault { IfErr result (λ e. (test : ℤ → Bool) (own : ℕ) →
-        scenario.keyed (faults.key_text key) (scenario.whole_fault test own (get_member name.now (table_view table.now))) ≡ Some (faults.fault_of e)) }
+        scenario.keyed (faults.key_text key) (scenario.whole_fault test own
+        (get_member name.now (table_view table.now))) ≡ Some (faults.fault_of e)) }
 {
     let Some(value) = field(table, name) else {
         return Err(ScenarioFault::Missing(key));
@@ -79,7 +84,8 @@ pub fn number_at(
     low: u32,
     high: u32,
 ) -> Result<u32, ScenarioFault>
-    ensures said { faults.Gives (λ n. n) result (parts.number_of name.now (faults.key_text key) low high (table_view table.now)) }
+    ensures said { faults.Gives (λ n. n) result (parts.number_of name.now
+        (faults.key_text key) low high (table_view table.now)) }
     ensures most { IfOk result (λ n. n ≤ high) }
 {
     let number = integer_at(table, name, key)?;
@@ -91,7 +97,8 @@ pub fn number_at(
 
 /// The number at a key of a scenario, from `low` to `high`.
 pub fn number(table: &Table, key: Key, low: u32, high: u32) -> Result<u32, ScenarioFault>
-    ensures { faults.Gives (λ n. n) result (parts.number_of (faults.key_text key) (faults.key_text key) low high (table_view table.now)) }
+    ensures { faults.Gives (λ n. n) result (parts.number_of (faults.key_text key)
+        (faults.key_text key) low high (table_view table.now)) }
 {
     number_at(table, key.text(), key, low, high)
 }
@@ -145,7 +152,8 @@ pub fn seed(table: &Table) -> Result<[u8; 32], ScenarioFault>
 #[tactic(auto, unfolding(crate::specs::Parts::protocol_in))]
 pub fn protocol<P: Protocols>(table: &Table) -> Result<usize, ScenarioFault>
     requires few { length P.listed ≤ 255 }
-    ensures { faults.Gives (λ protocol. protocol) result (parts.protocol_in P.listed (table_view table.now)) }
+    ensures { faults.Gives (λ protocol. protocol) result
+        (parts.protocol_in P.listed (table_view table.now)) }
 {
     match P::named(text_at(table, "protocol", Key::Protocol)?) {
         Some(protocol) => Ok(protocol),

@@ -1,5 +1,6 @@
 //! The hosts of a scenario: their names, their numbers, and the operations of the clients.
-ghost use Rattle.std.specs.Prelude.{◌≡◌, ℕ, ◌+◌, ◌≤◌, ◌||◌, List, [], map, length, replicate, ◌++◌, IfOk, OnOk, string_bytes, vec_len, position, slice_get};
+ghost use Rattle.std.specs.Prelude.{◌≡◌, ℕ, ◌+◌, ◌≤◌, ◌||◌, List, [], map, length, replicate, ◌++◌};
+ghost use Rattle.std.specs.Prelude.{IfOk, OnOk, string_bytes, vec_len, position, slice_get};
 ghost use Rattle.std.specs.Option.{option_map, option_copied};
 ghost use Rattle.std.specs.List.{list_all};
 ghost use Rattle.toml.specs.Data.{as_str, as_table, same_key};
@@ -43,7 +44,8 @@ fn are_name_bytes(bytes: &[u8]) -> bool
 
 /// The texts of an array of texts, or none where the value is anything else.
 fn texts(alloc: Global, value: &Value) -> Result<Option<Vec<String>>, NoMemory>
-    ensures { IfOk result (λ found. option_map (λ texts. map string_bytes texts.items) found ≡ scenario.list_of as_str (view value.now)) }
+    ensures { IfOk result (λ found. option_map (λ texts. map string_bytes texts.items) found
+        ≡ scenario.list_of as_str (view value.now)) }
 {
     match value.as_array() {
         Some(items) => item_texts(alloc, items.as_slice()),
@@ -52,7 +54,8 @@ fn texts(alloc: Global, value: &Value) -> Result<Option<Vec<String>>, NoMemory>
 }
 
 fn item_texts(alloc: Global, items: &[Value]) -> Result<Option<Vec<String>>, NoMemory>
-    ensures { IfOk result (λ found. option_map (λ texts. map string_bytes texts.items) found ≡ scenario.all_some (λ v. as_str (view v)) items.now) }
+    ensures { IfOk result (λ found. option_map (λ texts. map string_bytes texts.items) found
+        ≡ scenario.all_some (λ v. as_str (view v)) items.now) }
 {
     let mut texts = Vec::new(alloc);
     for item in items {
@@ -66,7 +69,8 @@ fn item_texts(alloc: Global, items: &[Value]) -> Result<Option<Vec<String>>, NoM
 
 /// The tables of an array of tables, or none where the value is anything else.
 pub fn tables(alloc: Global, value: &Value) -> Result<Option<Vec<&Table>>, NoMemory>
-    ensures { IfOk result (λ found. option_map (λ tables. map (λ t. table_view t.now) tables.items) found ≡ scenario.list_of as_table (view value.now)) }
+    ensures { IfOk result (λ found. option_map (λ tables. map (λ t. table_view t.now) tables.items)
+        found ≡ scenario.list_of as_table (view value.now)) }
 {
     match value.as_array() {
         Some(items) => item_tables(alloc, items.as_slice()),
@@ -76,7 +80,8 @@ pub fn tables(alloc: Global, value: &Value) -> Result<Option<Vec<&Table>>, NoMem
 
 fn item_tables(alloc: Global, items: &[Value]) -> Result<Option<Vec<&Table>>, NoMemory>
     ensures { IfOk result (λ found.
-        option_map (λ tables. map (λ t. table_view t.now) tables.items) found ≡ scenario.all_some (λ v. as_table (view v)) items.now) }
+        option_map (λ tables. map (λ t. table_view t.now) tables.items) found
+        ≡ scenario.all_some (λ v. as_table (view v)) items.now) }
 {
     let mut tables = Vec::new(alloc);
     for item in items {
@@ -91,7 +96,8 @@ fn item_tables(alloc: Global, items: &[Value]) -> Result<Option<Vec<&Table>>, No
 /// The names of the servers, one or more.
 #[tactic(auto, unfolding(crate::specs::Parts::servers_of))]
 pub fn server_names(alloc: Global, table: &Table) -> Result<Vec<String>, ScenarioFault>
-    ensures { faults.Gives (λ names. map string_bytes names.items) result (parts.servers_of (table_view table.now)) }
+    ensures { faults.Gives (λ names. map string_bytes names.items) result
+        (parts.servers_of (table_view table.now)) }
 {
     let Some(value) = field(table, "servers") else {
         return Err(ScenarioFault::Missing(Key::Servers));
@@ -147,7 +153,8 @@ fn client_name(table: &Table) -> Result<&str, ScenarioFault>
 /// A client's name and its operations.
 #[tactic(auto, unfolding(crate::specs::Parts::client_of))]
 fn client(table: &Table) -> Result<ClientText<'_>, ScenarioFault>
-    ensures { faults.Gives (λ client. (client.name.now, client.operations)) result (parts.client_of (table_view table.now)) }
+    ensures { faults.Gives (λ client. (client.name.now, client.operations)) result
+        (parts.client_of (table_view table.now)) }
 {
     known_client_keys(table)?;
     let name = client_name(table)?;
@@ -167,9 +174,13 @@ pub struct Hosts {
 
 /// The servers with the clients of a text, one or more.
 pub fn all_hosts(alloc: Global, table: &Table, servers: Vec<String>) -> Result<Hosts, ScenarioFault>
-    ensures said { faults.Gives (λ hosts. (map string_bytes hosts.names.items, hosts.operations.items)) result
+    ensures said { faults.Gives (λ hosts. (
+      map string_bytes hosts.names.items,
+      hosts.operations.items,
+    )) result
         (parts.clients_of (map string_bytes servers.items) (table_view table.now)) }
-    ensures counted { IfOk result (λ hosts. vec_len hosts.names ≡ vec_len servers + vec_len hosts.operations) }
+    ensures counted { IfOk result (λ hosts. vec_len hosts.names ≡ vec_len servers
+        + vec_len hosts.operations) }
 {
     let Some(value) = field(table, "client") else {
         return Err(ScenarioFault::Missing(Key::Client));
@@ -188,9 +199,14 @@ fn with_clients(
     servers: Vec<String>,
     tables: &[&Table],
 ) -> Result<Hosts, ScenarioFault>
-    ensures said { faults.Gives (λ hosts. (map string_bytes hosts.names.items, hosts.operations.items)) result
-        (parts.listed (map string_bytes servers.items) [] (map (λ t. table_view t.now) tables.now)) }
-    ensures counted { IfOk result (λ hosts. vec_len hosts.names ≡ vec_len servers + vec_len hosts.operations) }
+    ensures said { faults.Gives (λ hosts. (
+      map string_bytes hosts.names.items,
+      hosts.operations.items,
+    )) result
+        (parts.listed (map string_bytes servers.items) []
+        (map (λ t. table_view t.now) tables.now)) }
+    ensures counted { IfOk result (λ hosts. vec_len hosts.names ≡ vec_len servers
+        + vec_len hosts.operations) }
 {
     let mut names = servers;
     let mut operations = Vec::new(alloc);
@@ -209,7 +225,8 @@ pub fn number_hosts(
     servers: usize,
 ) -> Result<IndexMap<String, u16>, ScenarioFault>
     requires { vec_len names ≤ 32 }
-    ensures differing { faults.Gives (λ hosts. names_in hosts) result (parts.differing servers (map string_bytes names.items)) }
+    ensures differing { faults.Gives (λ hosts. names_in hosts) result
+        (parts.differing servers (map string_bytes names.items)) }
     ensures numbered { IfOk result (λ hosts. IsNumbered hosts) }
 {
     let mut hosts = IndexMap::new(alloc);

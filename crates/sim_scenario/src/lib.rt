@@ -65,7 +65,8 @@ pub trait Protocols {
 /// What a scenario says.
 #[derive(Drop)]
 pub struct ScenarioText {
-    /// The number of each host, by its name. The hosts stand in the order of their numbers, the servers first.
+    /// The number of each host, by its name. The hosts stand in the order of their numbers, the
+    /// servers first.
     pub names: IndexMap<String, u16>,
     /// The place of the protocol in the list of those that may be named.
     pub protocol: usize,

@@ -50,7 +50,8 @@ fn known_link_keys(table: &Table) -> Result<(), ScenarioFault>
 /// The name of one of a link's hosts.
 #[tactic(auto, unfolding(crate::specs::Parts::link_host_of))]
 fn link_host<'a>(table: &'a Table, name: &str) -> Result<&'a str, ScenarioFault>
-    ensures { faults.Gives (λ host. host.now) result (parts.link_host_of name.now (table_view table.now)) }
+    ensures { faults.Gives (λ host. host.now) result (parts.link_host_of name.now
+        (table_view table.now)) }
 {
     text_at(table, name, Key::Link)
 }
@@ -58,7 +59,8 @@ fn link_host<'a>(table: &'a Table, name: &str) -> Result<&'a str, ScenarioFault>
 /// A number of a link, from `low` to `high`.
 #[tactic(auto, unfolding(crate::specs::Parts::link_number_of))]
 fn link_number(table: &Table, name: &str, low: u32, high: u32) -> Result<u32, ScenarioFault>
-    ensures { faults.Gives (λ n. n) result (parts.link_number_of name.now low high (table_view table.now)) }
+    ensures { faults.Gives (λ n. n) result (parts.link_number_of name.now low high
+        (table_view table.now)) }
 {
     number_at(table, name, Key::Link, low, high)
 }
@@ -96,7 +98,8 @@ fn read_link(table: &Table) -> Result<LinkText<'_>, ScenarioFault>
 
 /// The links of a text, which only format 2 has.
 pub fn links(alloc: Global, table: &Table) -> Result<Vec<LinkText<'_>>, ScenarioFault>
-    ensures { faults.Gives (λ links. map link_said links.items) result (parts.links_in (table_view table.now)) }
+    ensures { faults.Gives (λ links. map link_said links.items) result
+        (parts.links_in (table_view table.now)) }
 {
     if !is_format_2(table) {
         return Ok(Vec::new(alloc));
@@ -111,7 +114,8 @@ pub fn links(alloc: Global, table: &Table) -> Result<Vec<LinkText<'_>>, Scenario
 }
 
 fn linked<'a>(alloc: Global, tables: &[&'a Table]) -> Result<Vec<LinkText<'a>>, ScenarioFault>
-    ensures { faults.Gives (λ links. map link_said links.items) result (parts.linked [] (map (λ t. table_view t.now) tables.now)) }
+    ensures { faults.Gives (λ links. map link_said links.items) result
+        (parts.linked [] (map (λ t. table_view t.now) tables.now)) }
 {
     let mut links = Vec::new(alloc);
     for table in tables {
@@ -120,10 +124,12 @@ fn linked<'a>(alloc: Global, tables: &[&'a Table]) -> Result<Vec<LinkText<'a>>, 
     Ok(links)
 }
 
-/// A link by the numbers of its hosts, or none where its source or its target is no host, or both are one.
+/// A link by the numbers of its hosts, or none where its source or its target is no host, or both
+/// are one.
 fn link_between(names: &IndexMap<String, u16>, link: &LinkText) -> Option<Link>
     requires { IsNumbered names.now }
-    ensures { option_map link_seen result ≡ scenario.link_between (names_in names.now) (link_said link.now) }
+    ensures { option_map link_seen result ≡ scenario.link_between (names_in names.now)
+        (link_said link.now) }
 {
     let source = host_number(names, link.source)?;
     let target = host_number(names, link.target)?;
@@ -144,7 +150,8 @@ fn placed(
     links: &[LinkText],
 ) -> Result<Vec<Link>, ScenarioFault>
     requires { IsNumbered names.now }
-    ensures { faults.Gives (λ links. map link_seen links.items) result (parts.placed (names_in names.now) (map link_said links.now)) }
+    ensures { faults.Gives (λ links. map link_seen links.items) result
+        (parts.placed (names_in names.now) (map link_said links.now)) }
 {
     let mut placed = Vec::new(alloc);
     for link in links {
@@ -164,7 +171,8 @@ fn is_same_pair(x: &Link, y: &Link) -> bool
 
 /// Whether one of the links goes from and to the hosts of another.
 fn has_pair_of(link: &Link, links: &[Link]) -> bool
-    ensures { result ≡ list_any (λ other. scenario.is_same_pair (link_seen link.now) (link_seen other)) links.now }
+    ensures { result ≡ list_any (λ other. scenario.is_same_pair (link_seen link.now)
+        (link_seen other)) links.now }
 {
     links.iter().any(|other| is_same_pair(link, other))
 }
@@ -206,7 +214,8 @@ pub fn ways(
 ) -> Result<Ways, ScenarioFault>
     requires numbered { IsNumbered names.now }
     requires few { length (names_in names.now) ≤ 32 }
-    ensures { faults.Gives (λ ways. ways) result (parts.ways_in way (names_in names.now) (map link_said links.now)) }
+    ensures { faults.Gives (λ ways. ways) result (parts.ways_in way (names_in names.now)
+        (map link_said links.now)) }
 {
     let between = placed(alloc, names, links)?;
     linked_ways(way, between.as_slice())

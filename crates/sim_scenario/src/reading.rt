@@ -1,5 +1,6 @@
 //! The whole text of a scenario.
-ghost use Rattle.std.specs.Prelude.{◌≡◌, ◌≢◌, ◌≤◌, ◌<◌, ◌+◌, length, IfOk, IfErr, Ok, Err, map, string_bytes, vec_len};
+ghost use Rattle.std.specs.Prelude.{◌≡◌, ◌≢◌, ◌≤◌, ◌<◌, ◌+◌, length, IfOk, IfErr, Ok, Err, map};
+ghost use Rattle.std.specs.Prelude.{string_bytes, vec_len};
 ghost use Rattle.toml.specs.View.{table_view};
 ghost use Rattle.sim_scenario.specs.Faults as faults;
 ghost use Rattle.sim_scenario.specs.Hosts.{IsNumbered};
@@ -21,13 +22,14 @@ use toml::Table;
 /// The longest text of a scenario, in bytes.
 const MAX_TEXT: usize = 65_536;
 
-/// Reads the text of a scenario. An error is the first fault of the text, in the order of the format's description, or
-/// `NoMemory` where memory was refused before the text was read to its first fault or its end. What is read is within the
-/// limits of a run.
+/// Reads the text of a scenario. An error is the first fault of the text, in the order of the
+/// format's description, or `NoMemory` where memory was refused before the text was read to its
+/// first fault or its end. What is read is within the limits of a run.
 pub fn read<P: Protocols>(alloc: Global, text: &str) -> Result<ScenarioText, ScenarioFault>
     requires few { length P.listed ≤ 255 }
     ensures accepted { IfOk result (λ s. scenario.read P.listed text.now ≡ Ok (seen s)) }
-    ensures refused { IfErr result (λ e. e ≢ ScenarioFault.NoMemory → scenario.read P.listed text.now ≡ Err (faults.fault_of e)) }
+    ensures refused { IfErr result (λ e. e ≢ ScenarioFault.NoMemory
+        → scenario.read P.listed text.now ≡ Err (faults.fault_of e)) }
     ensures numbered { IfOk result (λ s. IsNumbered s.names) }
     ensures within { IfOk result (λ s. IsWithinLimits (seen s)) }
     ensures known { IfOk result (λ s. s.protocol < length P.listed) }
@@ -47,7 +49,8 @@ pub fn read<P: Protocols>(alloc: Global, text: &str) -> Result<ScenarioText, Sce
     }
 }
 
-/// What a text says first: the seed, the protocol, the tick in milliseconds, and the way of each pair without a link.
+/// What a text says first: the seed, the protocol, the tick in milliseconds, and the way of each
+/// pair without a link.
 #[derive(Drop)]
 struct Opening {
     seed: [u8; 32],
@@ -100,7 +103,8 @@ fn read_hosts<P: Protocols>(
     table: &Table,
     opening: Opening,
 ) -> Result<ScenarioText, ScenarioFault>
-    ensures said { faults.Gives seen result (parts.hosts_in P.listed opening (table_view table.now)) }
+    ensures said { faults.Gives seen result (parts.hosts_in P.listed opening
+        (table_view table.now)) }
     ensures numbered { IfOk result (λ s. IsNumbered s.names) }
 {
     let server_names = server_names(alloc, table)?;
@@ -130,7 +134,8 @@ fn joined<P: Protocols>(
 ) -> Result<ScenarioText, ScenarioFault>
     requires counted { vec_len hosts.names ≡ servers + vec_len hosts.operations }
     ensures said { faults.Gives seen result
-        (parts.joined_in P.listed opening servers (map string_bytes hosts.names.items) hosts.operations.items rest (map link_said links.now)) }
+        (parts.joined_in P.listed opening servers (map string_bytes hosts.names.items)
+        hosts.operations.items rest (map link_said links.now)) }
     ensures numbered { IfOk result (λ s. IsNumbered s.names) }
 {
     let Opening {

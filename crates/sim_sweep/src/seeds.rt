@@ -1,5 +1,6 @@
 //! The first of many seeds whose planned run has a place at which a condition fails.
-ghost use Rattle.std.specs.Prelude.{◌≡◌, ℕ, ◌+◌, ◌^◌, ◌<◌, ◌≤◌, ◌||◌, false, None, IfOk, OnOk, IfErr, vec_len, length, Option, take, ◌++◌};
+ghost use Rattle.std.specs.Prelude.{◌≡◌, ℕ, ◌+◌, ◌^◌, ◌<◌, ◌≤◌, ◌||◌, false, None, IfOk, OnOk};
+ghost use Rattle.std.specs.Prelude.{IfErr, vec_len, length, Option, take, ◌++◌};
 ghost use Rattle.std.specs.Int.{w64, to_le_bytes};
 ghost use Rattle.sim_watch.specs.Condition.{fault_of};
 ghost use Rattle.sim_search.specs.Faults.{reason};
@@ -45,7 +46,8 @@ pub fn numbered_seed(seed: [u8; 32], i: u64) -> [u8; 32]
     numbered.bytes
 }
 
-// The numbered runs of a course, each a piece of its own, and a condition that was checked for them.
+// The numbered runs of a course, each a piece of its own, and a condition that was checked for
+// them.
 #[derive(Drop)]
 struct Runs<'a, N: Node> {
     alloc: Global,
@@ -63,7 +65,8 @@ struct Runs<'a, N: Node> {
 impl<'a, N: Node> Pieces<N::Meter> for Runs<'a, N> {
     ghost count = { λ s. s.count };
 
-    ghost finding = { λ s i. failing_of_planned_seed N.laws N.PROBES s.course.now.scenario.now s.course.now.given.now s.course.now.plan s.cond.now (s.first + i) };
+    ghost finding = { λ s i. failing_of_planned_seed N.laws N.PROBES s.course.now.scenario.now
+        s.course.now.given.now s.course.now.plan s.cond.now (s.first + i) };
 
     fn count(&self) -> u64 {
         self.count
@@ -110,13 +113,14 @@ fn is_refused(first: u64, count: u64, plan: Plan, given: usize) -> bool
     are_bad(first, count) || is_bad(plan, given)
 }
 
-/// The first of `count` seeds, from number `first` on, whose run has a place at which a condition fails, and its first such place,
-/// by as many workers as there are meters. The run of a seed has the given events and then the planned ones, without those that
-/// can't happen. With a plan's `at_end` the last place of each run is looked at alone.
+/// The first of `count` seeds, from number `first` on, whose run has a place at which a condition
+/// fails, and its first such place, by as many workers as there are meters. The run of a seed has
+/// the given events and then the planned ones, without those that can't happen. With a plan's
+/// `at_end` the last place of each run is looked at alone.
 ///
-/// Each seed is one worker's, and the gate is told of each by its number from 0. `BadRange` where there is no seed, more than
-/// 2^32, a seed number past 2^64 - 1 or a plan that is not within the limits, else `BadCondition` where the condition can't be
-/// asked of this run.
+/// Each seed is one worker's, and the gate is told of each by its number from 0. `BadRange` where
+/// there is no seed, more than 2^32, a seed number past 2^64 - 1 or a plan that is not within the
+/// limits, else `BadCondition` where the condition can't be asked of this run.
 pub fn sweep_planned<N: Node + Send + Sync, G: Gate + Sync, R: Threads + Wait + Sync>(
     rt: &R,
     alloc: Global,
@@ -133,11 +137,14 @@ where
     requires own { course.now.seed ≡ course.now.scenario.now.seed }
     requires some { 0 < vec_len meters }
     requires few { vec_len meters ≤ 16 }
-    ensures found { IfOk result (λ seed. seed ≡ first_failing_planned_seed N.laws N.PROBES course.now.scenario.now course.now.given.now course.now.plan
+    ensures found { IfOk result (λ seed. seed ≡ first_failing_planned_seed N.laws N.PROBES
+        course.now.scenario.now course.now.given.now course.now.plan
         cond.now seeds.0 seeds.1) }
-    ensures allowed { OnOk result (planned_sweep_fault seeds.0 seeds.1 (length course.now.given.now) course.now.plan
+    ensures allowed { OnOk result (planned_sweep_fault seeds.0 seeds.1
+        (length course.now.given.now) course.now.plan
         course.now.scenario.now.setup.hosts N.PROBES cond.now ≡ None) }
-    ensures refused { IfErr result (λ why. why ≡ reason (planned_sweep_fault seeds.0 seeds.1 (length course.now.given.now) course.now.plan
+    ensures refused { IfErr result (λ why. why ≡ reason (planned_sweep_fault seeds.0 seeds.1
+        (length course.now.given.now) course.now.plan
         course.now.scenario.now.setup.hosts N.PROBES cond.now)) }
 {
     let (first, count) = seeds;

@@ -1,5 +1,6 @@
 //! A walk along a planned run.
-ghost use Rattle.std.specs.Prelude.{◌≡◌, ◌<◌, ◌≤◌, ◌+◌, ◌-◌, ◌⊎◌, ℕ, IfOk, OnOk, None, Some, IsSome, length, not, true, false, if◌then◌else◌};
+ghost use Rattle.std.specs.Prelude.{◌≡◌, ◌<◌, ◌≤◌, ◌+◌, ◌-◌, ◌⊎◌, ℕ, IfOk, OnOk, None, Some};
+ghost use Rattle.std.specs.Prelude.{IsSome, length, not, true, false, if◌then◌else◌};
 ghost use Rattle.std.specs.Prelude.{slice_index_or};
 ghost use Rattle.std.specs.Option.{unwrap_or};
 ghost use Rattle.std.specs.List.{list_any};
@@ -21,7 +22,8 @@ struct Watcher<'a, N: Node> {
     cond: &'a Cond,
     concerned: [bool; 32],
     undo: Undo<N>,
-    ghost about: { (h : ℕ) → h < 32 → slice_index_or concerned h false ≡ list_any (concerns h) (terms cond.now) },
+    ghost about: { (h : ℕ) → h < 32 → slice_index_or concerned h false
+        ≡ list_any (concerns h) (terms cond.now) },
 }
 
 impl<'a, N: Node> Watcher<'a, N> {
@@ -35,7 +37,8 @@ impl<'a, N: Node> Watcher<'a, N> {
         }
     }
 
-    // The world after an event that can happen, and whether the condition can hold otherwise there than before.
+    // The world after an event that can happen, and whether the condition can hold otherwise there
+    // than before.
     fn moved(
         &mut self,
         alloc: Global,
@@ -45,12 +48,14 @@ impl<'a, N: Node> Watcher<'a, N> {
     ) -> Result<(World<N>, bool), NoMemory>
         requires can { IsSome (next (rules N.laws N.PROBES world.scenario) world.world event) }
         requires young { world.age < 65536 }
-        ensures next { IfOk result (λ r. next (rules N.laws N.PROBES world.scenario) world.world event ≡ Some r.0.world) }
+        ensures next { IfOk result (λ r. next (rules N.laws N.PROBES world.scenario) world.world
+            event ≡ Some r.0.world) }
         ensures scenario { IfOk result (λ r. r.0.scenario ≡ world.scenario) }
         ensures age { IfOk result (λ r. r.0.age ≡ world.age + 1) }
         ensures cond { self.new.cond.now ≡ self.old.cond.now }
         ensures work { OnOk result (OnlyTurns 1 (N.Meter.work meter.old) (N.Meter.work meter.new)) }
-        ensures same { IfOk result (λ r. r.1 ≡ false → holds N.laws self.old.cond.now r.0.world ≡ holds N.laws self.old.cond.now world.world) }
+        ensures same { IfOk result (λ r. r.1 ≡ false → holds N.laws self.old.cond.now r.0.world
+            ≡ holds N.laws self.old.cond.now world.world) }
     {
         match event {
             Event::Step => {
@@ -82,10 +87,15 @@ impl<N: Node> Spot<N> {
         meter: &mut N::Meter,
     ) -> Result<Spot<N>, NoMemory>
         requires checked { fault_of scenario.now.setup.hosts N.PROBES cond.now ≡ None }
-        ensures world { IfOk result (λ s. s.world ≡ record { world = start (rules N.laws N.PROBES scenario.now); scenario = scenario.now; age = 0 }) }
+        ensures world { IfOk result (λ s. s.world ≡ record {
+          world = start (rules N.laws N.PROBES scenario.now);
+          scenario = scenario.now;
+          age = 0;
+        }) }
         ensures place { IfOk result (λ s. s.place ≡ 0) }
         ensures fails { IfOk result (λ s. s.fails ≡ not (holds N.laws cond.now s.world.world)) }
-        ensures work { OnOk result (OnlyTurns scenario.now.setup.hosts (N.Meter.work meter.old) (N.Meter.work meter.new)) }
+        ensures work { OnOk result (OnlyTurns scenario.now.setup.hosts (N.Meter.work meter.old)
+            (N.Meter.work meter.new)) }
     {
         let world = World::<N>::start(alloc, scenario, meter)?;
         let fails = !holds(cond, &world);
@@ -104,18 +114,23 @@ impl<N: Node> Spot<N> {
         watcher: &mut Watcher<N>,
         meter: &mut N::Meter,
     ) -> Result<Spot<N>, NoMemory>
-        requires checked { fault_of self.world.scenario.setup.hosts N.PROBES watcher.old.cond.now ≡ None }
+        requires checked { fault_of self.world.scenario.setup.hosts N.PROBES watcher.old.cond.now
+            ≡ None }
         requires young { self.world.age < 65536 }
         requires place { self.place ≡ self.world.age }
         requires fails { self.fails ≡ not (holds N.laws watcher.old.cond.now self.world.world) }
         ensures on { IfOk result (λ s.
-            ((next (rules N.laws N.PROBES self.world.scenario) self.world.world event ≡ Some s.world.world) × (s.world.age ≡ self.world.age + 1))
-            ⊎ ((next (rules N.laws N.PROBES self.world.scenario) self.world.world event ≡ None) × (s.world ≡ self.world))) }
+            ((next (rules N.laws N.PROBES self.world.scenario) self.world.world event
+            ≡ Some s.world.world) × (s.world.age ≡ self.world.age + 1))
+            ⊎ ((next (rules N.laws N.PROBES self.world.scenario) self.world.world event ≡ None)
+            × (s.world ≡ self.world))) }
         ensures scenario { IfOk result (λ s. s.world.scenario ≡ self.world.scenario) }
         ensures place { IfOk result (λ s. s.place ≡ s.world.age) }
         ensures cond { watcher.new.cond.now ≡ watcher.old.cond.now }
-        ensures fails { IfOk result (λ s. s.fails ≡ not (holds N.laws watcher.old.cond.now s.world.world)) }
-        ensures work { IfOk result (λ s. OnlyTurns (s.place - self.place) (N.Meter.work meter.old) (N.Meter.work meter.new)) }
+        ensures fails { IfOk result (λ s. s.fails ≡ not
+            (holds N.laws watcher.old.cond.now s.world.world)) }
+        ensures work { IfOk result (λ s. OnlyTurns (s.place - self.place) (N.Meter.work meter.old)
+            (N.Meter.work meter.new)) }
     {
         match self.world.can(event) {
             Err(_) => return Ok(self),
@@ -153,9 +168,10 @@ impl<N: Node> Spot<N> {
     }
 }
 
-/// Looks for the least place of a run at which a condition, which was checked, fails. The run begins at the start of the scenario
-/// and has the events of the planner that can happen, one after the other. With `at_end` its last place is looked at alone. Each
-/// host is booted once, and at most one turn is counted for each event up to the place that is found. The only error is want of
+/// Looks for the least place of a run at which a condition, which was checked, fails. The run
+/// begins at the start of the scenario and has the events of the planner that can happen, one after
+/// the other. With `at_end` its last place is looked at alone. Each host is booted once, and at
+/// most one turn is counted for each event up to the place that is found. The only error is want of
 /// memory.
 pub fn scan_planned<N: Node>(
     alloc: Global,
@@ -167,10 +183,13 @@ pub fn scan_planned<N: Node>(
 ) -> Result<Option<u32>, NoMemory>
     requires few { length planner ≤ 65536 }
     requires checked { fault_of scenario.now.setup.hosts N.PROBES cond.now ≡ None }
-    ensures place { IfOk result (λ found. found ≡ failing_of_run (rules N.laws N.PROBES scenario.now) at_end cond.now
-        (happening (rules N.laws N.PROBES scenario.now) (start (rules N.laws N.PROBES scenario.now)) planner.entry)) }
+    ensures place { IfOk result (λ found. found ≡ failing_of_run
+        (rules N.laws N.PROBES scenario.now) at_end cond.now
+        (happening (rules N.laws N.PROBES scenario.now) (start (rules N.laws N.PROBES scenario.now))
+        planner.entry)) }
     ensures work { IfOk result (λ found. OnlyTurns (scenario.now.setup.hosts + unwrap_or found
-        (length (happening (rules N.laws N.PROBES scenario.now) (start (rules N.laws N.PROBES scenario.now)) planner.entry)))
+        (length (happening (rules N.laws N.PROBES scenario.now)
+        (start (rules N.laws N.PROBES scenario.now)) planner.entry)))
         (N.Meter.work meter.old) (N.Meter.work meter.new)) }
 {
     let mut watcher = Watcher::new(alloc, cond);

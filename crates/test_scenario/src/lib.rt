@@ -8,6 +8,7 @@
 //! - `rows`, `links`: texts with a fault each, or with several, so that the order of faults is
 //!   checked too. A row has only what differs from a text without a fault.
 //! - `texts`, `said`: texts that are scenarios, and the values of each.
+//! - `sentences`: the sentence for a text with each of the faults.
 //! - The limit of 65,536 bytes, no text at all, and line ends of two bytes.
 //!
 //! Rows are lines of a long text, and not an array of tuples: the prover takes a text as one value,

@@ -5,6 +5,7 @@
 //!   or refused though it is a scenario; the order of faults.
 //! * `short_and_long_texts`: no text, a comment, the limit of 65,536 bytes, line ends of two bytes.
 //! * `texts_say_what_they_say`: a value, a name or a way that is read from elsewhere.
+//! * `sentences`: a sentence that names another place of the text, another value, or other limits.
 //! * `faults_and_names`: the text of a fault, the number of want of memory, and which names are
 //!   names.
 
@@ -12,6 +13,7 @@ mod links;
 mod protocols;
 mod rows;
 mod said;
+mod sentences;
 mod texts;
 
 use links::{LINES_2, both_formats, ways_of_links};

@@ -1,7 +1,21 @@
 //! A reader and a writer that own nothing: the reader gives two texts, and the writer compares the
-//! bytes that it gets with a third.
+//! bytes that it gets with a third. And a standard error that shows nothing.
+use std::fmt::Display;
 use std::io;
 use std::io::{ErrorKind, Read, Write};
+
+/// A standard error that takes everything and shows nothing.
+pub struct Quiet;
+
+impl Eprint for Quiet {
+    fn eprint<D: Display + Drop>(&self, _value: D) -> io::Result<()> {
+        Ok(())
+    }
+
+    fn eprintln<D: Display + Drop>(&self, _value: D) -> io::Result<()> {
+        Ok(())
+    }
+}
 
 /// Gives two texts, one after the other, at most a given number of bytes a read. After a given
 /// number of reads it fails once; later reads succeed again.

@@ -1,5 +1,5 @@
 //! Scenarios, scripts, and plays of both.
-use super::ports::{Narrow, Pieces};
+use super::ports::{Narrow, Pieces, Quiet};
 use sim_cli::{Shipped, Status, play};
 use std::alloc::{AllocError, Global};
 use std::process::Abort;
@@ -146,7 +146,7 @@ pub fn status_of(alloc: Global, head: &[u8], script: &[u8], want: &[u8]) -> Opti
     let mut reader = Pieces::new(head, script);
     reader.most = 65_536;
     let mut writer = Narrow::wide(want);
-    let status = play::<Shipped, _, _>(alloc, &mut reader, &mut writer);
+    let status = play::<Shipped, _, _, _>(&Quiet, alloc, &mut reader, &mut writer);
     writer.is_done().then_some(status)
 }
 

@@ -31,4 +31,4 @@ returns-in-Fault-clause-not g c = λ given e.
     let same = same_scenario g.L.Protocols.listed given c.in-Ok.text.items _ (head_is given c.in-Ok.text.items _ head) in
     let fault = fault_of_given g.L.Protocols.listed given c.in-Ok.text.items c.as_slice.result.now _ c.as_slice.ensures.value same c.in-Fault.ensures.reads in
     let read : ReadsHead given (g.R.Read.remaining c.read_head.new.reader) = record { text = c.in-Ok.text.items; block = c.read_head.new.ahead.bytes; few = c.in-Ok.ensures.few; head = head } in
-    bad_opened g.L.Protocols.listed given c.read_head.new.ahead _ _ _ _ c.write_fault.result fault read (rw c.as_bytes.ensures.value at c.write_fault.ensures)
+    bad_opened g.L.Protocols.listed given c.read_head.new.ahead _ _ _ _ c.write_fault-status.result fault read (rw c.as_bytes.ensures.value at c.write_fault-status.ensures)
