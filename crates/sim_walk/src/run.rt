@@ -1,0 +1,233 @@
+//! The kept events of a branch, told one after the other.
+ghost use Rattle.std.specs.Prelude.{◌≡◌, IsTrue, OnOk, length};
+
+use sim_book::Book;
+use sim_cli::Tally;
+use sim_log::{Line, Places, Told};
+use sim_node::{NoMemory, Node};
+use sim_script::Names;
+use sim_tape::{Frozen, Tape};
+use sim_world::{Event, World};
+use std::alloc::Global;
+use std::fmt::Debug;
+
+/// The kept events of a branch, with where in them each occurrence was queued and happened.
+#[derive(Drop)]
+pub(crate) struct Run<'a, N: Node> {
+    alloc: Global,
+    names: &'a Names,
+    pub(crate) frozen: Frozen<N>,
+    pub(crate) places: Places,
+}
+
+/// All kept events of a branch, or none if there is no such branch. The only error is want of memory.
+pub(crate) fn frozen_of<N: Node>(
+    alloc: Global,
+    book: &Book<N>,
+    branch: u32,
+) -> Result<Option<Frozen<N>>, NoMemory> {
+    match book.warm(branch) {
+        None => Ok(None),
+        Some(_) => Ok(Some(book.frozen(alloc, branch)?)),
+    }
+}
+
+/// The place and the clock (ms) of a branch, or none if there is no such branch. A branch whose world is
+/// not at hand, as one that was just made, is at its end. The only error is want of memory.
+pub(crate) fn whereabouts<N: Node<Meter = Tally>>(
+    alloc: Global,
+    book: &Book<N>,
+    branch: u32,
+) -> Result<Option<(u32, u64)>, NoMemory> {
+    if let Some(world) = book.here(branch) {
+        return Ok(Some((world.age(), world.clock())));
+    }
+    let Some(run) = frozen_of(alloc, book, branch)? else {
+        return Ok(None);
+    };
+    let end = run.events().len();
+    let tape = run.tape(alloc, end, &mut Tally::new())?;
+    Ok(Some((end, tape.clock())))
+}
+
+/// The place of a branch, or none if there is no such branch, or no memory to find it.
+pub(crate) fn place_of<N: Node<Meter = Tally>>(
+    alloc: Global,
+    book: &Book<N>,
+    branch: u32,
+) -> Option<u32> {
+    match whereabouts(alloc, book, branch) {
+        Ok(Some((place, _clock))) => Some(place),
+        Ok(None) | Err(_) => None,
+    }
+}
+
+/// Walks a tape past its next event, if there is one. The tape is warm then.
+pub(crate) fn pass<N: Node>(
+    alloc: Global,
+    tape: &mut Tape<N>,
+    meter: &mut N::Meter,
+) -> Result<(), NoMemory>
+    ensures { OnOk result (IsTrue tape.new.warm) }
+{
+    if tape.place() < tape.len() {
+        tape.forward(alloc, 1, meter)
+    } else {
+        tape.make_warm(alloc, meter)
+    }
+}
+
+/// What is asked of a world at a place, to tell an event that leads there or away.
+#[derive(Clone, Copy, Debug, PartialEq, Eq)]
+pub(crate) struct Serials {
+    /// The serial of the first pending occurrence.
+    pub(crate) first: Option<u64>,
+    /// The serial that the next occurrence gets.
+    pub(crate) next: u64,
+}
+
+fn serials_of<N: Node>(world: &World<N>) -> Serials {
+    let first = match world.first() {
+        Some((_due, serial, _occurrence)) => Some(serial),
+        None => None,
+    };
+    let next = world.next_serial();
+    Serials { first, next }
+}
+
+// What happens at an event, in words. It is told in the world before it.
+fn words_of<'x, N: Node<Meter = Tally>>(
+    alloc: Global,
+    names: &'x Names,
+    places: &'x Places,
+    world: &'x World<N>,
+    event: Event,
+) -> Result<String, NoMemory>
+where
+    N::Msg: Debug,
+{
+    let told = Told::new(alloc, world, event, &mut Tally::new())?;
+    let line = Line {
+        names,
+        places,
+        told: &told,
+    };
+    format!(in alloc; "{line}")
+}
+
+impl<'a, N: Node<Meter = Tally> + Debug> Run<'a, N>
+where
+    N::Msg: Debug,
+{
+    /// The kept events of a branch, or none if there is no such branch. The only error is want of
+    /// memory.
+    pub(crate) fn of(
+        alloc: Global,
+        names: &'a Names,
+        book: &Book<N>,
+        branch: u32,
+    ) -> Result<Option<Run<'a, N>>, NoMemory> {
+        let Some(frozen) = frozen_of(alloc, book, branch)? else {
+            return Ok(None);
+        };
+        let places = Places::new(alloc, &frozen, &mut Tally::new())?;
+        Ok(Some(Run {
+            alloc,
+            names,
+            frozen,
+            places,
+        }))
+    }
+
+    /// How many events are kept.
+    pub(crate) fn len(&self) -> u32
+        ensures { result ≡ length self.now.frozen.events }
+    {
+        self.frozen.events().len()
+    }
+
+    /// The event that leads to a place, or none if there is no such place or it is the start.
+    pub(crate) fn event(&self, place: u32) -> Option<Event> {
+        if place == 0 {
+            return None;
+        }
+        self.frozen.events().get(place - 1)
+    }
+
+    /// The serials at a place, or at the end if there is no such place. The only error is want of
+    /// memory.
+    pub(crate) fn serials(&self, place: u32) -> Result<Serials, NoMemory> {
+        let place = place.min(self.len());
+        let tape = self.frozen.tape(self.alloc, place, &mut Tally::new())?;
+        Ok(serials_of(tape.here()))
+    }
+
+    // Tells the next event of a tape, which leads to a place, and walks past it.
+    fn tell_next(&self, tape: &mut Tape<N>, place: u32, said: &mut String) -> Result<(), NoMemory> {
+        let Some(event) = self.event(place) else {
+            return Ok(());
+        };
+        let alloc = self.alloc;
+        let mut meter = Tally::new();
+        tape.make_warm(alloc, &mut meter)?;
+        let words = words_of(alloc, self.names, &self.places, tape.here(), event)?;
+        pass(alloc, tape, &mut meter)?;
+        let clock = tape.clock();
+        writeln!(said, "{place} clock {clock}: {words}")
+    }
+
+    /// Tells the events from one to another, those that there are. The only error is want of memory.
+    pub(crate) fn tell(&self, from: u32, to: u32, said: &mut String) -> Result<(), NoMemory> {
+        let before = from.saturating_sub(1).min(self.len());
+        let to = to.min(self.len());
+        let mut tape = self.frozen.tape(self.alloc, before, &mut Tally::new())?;
+        for place in before..to {
+            self.tell_next(&mut tape, place.saturating_add(1), said)?;
+        }
+        Ok(())
+    }
+
+    // Tells the events at which what has one of these serials happens.
+    fn tell_steps(&self, from: u64, to: u64, said: &mut String) -> Result<(), NoMemory> {
+        for serial in from..to {
+            if let Some(place) = self.places.step_of(serial) {
+                said.push_str("leads to ")?;
+                self.tell(place, place, said)?;
+            }
+        }
+        Ok(())
+    }
+
+    // Tells which event queued what happens at a step, from this place on.
+    fn tell_cause(&self, before: Serials, said: &mut String) -> Result<(), NoMemory> {
+        let Some(serial) = before.first else {
+            return Ok(());
+        };
+        match self.places.queued_by(serial) {
+            Some(cause) => {
+                said.push_str("caused by ")?;
+                self.tell(cause, cause, said)
+            }
+            None => said.push_str("pending from the start\n"),
+        }
+    }
+
+    /// Tells the event that leads to a place, what caused it and what it led to. The only error is
+    /// want of memory.
+    pub(crate) fn tell_event(&self, place: u32, said: &mut String) -> Result<(), NoMemory> {
+        let Some(event) = self.event(place) else {
+            let len = self.len();
+            return writeln!(
+                said,
+                "there is no event {place}; the last kept event is {len}"
+            );
+        };
+        self.tell(place, place, said)?;
+        let before = self.serials(place.saturating_sub(1))?;
+        if event == Event::Step {
+            self.tell_cause(before, said)?;
+        }
+        let after = self.serials(place)?;
+        self.tell_steps(before.next, after.next, said)
+    }
+}
