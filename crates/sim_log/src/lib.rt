@@ -4,7 +4,8 @@
 //!   crash takes out of the queue and keeps of each write.
 //! - [`Places`] knows where in a run each occurrence was queued, and where it happened.
 //! - [`Line`] shows an event in words, for people and for `grep`.
-//! - [`first_rows`], [`rows_of`] and [`rows_after`] list what was there at the start and what an event
+//! - [`Teller`] writes the lines of the events of a run, in words or as JSON objects.
+//! - [`first_rows`], [`rows_before`] and [`rows_after`] list what was there at the start and what an event
 //!   brings about, as rows of JSON; the page of a run reads them.
 //!
 //! ```text
@@ -12,18 +13,21 @@
 //! format!(in alloc; "{}", Line { names, places: &places, told: &told })?
 //! ```
 //!
-//! What is told is what happens. By its contract [`Told`] has the reaction that the next step will be
+//! What is told is what happens. By its contract a [`Teller`] writes a line for each event, with its place and
+//! the clock of the world there, and [`Told`] has the reaction that the next step will be
 //! and the bytes that a crash will keep; everything else is lent by the world before the event. How it
 //! is worded is tested and not proved: messages and states are shown by `Debug`, whose texts no
 //! contract can name.
 #![tactic(auto)]
 
 mod line;
+mod lines;
 mod places;
 mod rows;
 mod told;
 
 pub use line::Line;
+pub use lines::Teller;
 pub use places::Places;
-pub use rows::{first_rows, rows_after, rows_of};
+pub use rows::{first_rows, rows_after, rows_before};
 pub use told::{LinkFault, Told};

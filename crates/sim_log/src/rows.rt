@@ -214,9 +214,8 @@ fn state_word(state: LinkState) -> &'static str {
     }
 }
 
-/// The rows of an event: the event itself, and then what it brings about, in order, but for those that
-/// [`rows_after`] adds. The only error is want of memory.
-pub fn rows_of<N: Node + fmt::Debug>(
+// The rows of an event that was gathered.
+fn rows_of<N: Node + fmt::Debug>(
     alloc: Global,
     told: &Told<'_, N>,
 ) -> Result<Vec<Value>, NoMemory>
@@ -236,6 +235,21 @@ where
         }
     }
     Ok(rows.into_vec())
+}
+
+/// The rows of an event, told in the world before it: the event itself, and then what it brings about, in
+/// order, but for those that [`rows_after`] adds. The only error is want of memory.
+pub fn rows_before<N: Node + fmt::Debug>(
+    alloc: Global,
+    world: &World<N>,
+    event: Event,
+    meter: &mut N::Meter,
+) -> Result<Vec<Value>, NoMemory>
+where
+    N::Msg: fmt::Debug,
+{
+    let told = Told::new(alloc, world, event, meter)?;
+    rows_of(alloc, &told)
 }
 
 /// The rows that the world after an event adds: those of a bounce are the node that booted, and its start.

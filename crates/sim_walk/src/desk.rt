@@ -1,10 +1,14 @@
 //! What is answered to an order, and what it does to the book.
-ghost use Rattle.std.specs.Prelude.{◌≡◌, [], IfOk, string_bytes};
+ghost use Rattle.std.specs.Prelude.{◌≡◌, ◌≤◌, [], length, IfOk, string_bytes};
 ghost use Rattle.sim_world.specs.Events.{rules};
+ghost use Rattle.sim_book.specs.Book.{branch as branch_in, branch_of};
+ghost use Rattle.sim_book.specs.Kept.{all_shown};
 ghost use Rattle.sim_cli.specs.Turns.{course_of, Takes};
 ghost use Rattle.sim_replies.specs.Lines.{turn_line};
-ghost use Rattle.sim_walk.specs.Walks.{Replies};
+ghost use Rattle.sim_walk.specs.Accounts.{Accounts, IsWithin};
+ghost use Rattle.sim_walk.specs.Walks.{TakesTurn, Stays, Walks};
 
+use crate::account::{Account, Departure, account_of, departure_of};
 use crate::order::{Order, Request, Shown, Sought};
 use crate::run::{Run, place_of, whereabouts};
 use crate::saying::{Known, tell_not_taken};
@@ -13,29 +17,36 @@ use crate::showing::Sight;
 use crate::terms::tell_failing;
 use crate::topic::tell_help;
 use sim_book::{Book, Command, Entry, NotTaken, Refusal, Reply};
-use sim_cli::{Opened, Tally, turn_of};
+use sim_cli::{Opened, Tally};
 use sim_export::{InputError, input_of};
 use sim_node::{NoMemory, Node};
 use sim_replies::tell_turn;
-use sim_script::Ask;
 use sim_tape::EventList;
 use sim_watch::BadTerm;
 use sim_world::Event;
 use std::alloc::Global;
 use std::fmt::Debug;
 
-/// So many events are told after a move.
-const MAX_TOLD: u32 = 20;
-
 /// The session of a walk.
 const SESSION: u8 = 0;
 
 /// What is written for an order: the line that replies to a turn of the book, if there was one, and
-/// what is said in words.
+/// what is told.
 #[derive(Drop)]
 pub(crate) struct Answer {
     pub(crate) reply: String,
-    pub(crate) said: String,
+    pub(crate) account: Account,
+}
+
+impl Answer {
+    // Words alone.
+    fn of_words(alloc: Global, said: String) -> Answer
+        ensures reply { string_bytes result.reply ≡ [] }
+    {
+        let reply = String::new(alloc);
+        let account = Account::of_words(alloc, said);
+        Answer { reply, account }
+    }
 }
 
 /// What a walk has at hand.
@@ -56,18 +67,34 @@ fn events_before(alloc: Global, list: &EventList, place: u32) -> Result<Vec<Even
     Ok(events)
 }
 
-/// Goes to a place of a branch.
-fn turn_to<N: Node>(
+// The branch of which a command speaks.
+fn branch_of(command: &Command) -> u32
+    ensures { result ≡ branch_of command.now }
+{
+    match command {
+        Command::Step(b) | Command::Tick(b) | Command::Cut(b) | Command::Freeze(b) => *b,
+        Command::Run(b, _) | Command::Back(b, _) | Command::Forward(b, _) => *b,
+        Command::Goto(b, _) | Command::Rewind(b, _) | Command::Branch(b, _) => *b,
+        Command::Fault(b, _) => *b,
+        Command::Watch(b, _) => *b,
+        Command::Unwatch(b, _) => *b,
+        Command::Look(b, _) => *b,
+    }
+}
+
+// Takes a command. Where it moved the branch, the place is one of the branch.
+fn turn_on<N: Node>(
     alloc: Global,
     book: &mut Book<N>,
-    branch: u32,
-    place: u32,
+    command: Command,
 ) -> Result<Entry, NotTaken>
     ensures takes { Takes (rules N.laws N.PROBES book.old.scenario) (course_of book.old)
-        (Command.Goto branch place) result (course_of book.new) }
+        command result (course_of book.new) }
     ensures scenario { book.new.scenario ≡ book.old.scenario }
+    ensures within { IsWithin result
+        (branch_in (branch_of command) (all_shown book.new.kept)).events }
 {
-    book.turn(alloc, SESSION, Command::Goto(branch, place))
+    book.turn(alloc, SESSION, command)
 }
 
 impl Desk<'_> {
@@ -81,67 +108,33 @@ impl Desk<'_> {
         }
     }
 
-    // Tells the events that a move passed, or after a move back the next one.
-    fn tell_move<N: Node<Meter = Tally> + Debug>(
+    // The account of a turn on a branch.
+    fn account<N: Node<Meter = Tally> + Debug>(
         &self,
         book: &Book<N>,
         branch: u32,
-        from: u32,
-        to: u32,
-        said: &mut String,
-    ) -> Result<(), NoMemory>
-    where
-        N::Msg: Debug,
-    {
-        if from == to {
-            return Ok(());
-        }
-        let Some(run) = Run::of(self.alloc, &self.opened.names, book, branch)? else {
-            return Ok(());
-        };
-        if to < from {
-            let count = from - to;
-            write!(said, "back by {count}; next is ")?;
-            let next = to.saturating_add(1);
-            return run.tell(next, next, said);
-        }
-        let last = to.min(from.saturating_add(MAX_TOLD));
-        run.tell(from.saturating_add(1), last, said)?;
-        if last < to {
-            let (left, next) = (to - last, last.saturating_add(1));
-            writeln!(said, ".. and {left} more: `log {next} {to}` tells them")?;
-        }
-        Ok(())
-    }
-
-    // Says in words what a turn on a branch did, which was at a place before.
-    fn say_turn<N: Node<Meter = Tally> + Debug>(
-        &self,
-        book: &Book<N>,
-        branch: u32,
-        before: Option<u32>,
+        left: Departure,
         turn: &Result<Entry, NotTaken>,
-    ) -> Result<String, NoMemory>
+    ) -> Result<Account, NoMemory>
     where
         N::Msg: Debug,
+        requires { IsWithin turn.now (branch_in branch (all_shown book.now.kept)).events }
+        ensures { IfOk result (λ a. Accounts (rules N.laws N.PROBES book.now.scenario) left.kept
+            (branch_in branch (all_shown book.now.kept)).events turn.now a.told.items) }
     {
         let mut said = String::new(self.alloc);
-        let entry = match turn {
-            Ok(entry) => entry,
-            Err(why) => {
-                tell_not_taken(*why, &mut said)?;
-                return Ok(said);
-            }
-        };
-        match &entry.reply {
-            Reply::Moved { place, .. } => {
-                let from = before.unwrap_or(*place);
-                self.tell_move(book, branch, from, *place, &mut said)?;
-            }
-            Reply::Refused(why) => self.known(N::PROBES).tell_refusal(*why, &mut said)?,
-            Reply::Made(_) | Reply::Dropped(_) | Reply::Seen { .. } | Reply::Frozen(_) => {}
+        match turn {
+            Ok(entry) => match &entry.reply {
+                Reply::Moved { place, .. } => {
+                    let names = &self.opened.names;
+                    return account_of(self.alloc, names, book, branch, left, *place);
+                }
+                Reply::Refused(why) => self.known(N::PROBES).tell_refusal(*why, &mut said)?,
+                Reply::Made(_) | Reply::Dropped(_) | Reply::Seen { .. } | Reply::Frozen(_) => {}
+            },
+            Err(why) => tell_not_taken(*why, &mut said)?,
         }
-        Ok(said)
+        Ok(Account::of_words(self.alloc, said))
     }
 
     // The answer where a place was not found.
@@ -154,8 +147,7 @@ impl Desk<'_> {
             SeekError::Refused(why) => self.known(probes).tell_refusal(why, &mut said)?,
             SeekError::NoMemory => said.push_str("there was not enough memory\n")?,
         }
-        let reply = String::new(self.alloc);
-        Ok(Answer { reply, said })
+        Ok(Answer::of_words(self.alloc, said))
     }
 
     // The line that tells a turn.
@@ -168,25 +160,24 @@ impl Desk<'_> {
         Ok(reply)
     }
 
-    // Takes a command of a script on a branch.
-    fn ask<N: Node<Meter = Tally> + Debug>(
+    // Takes a command.
+    fn take<N: Node<Meter = Tally> + Debug>(
         &self,
         book: &mut Book<N>,
-        branch: u32,
-        ask: Ask,
+        command: Command,
     ) -> Result<Answer, NoMemory>
     where
         N::Msg: Debug,
-        ensures turn { Replies (rules N.laws N.PROBES book.old.scenario)
-            self.now.opened.now.names (course_of book.old) branch (Order.Asked ask) result
-            (course_of book.new) }
+        ensures turn { TakesTurn (rules N.laws N.PROBES book.old.scenario)
+            self.now.opened.now.names (course_of book.old) command result (course_of book.new) }
         ensures scenario { book.new.scenario ≡ book.old.scenario }
     {
-        let before = place_of(self.alloc, book, branch);
-        let turn = turn_of(self.alloc, book, ask);
+        let branch = branch_of(&command);
+        let left = departure_of(self.alloc, book, branch);
+        let turn = turn_on(self.alloc, book, command);
         let reply = self.reply_to(&turn)?;
-        let said = self.say_turn(book, branch, before, &turn)?;
-        Ok(Answer { reply, said })
+        let account = self.account(book, branch, left?, &turn)?;
+        Ok(Answer { reply, account })
     }
 
     // Why what is sought can't be asked for, or nothing.
@@ -247,17 +238,14 @@ impl Desk<'_> {
     ) -> Result<Answer, NoMemory>
     where
         N::Msg: Debug,
-        ensures turn { Replies (rules N.laws N.PROBES book.old.scenario)
-            self.now.opened.now.names (course_of book.old) branch (Order.Sought sought.now) result
+        ensures turn { TakesTurn (rules N.laws N.PROBES book.old.scenario)
+            self.now.opened.now.names (course_of book.old) (Command.Goto branch place) result
             (course_of book.new) }
         ensures scenario { book.new.scenario ≡ book.old.scenario }
     {
-        let before = place_of(self.alloc, book, branch);
-        let turn = turn_to(self.alloc, book, branch, place);
-        let reply = self.reply_to(&turn)?;
-        let mut said = self.say_turn(book, branch, before, &turn)?;
-        self.tell_found(book, branch, sought, &mut said)?;
-        Ok(Answer { reply, said })
+        let mut answer = self.take(book, Command::Goto(branch, place))?;
+        self.tell_found(book, branch, sought, &mut answer.account.said)?;
+        Ok(answer)
     }
 
     // Looks for a place, and goes there.
@@ -269,7 +257,7 @@ impl Desk<'_> {
     ) -> Result<Answer, NoMemory>
     where
         N::Msg: Debug,
-        ensures looks { Replies (rules N.laws N.PROBES book.old.scenario)
+        ensures looks { Walks (rules N.laws N.PROBES book.old.scenario)
             self.now.opened.now.names (course_of book.old) branch (Order.Sought sought.now) result
             (course_of book.new) }
         ensures scenario { book.new.scenario ≡ book.old.scenario }
@@ -373,8 +361,7 @@ impl Desk<'_> {
             Shown::Help(about) => tell_help(*about, &mut said)?,
             _ => self.tell_branch(book, branch, shown, &mut said)?,
         }
-        let reply = String::new(self.alloc);
-        Ok(Answer { reply, said })
+        Ok(Answer::of_words(self.alloc, said))
     }
 
     // Says where a branch is.
@@ -394,8 +381,7 @@ impl Desk<'_> {
                 .known(N::PROBES)
                 .tell_refusal(Refusal::UnknownBranch, &mut said)?,
         }
-        let reply = String::new(self.alloc);
-        Ok(Answer { reply, said })
+        Ok(Answer::of_words(self.alloc, said))
     }
 
     /// Carries out an order on a book. The only error is want of memory.
@@ -406,21 +392,20 @@ impl Desk<'_> {
     ) -> Result<Answer, NoMemory>
     where
         N::Msg: Debug,
-        ensures replies { Replies (rules N.laws N.PROBES book.old.scenario)
+        ensures walks { Walks (rules N.laws N.PROBES book.old.scenario)
             self.now.opened.now.names (course_of book.old) request.branch
             request.order result (course_of book.new) }
         ensures scenario { book.new.scenario ≡ book.old.scenario }
     {
         let Request { branch, order } = request;
         match order {
-            Order::Asked(ask) => self.ask(book, branch, ask),
+            Order::Asked(command) => self.take(book, command),
             Order::Sought(sought) => self.look_for(book, branch, &sought),
             Order::Shown(shown) => self.show(book, branch, &shown),
             Order::Branch => self.say_branch(book, branch),
-            Order::Nothing | Order::Quit => Ok(Answer {
-                reply: String::new(self.alloc),
-                said: String::new(self.alloc),
-            }),
+            Order::Nothing | Order::Quit => {
+                Ok(Answer::of_words(self.alloc, String::new(self.alloc)))
+            }
         }
     }
 }

@@ -33,6 +33,7 @@
 //! - Want of memory for an answer is told, and the walk goes on: the book is as its contract says.
 #![tactic(auto)]
 
+mod account;
 mod desk;
 mod order;
 mod run;

@@ -43,7 +43,7 @@ pub(crate) enum Order {
     /// A comment, or a line of spaces.
     Nothing,
     /// A line of a script.
-    Asked(Ask),
+    Asked(Command),
     Sought(Sought),
     Shown(Shown),
     /// A branch for the lines that name none.
@@ -125,13 +125,13 @@ impl Reading<'_> {
 
     // A line of a script, on the branch of the line.
     fn on_branch(&self, name: &str, rest: &str) -> Result<Order, OrderError> {
-        let ask = self.line(name, rest)?;
+        let command = self.command(name, rest)?;
         if self.branch == 0 {
-            return Ok(Order::Asked(ask));
+            return Ok(Order::Asked(command));
         }
         let branch = self.branch;
         let begin = format!(in self.alloc; "@{branch} {name}")?;
-        Ok(Order::Asked(self.line(begin.as_str(), rest)?))
+        Ok(Order::Asked(self.command(begin.as_str(), rest)?))
     }
 
     // No more words.

@@ -1,9 +1,14 @@
 //! The kept events of a branch, told one after the other.
-ghost use Rattle.std.specs.Prelude.{◌≡◌, IsTrue, OnOk, length};
+ghost use Rattle.std.specs.Prelude.{◌≡◌, ◌+◌, ◌-◌, false, length, IfOk, IsTrue, OnOk};
+ghost use Rattle.std.specs.Option.{option_map};
+ghost use Rattle.sim_world.specs.Events.{rules};
+ghost use Rattle.sim_book.specs.Freezing.{IsWhole};
+ghost use Rattle.sim_log.specs.Lines.{AreLines};
+ghost use Rattle.sim_log.specs.Range.{IsRange};
 
 use sim_book::Book;
 use sim_cli::Tally;
-use sim_log::{Line, Places, Told};
+use sim_log::{Places, Teller};
 use sim_node::{NoMemory, Node};
 use sim_script::Names;
 use sim_tape::{Frozen, Tape};
@@ -25,7 +30,9 @@ pub(crate) fn frozen_of<N: Node>(
     alloc: Global,
     book: &Book<N>,
     branch: u32,
-) -> Result<Option<Frozen<N>>, NoMemory> {
+) -> Result<Option<Frozen<N>>, NoMemory>
+    ensures { IfOk result (IsWhole book.now.scenario book.now.kept branch) }
+{
     match book.warm(branch) {
         None => Ok(None),
         Some(_) => Ok(Some(book.frozen(alloc, branch)?)),
@@ -95,26 +102,6 @@ fn serials_of<N: Node>(world: &World<N>) -> Serials {
     Serials { first, next }
 }
 
-// What happens at an event, in words. It is told in the world before it.
-fn words_of<'x, N: Node<Meter = Tally>>(
-    alloc: Global,
-    names: &'x Names,
-    places: &'x Places,
-    world: &'x World<N>,
-    event: Event,
-) -> Result<String, NoMemory>
-where
-    N::Msg: Debug,
-{
-    let told = Told::new(alloc, world, event, &mut Tally::new())?;
-    let line = Line {
-        names,
-        places,
-        told: &told,
-    };
-    format!(in alloc; "{line}")
-}
-
 impl<'a, N: Node<Meter = Tally> + Debug> Run<'a, N>
 where
     N::Msg: Debug,
@@ -126,7 +113,10 @@ where
         names: &'a Names,
         book: &Book<N>,
         branch: u32,
-    ) -> Result<Option<Run<'a, N>>, NoMemory> {
+    ) -> Result<Option<Run<'a, N>>, NoMemory>
+        ensures { IfOk result (λ o. IsWhole book.now.scenario book.now.kept branch
+            (option_map (λ run. run.frozen) o)) }
+    {
         let Some(frozen) = frozen_of(alloc, book, branch)? else {
             return Ok(None);
         };
@@ -162,29 +152,29 @@ where
         Ok(serials_of(tape.here()))
     }
 
-    // Tells the next event of a tape, which leads to a place, and walks past it.
-    fn tell_next(&self, tape: &mut Tape<N>, place: u32, said: &mut String) -> Result<(), NoMemory> {
-        let Some(event) = self.event(place) else {
-            return Ok(());
+    /// The lines of the events from one to another. The only error is want of memory.
+    pub(crate) fn lines(&self, first: u32, last: u32) -> Result<Vec<u8>, NoMemory>
+        requires { IsRange first last (length self.now.frozen.events) }
+        ensures { IfOk result (λ log. AreLines
+            (rules N.laws N.PROBES self.now.frozen.scenario) self.now.frozen.events
+            false first (last + 1 - first) log.items) }
+    {
+        let teller = Teller {
+            alloc: self.alloc,
+            names: self.names,
+            places: &self.places,
         };
-        let alloc = self.alloc;
-        let mut meter = Tally::new();
-        tape.make_warm(alloc, &mut meter)?;
-        let words = words_of(alloc, self.names, &self.places, tape.here(), event)?;
-        pass(alloc, tape, &mut meter)?;
-        let clock = tape.clock();
-        writeln!(said, "{place} clock {clock}: {words}")
+        teller.lines(&self.frozen, false, first, last, &mut Tally::new())
     }
 
     /// Tells the events from one to another, those that there are. The only error is want of memory.
     pub(crate) fn tell(&self, from: u32, to: u32, said: &mut String) -> Result<(), NoMemory> {
-        let before = from.saturating_sub(1).min(self.len());
-        let to = to.min(self.len());
-        let mut tape = self.frozen.tape(self.alloc, before, &mut Tally::new())?;
-        for place in before..to {
-            self.tell_next(&mut tape, place.saturating_add(1), said)?;
+        let (first, last) = (from.max(1), to.min(self.len()));
+        if last < first {
+            return Ok(());
         }
-        Ok(())
+        let lines = self.lines(first, last)?;
+        said.push_str(str::from_utf8(lines.as_slice()).unwrap_or(""))
     }
 
     // Tells the events at which what has one of these serials happens.

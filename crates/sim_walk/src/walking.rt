@@ -4,8 +4,9 @@ ghost use Rattle.std.specs.Io.KnownBytes.{Appends};
 ghost use Rattle.sim_world.specs.Events.{rules};
 ghost use Rattle.sim_cli.specs.Turns.{course_of};
 ghost use Rattle.sim_walk.specs.Growth.{Grows};
-ghost use Rattle.sim_walk.specs.Walks.{CarriesOut};
+ghost use Rattle.sim_walk.specs.Walks.{CarriesOut, account_text, text_of};
 
+use crate::account::Account;
 use crate::desk::{Answer, Desk};
 use crate::order::{Order, Request, order_of};
 use crate::run::whereabouts;
@@ -199,10 +200,26 @@ where
 fn write_answer<W: Write>(answer: &Answer, writer: &mut W) -> Turned
     ensures grows { Grows (W.contents writer.old) (W.contents writer.new) }
     ensures on { result ≡ Turned.On → Appends (W.contents writer.old) (W.contents writer.new)
-        (string_bytes answer.now.reply ++ string_bytes answer.now.said) }
+        (text_of answer.now) }
 {
     match say(writer, answer.reply.as_bytes()) {
-        Turned::On => say(writer, answer.said.as_bytes()),
+        Turned::On => write_account(&answer.account, writer),
+        Turned::Ended(status) => Turned::Ended(status),
+    }
+}
+
+// Writes the lines of an account between its words.
+fn write_account<W: Write>(account: &Account, writer: &mut W) -> Turned
+    ensures grows { Grows (W.contents writer.old) (W.contents writer.new) }
+    ensures on { result ≡ Turned.On → Appends (W.contents writer.old) (W.contents writer.new)
+        (account_text account.now) }
+{
+    match say(writer, account.lead.as_bytes()) {
+        Turned::On => {}
+        Turned::Ended(status) => return Turned::Ended(status),
+    }
+    match say(writer, account.told.as_slice()) {
+        Turned::On => say(writer, account.said.as_bytes()),
         Turned::Ended(status) => Turned::Ended(status),
     }
 }
