@@ -3,7 +3,7 @@
 //! What each test catches:
 //! - `from_the_failing_place_to_its_cause`: a session on a run that fails, whose answers leave out
 //!   what leads to the cause, or tell another.
-//! - `commands`: a command whose answer is another one, a short name that is not taken, and a mistake
+//! - `commands`, `other_commands`: a command whose answer is another one, a short name that is not taken, and a mistake
 //!   that is told as another.
 //! - `a_prompt`: a prompt with another branch, place or clock, or none.
 //! - `a_fault_of_the_script`: a script at fault that is walked nevertheless.
@@ -302,6 +302,82 @@ w next 1
 > quit
 ";
 
+const OTHER_COMMANDS: &str = "\
+partition a w
+repair a w
+cutoneway w a
+repaironeway w a
+hold a w
+release a w
+run 9
+watch done w
+rewind 9
+unwatch 0
+unwatch 0
+cut
+forward
+r
+r 1
+bounce w
+? quit
+goto 0
+q
+";
+
+const OTHER_ANSWERS: &str = "\
+> partition a w
+place 5 clock 20
+5 clock 20: partition a w
+> repair a w
+place 6 clock 20
+6 clock 20: repair a w
+> cutoneway w a
+place 7 clock 20
+7 clock 20: cutoneway w a
+> repaironeway w a
+place 8 clock 20
+8 clock 20: repaironeway w a
+> hold a w
+place 9 clock 20
+9 clock 20: hold a w
+> release a w
+place 10 clock 20
+10 clock 20: release a w
+> run 9
+place 12 clock 40 all done
+11 clock 30: a gets Ping(2) from w (sent at 4): sends Pong(2) to w, due 40 (arrives at 12)
+12 clock 40: w gets Pong(2) from a (sent at 11): is done
+> watch done w
+made 0
+> rewind 9
+place 11 clock 30 watch 0
+back by 1; next is 12 clock 40: w gets Pong(2) from a (sent at 11): is done
+> unwatch 0
+dropped 0
+> unwatch 0
+refused 10 UnknownWatch
+there is no such watch
+> cut
+place 11 clock 30
+> forward
+refused 5 TooFar
+there is no such place among the kept events
+> r
+a word is missing at the end: expected a number of 1 to 9 digits
+> r 1
+place 12 clock 40 all done
+12 clock 40: w gets Pong(2) from a (sent at 11): is done
+> bounce w
+place 13 clock 40
+13 clock 40: bounce w
+> ? quit
+        quit           q  ends the walk, as the end of the input does
+> goto 0
+place 0 clock 0
+back by 13; next is 1 clock 0: a starts
+> q
+";
+
 // A walk of an input writes this for these commands, and ends well.
 fn is_walked<R: Eprint + Abort>(
     rt: &R,
@@ -337,6 +413,11 @@ fn from_the_failing_place_to_its_cause(rt: HostRuntime) -> Result<(), Fail> {
 #[test]
 fn commands(rt: HostRuntime) -> Result<(), Fail> {
     is_walked(&rt, rt.alloc(), PINGS, COMMANDS, false, ANSWERS)
+}
+
+#[test]
+fn other_commands(rt: HostRuntime) -> Result<(), Fail> {
+    is_walked(&rt, rt.alloc(), PINGS, OTHER_COMMANDS, false, OTHER_ANSWERS)
 }
 
 #[test]
