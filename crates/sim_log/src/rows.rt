@@ -215,10 +215,7 @@ fn state_word(state: LinkState) -> &'static str {
 }
 
 // The rows of an event that was gathered.
-fn rows_of<N: Node + fmt::Debug>(
-    alloc: Global,
-    told: &Told<'_, N>,
-) -> Result<Vec<Value>, NoMemory>
+fn rows_of<N: Node + fmt::Debug>(alloc: Global, told: &Told<'_, N>) -> Result<Vec<Value>, NoMemory>
 where
     N::Msg: fmt::Debug,
 {

@@ -1,5 +1,5 @@
 //! The account of a turn: the lines of the events that it passed.
-ghost use Rattle.std.specs.Prelude.{◌≡◌, ◌+◌, ◌<◌, ◌≤◌, [], false, length, min, IfOk};
+ghost use Rattle.std.specs.Prelude.{◌≡◌, ◌+◌, ◌<◌, ◌≤◌, [], false, length, min, max, IfOk};
 ghost use Rattle.sim_world.specs.Events.{rules};
 ghost use Rattle.sim_book.specs.Book.{branch as branch_in};
 ghost use Rattle.sim_book.specs.Kept.{all_shown};
@@ -14,7 +14,7 @@ use sim_script::Names;
 use std::alloc::Global;
 use std::fmt::Debug;
 
-/// At most so many events are told after a move.
+/// At most this many events are told after a move.
 const MAX_TOLD: u32 = 20;
 
 /// A branch before a turn.
@@ -27,8 +27,8 @@ pub(crate) struct Departure {
 }
 
 impl Departure {
-    // The place from which its way is told, where so many events are kept now: where events were added,
-    // they are the way.
+    // The place from which its way is told, if `len` events are kept now: if events were added, they are the
+    // way.
     fn start(self, len: u32) -> u32
         ensures within { result ≤ len }
         ensures added { self.kept < len → result ≡ self.kept }
@@ -82,9 +82,13 @@ impl Account {
 // How many events are told of a way.
 fn told_count(from: u32, to: u32) -> u32
     ensures value { result ≡ told_count from to }
-    ensures within { min from to + result ≤ from ⊎ min from to + result ≤ to }
+    ensures within { min from to + result ≤ max from to }
 {
-    if to < from { 1 } else { (to - from).min(MAX_TOLD) }
+    if to < from {
+        1
+    } else {
+        (to - from).min(MAX_TOLD)
+    }
 }
 
 // The lines of the events of a way.

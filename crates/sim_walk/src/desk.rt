@@ -83,11 +83,7 @@ fn branch_of(command: &Command) -> u32
 }
 
 // Takes a command. Where it moved the branch, the place is one of the branch.
-fn turn_on<N: Node>(
-    alloc: Global,
-    book: &mut Book<N>,
-    command: Command,
-) -> Result<Entry, NotTaken>
+fn turn_on<N: Node>(alloc: Global, book: &mut Book<N>, command: Command) -> Result<Entry, NotTaken>
     ensures takes { Takes (rules N.laws N.PROBES book.old.scenario) (course_of book.old)
         command result (course_of book.new) }
     ensures scenario { book.new.scenario ≡ book.old.scenario }

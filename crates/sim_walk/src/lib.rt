@@ -5,18 +5,21 @@
 //! - A [`Style`] says whether a prompt is written, as for a terminal, or each command before its answer.
 //!
 //! Inside, a line becomes an order (`order.rt`) by the table of commands (`topic.rt`); the desk
-//! (`desk.rt`) carries it out on the book and gives an answer: the line that replies to a turn, and
-//! words. What is told comes from the run of the branch (`run.rt`) and from its world (`showing.rt`,
-//! `terms.rt`); `seeking.rt` finds the places that a command looks for, and `saying.rt` has the
-//! sentences.
+//! (`desk.rt`) carries it out on the book and gives an answer: the line that replies to a turn, its
+//! account (`account.rt`), and words. What is told comes from the run of the branch (`run.rt`) and from
+//! its world (`showing.rt`, `terms.rt`); `seeking.rt` finds the places that a command looks for, and
+//! `saying.rt` has the sentences.
 //!
 //! What is proved:
 //!
 //! - A line of a script is one turn of the book, as in a play, and the answer replies with the line of
 //!   that turn. A command that looks for a place is a turn that goes there, or changes nothing. Any
-//!   other command changes nothing. `Walks` in `specs/Walks.antt` says so, and the desk's contract
-//!   cites it.
-//! - What the writer holds only grows (`Grows` in `specs/Growth.antt`).
+//!   other command changes nothing. `Walks` in `specs/Walks.antt` says so, and the contract of
+//!   `Desk::answer` cites it.
+//! - The answer to a turn has the lines of the events that it passed, 20 at most, or after a move back
+//!   the line of the next one: `IsAccount` in `specs/Accounts.antt`, over the lines of `sim_log`.
+//! - What is written for a command is its answer (`CarriesOut`), and what the writer holds only grows
+//!   (`Grows` in `specs/Growth.antt`).
 //!
 //! What is said in words is tested and not proved: messages and states are shown by `Debug`, whose
 //! texts no contract can name. That what an event is told to do happens is a fact of `sim_log`.

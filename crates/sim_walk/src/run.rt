@@ -39,8 +39,9 @@ pub(crate) fn frozen_of<N: Node>(
     }
 }
 
-/// The place and the clock (ms) of a branch, or none if there is no such branch. A branch whose world is
-/// not at hand, as one that was just made, is at its end. The only error is want of memory.
+/// The place and the clock (ms) of a branch, or none if there is no such branch. A branch without its
+/// world in hand is one that was just made, and so at its end; or memory was wanted to move it, and its
+/// place is known again once it has moved. The only error is want of memory.
 pub(crate) fn whereabouts<N: Node<Meter = Tally>>(
     alloc: Global,
     book: &Book<N>,
