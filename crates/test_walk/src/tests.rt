@@ -5,6 +5,7 @@
 //!   what leads to the cause, or tell another.
 //! - `commands`, `other_commands`: a command whose answer is another one, a short name that is not taken, and a mistake
 //!   that is told as another.
+//! - `a_long_way`: a move that tells more or fewer than 20 events, or leaves the others out in silence.
 //! - `a_prompt`: a prompt with another branch, place or clock, or none.
 //! - `a_fault_of_the_script`: a script at fault that is walked nevertheless.
 use sim_cli::{Shipped, Status};
@@ -378,6 +379,63 @@ back by 13; next is 1 clock 0: a starts
 > q
 ";
 
+// Twelve times a link is held and let go: 24 events.
+const MANY_HOLDS: &str = "\
+hold a w
+release a w
+hold a w
+release a w
+hold a w
+release a w
+hold a w
+release a w
+hold a w
+release a w
+hold a w
+release a w
+hold a w
+release a w
+hold a w
+release a w
+hold a w
+release a w
+hold a w
+release a w
+hold a w
+release a w
+hold a w
+release a w
+";
+
+const A_LONG_WAY: &str = "\
+> goto 4
+place 4 clock 20
+back by 24; next is 5 clock 20: hold a w
+> forward 24
+place 28 clock 20
+5 clock 20: hold a w
+6 clock 20: release a w
+7 clock 20: hold a w
+8 clock 20: release a w
+9 clock 20: hold a w
+10 clock 20: release a w
+11 clock 20: hold a w
+12 clock 20: release a w
+13 clock 20: hold a w
+14 clock 20: release a w
+15 clock 20: hold a w
+16 clock 20: release a w
+17 clock 20: hold a w
+18 clock 20: release a w
+19 clock 20: hold a w
+20 clock 20: release a w
+21 clock 20: hold a w
+22 clock 20: release a w
+23 clock 20: hold a w
+24 clock 20: release a w
+.. and 4 more: `log 25 28` tells them
+";
+
 // A walk of an input writes this for these commands, and ends well.
 fn is_walked<R: Eprint + Abort>(
     rt: &R,
@@ -418,6 +476,20 @@ fn commands(rt: HostRuntime) -> Result<(), Fail> {
 #[test]
 fn other_commands(rt: HostRuntime) -> Result<(), Fail> {
     is_walked(&rt, rt.alloc(), PINGS, OTHER_COMMANDS, false, OTHER_ANSWERS)
+}
+
+#[test]
+fn a_long_way(rt: HostRuntime) -> Result<(), Fail> {
+    let input = format!(in rt.alloc(); "{PINGS}{MANY_HOLDS}")?;
+    let input = input.as_str();
+    is_walked(
+        &rt,
+        rt.alloc(),
+        input,
+        "goto 4\nforward 24\n",
+        false,
+        A_LONG_WAY,
+    )
 }
 
 #[test]
