@@ -103,6 +103,7 @@ module _ (rows : List Row) where
   not_search none (job.Shrink progress cond) h = apart (codes "search") (codes "shrink") h.0 refl refl
   not_search none (job.Log from to json) h = apart (codes "search") (codes "log") h.0 refl refl
   not_search none (job.Page title watch) h = apart (codes "search") (codes "page") h.0 refl refl
+  not_search none job.Walk h = apart (codes "search") (codes "walk") h refl refl
 
   not_sweep : ((team : Team) (plan : FaultPlan) (first count events : ℕ) → HasTeam rows team → HasFaultPlan rows plan → HasNumber (codes "first") rows first → HasNumber (codes "count") rows count → HasNumber (codes "events") rows events → ⊥) → (asked : Job) → ¬ Asks (codes "sweep") rows asked
   not_sweep none (job.Play strict) h = apart (codes "sweep") (codes "play") h.0 refl refl
@@ -112,6 +113,7 @@ module _ (rows : List Row) where
   not_sweep none (job.Shrink progress cond) h = apart (codes "sweep") (codes "shrink") h.0 refl refl
   not_sweep none (job.Log from to json) h = apart (codes "sweep") (codes "log") h.0 refl refl
   not_sweep none (job.Page title watch) h = apart (codes "sweep") (codes "page") h.0 refl refl
+  not_sweep none job.Walk h = apart (codes "sweep") (codes "walk") h refl refl
 
   not_script : ((plan : FaultPlan) (seed events : ℕ) → HasFaultPlan rows plan → HasNumber (codes "seed") rows seed → HasNumber (codes "events") rows events → ⊥) → (asked : Job) → ¬ Asks (codes "script") rows asked
   not_script none (job.Play strict) h = apart (codes "script") (codes "play") h.0 refl refl
@@ -121,6 +123,7 @@ module _ (rows : List Row) where
   not_script none (job.Shrink progress cond) h = apart (codes "script") (codes "shrink") h.0 refl refl
   not_script none (job.Log from to json) h = apart (codes "script") (codes "log") h.0 refl refl
   not_script none (job.Page title watch) h = apart (codes "script") (codes "page") h.0 refl refl
+  not_script none job.Walk h = apart (codes "script") (codes "walk") h refl refl
 
   not_log : ((from to : Option ℕ) → HasOption (codes "from") rows from → HasOption (codes "to") rows to → ⊥) → (asked : Job) → ¬ Asks (codes "log") rows asked
   not_log none (job.Play strict) h = apart (codes "log") (codes "play") h.0 refl refl
@@ -130,6 +133,7 @@ module _ (rows : List Row) where
   not_log none (job.Shrink progress cond) h = apart (codes "log") (codes "shrink") h.0 refl refl
   not_log none (job.Log from to json) h = none from to h.1 h.2
   not_log none (job.Page title watch) h = apart (codes "log") (codes "page") h.0 refl refl
+  not_log none job.Walk h = apart (codes "log") (codes "walk") h refl refl
 
   -- so where one of them is missing
   pub no_team_to_search : ((team : Team) → ¬ HasTeam rows team) → (asked : Job) → ¬ Asks (codes "search") rows asked
@@ -180,3 +184,4 @@ asks_few name rows (job.Script plan seed events) h = tt
 asks_few name rows (job.Shrink progress cond) h = tt
 asks_few name rows (job.Log from to json) h = tt
 asks_few name rows (job.Page title watch) h = tt
+asks_few name rows job.Walk h = tt

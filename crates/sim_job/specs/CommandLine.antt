@@ -127,6 +127,9 @@ page =
     command (codes "page") (optional_word (codes "title") ∷ optional_word (codes "watch") ∷ input
     ∷ [])
 
+abbrev pub walk : Shape
+walk = command (codes "walk") (word (codes "file") ∷ [])
+
 -- the program without its subcommands
 abbrev pub bare : App
 bare = record {
@@ -145,7 +148,7 @@ program = record {
     has_version = true;
     subcommand_required = true;
   };
-  subs = play ∷ search ∷ sweep ∷ script ∷ shrink ∷ log ∷ page ∷ [];
+  subs = play ∷ search ∷ sweep ∷ script ∷ shrink ∷ log ∷ page ∷ walk ∷ [];
 }
 
 -- a value of clap's is this argument, which is its own command's alone
@@ -223,6 +226,7 @@ Asks name rows (job.Log from to json) = (name ≡ codes "log") × HasOption (cod
 Asks name rows (job.Page title watch) =
     (name ≡ codes "page") × HasOptionalWord (codes "title") rows title
     × HasOptionalWord (codes "watch") rows watch
+Asks name rows job.Walk = name ≡ codes "walk"
 
 -- the job's workers, if it has any, are 1 to 16
 abbrev pub HasFewWorkers : Job → Type 0
@@ -233,6 +237,7 @@ HasFewWorkers (job.Script _ _ _) = ⊤
 HasFewWorkers (job.Shrink _ _) = ⊤
 HasFewWorkers (job.Log _ _ _) = ⊤
 HasFewWorkers (job.Page _ _) = ⊤
+HasFewWorkers job.Walk = ⊤
 
 -- The words make the request: clap finds no fault in them, its matches are the job's, and the file
 -- is clap's value of the argument, or none where it has no value.

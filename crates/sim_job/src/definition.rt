@@ -145,6 +145,16 @@ fn input<'a>(alloc: Global) -> Arg<'a>
         .help("The file with the input; without it standard input")
 }
 
+/// `FILE`, which has to be given.
+fn named_input<'a>(alloc: Global) -> Arg<'a>
+    ensures { IsArgument (line.word (codes "file")) result }
+{
+    Arg::new(alloc, "file")
+        .value_name("FILE")
+        .required(true)
+        .help("The file with the input")
+}
+
 fn play<'a>(alloc: Global) -> Result<Command<'a>, AllocError>
     ensures { IfOk result (IsCommand line.play) }
 {
@@ -255,6 +265,15 @@ fn page<'a>(alloc: Global) -> Result<Command<'a>, AllocError>
         .arg(input(alloc))
 }
 
+fn walk<'a>(alloc: Global) -> Result<Command<'a>, AllocError>
+    ensures { IfOk result (IsCommand line.walk) }
+{
+    Command::new(alloc, "walk")
+        .about("Walk the run of a script forward and back, by commands on standard input")
+        .after_help("Example: simback walk examples/torn-commit.play")
+        .arg(named_input(alloc))
+}
+
 /// The program, before it has its subcommands.
 fn bare<'a>(alloc: Global) -> Command<'a>
     ensures { app_of result ≡ line.bare }
@@ -276,5 +295,6 @@ pub(crate) fn program<'a>(alloc: Global) -> Result<Command<'a>, AllocError>
         .subcommand(script(alloc)?)?
         .subcommand(shrink(alloc)?)?
         .subcommand(log(alloc)?)?
-        .subcommand(page(alloc)?)
+        .subcommand(page(alloc)?)?
+        .subcommand(walk(alloc)?)
 }

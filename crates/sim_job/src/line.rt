@@ -212,6 +212,7 @@ fn asked_by<'a>(name: &str, matches: &ArgMatches<'a>) -> Option<Job<'a>>
         "shrink" => shrink_of(matches),
         "log" => log_of(matches),
         "page" => Some(page_of(matches)),
+        "walk" => Some(Job::Walk),
         _ => None,
     }
 }

@@ -80,4 +80,6 @@ pub enum Job<'a> {
         progress: bool,
         cond: &'a str,
     },
+    /// Walks the run that a script leaves, by commands on standard input. Its file is named.
+    Walk,
 }

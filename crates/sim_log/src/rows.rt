@@ -214,12 +214,8 @@ fn state_word(state: LinkState) -> &'static str {
     }
 }
 
-/// Returns the rows of an event: the event itself, and then its changes in order, without those
-/// that [`rows_after`] adds. Fails only for want of memory.
-pub fn rows_of<N: Node + fmt::Debug>(
-    alloc: Global,
-    told: &Told<'_, N>,
-) -> Result<Vec<Value>, NoMemory>
+// Returns the rows of an event that was gathered.
+fn rows_of<N: Node + fmt::Debug>(alloc: Global, told: &Told<'_, N>) -> Result<Vec<Value>, NoMemory>
 where
     N::Msg: fmt::Debug,
 {
@@ -236,6 +232,21 @@ where
         }
     }
     Ok(rows.into_vec())
+}
+
+/// Returns the rows of an event: the event itself, and then its changes in order, without those
+/// that [`rows_after`] adds. `world` is the world before it. Fails only for want of memory.
+pub fn rows_before<N: Node + fmt::Debug>(
+    alloc: Global,
+    world: &World<N>,
+    event: Event,
+    meter: &mut N::Meter,
+) -> Result<Vec<Value>, NoMemory>
+where
+    N::Msg: fmt::Debug,
+{
+    let told = Told::new(alloc, world, event, meter)?;
+    rows_of(alloc, &told)
 }
 
 /// Returns the rows that the world after an event adds: for a bounce, the node that booted and its

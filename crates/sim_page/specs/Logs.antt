@@ -12,8 +12,8 @@ use Rattle.sim_export.specs.declared.export.Export.TheVariants.{Input, Shown, No
 use Rattle.sim_export.specs.declared.export.Export.TheVariants.{BadCondition, BadScript, NoInput}
 use Rattle.sim_export.specs.Exports.{Right}
 use Rattle.sim_page.specs.declared.log.LogRange.{LogRange}
-use Rattle.sim_page.specs.Lines.{AreLines}
-use Rattle.sim_page.specs.Range.{IsRange}
+use Rattle.sim_log.specs.Lines.{AreLines}
+use Rattle.sim_log.specs.Range.{IsRange}
 
 module _ {State Msg : Type 0} (r : Rules State Msg) (events : List Event) (range : LogRange) where
   abbrev pub first : ℕ

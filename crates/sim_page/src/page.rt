@@ -3,12 +3,11 @@ ghost use Rattle.std.specs.List.{list_all};
 ghost use Rattle.std.specs.Prelude.{◌==◌, not, IsTrue};
 
 use crate::data::{Data, number, string};
-use crate::log::rows_before;
 use crate::template::{AFTER, BEFORE};
 use serde_json::Value;
 use sim_cli::{Opened, Tally};
 use sim_export::{InputError, input_of};
-use sim_log::{first_rows, rows_after};
+use sim_log::{first_rows, rows_after, rows_before};
 use sim_node::{NoMemory, Node};
 use sim_tape::{EventList, Frozen, Tape};
 use sim_watch::{Cond, holds};
@@ -130,7 +129,7 @@ where
     fn event(&mut self, event: Event) -> Result<(), NoMemory> {
         let alloc = self.alloc;
         self.tape.make_warm(alloc, &mut Tally::new())?;
-        let rows = rows_before(alloc, self.tape.here(), event)?;
+        let rows = rows_before(alloc, self.tape.here(), event, &mut Tally::new())?;
         self.data.more_rows(rows.as_slice())?;
         if self.tape.place() < self.tape.len() {
             self.tape.forward(alloc, 1, &mut Tally::new())?;

@@ -124,3 +124,4 @@ module _ (protocols : List Protocol) (nodes_of : ScenarioText → Nodes) where
       Written (log_right (log_range from to json)) protocols nodes_of given ended written
   Performed (jobs.Page title watch) given left ended written =
       Written (page_right (page_request title watch)) protocols nodes_of given ended written
+  Performed jobs.Walk given left ended written = (ended ≡ BadRequest) × (written ≡ [])

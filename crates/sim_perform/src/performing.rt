@@ -314,5 +314,7 @@ pub fn perform<L: Searchable, H: Threads + Wait + Sync + Clock + Eprint, R: Read
             let asked = PageRequest { title, watch };
             write_page::<L, H, R, W>(rt, alloc, asked, reader, writer)
         }
+        // A walk reads its commands from a reader of its own.
+        Job::Walk => Status::BadRequest,
     }
 }

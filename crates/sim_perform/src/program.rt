@@ -5,9 +5,10 @@ ghost use Rattle.sim_job.specs.CommandLine.{HasFewWorkers};
 use crate::Status;
 use crate::performing::perform;
 use crate::searchable::Searchable;
-use sim_job::{Job, LineError, request};
+use sim_job::{Job, LineError, Request, request};
+use sim_walk::{Style, walk};
 use std::fs::File;
-use std::io::Read;
+use std::io::{IsTerminal, Read};
 use std::rt::{Clock, Env, Files};
 use std::sync::Wait;
 use std::thread::Threads;
@@ -60,6 +61,26 @@ fn tell_unread<R: Eprint>(rt: &R, name: &str, fault: &io::Error) {
     let _told = eprintln!(rt; "error: cannot read {name:?}: {fault}");
 }
 
+// The file of this name. If it cannot be opened, that is told.
+fn opened<R: Files + Eprint>(rt: &R, name: &str) -> Result<InputFile<R::File>, Status> {
+    match File::open(rt, name) {
+        Ok(file) => Ok(InputFile { file, fault: None }),
+        Err(fault) => {
+            tell_unread(rt, name, &fault);
+            Err(Status::ReaderFailed)
+        }
+    }
+}
+
+// Tells why the file of this name could not be read to its end, if it could not.
+fn tell_fault<R: Eprint, F: Read + Drop>(rt: &R, name: &str, input: &InputFile<F>, ended: Status) {
+    if let Some(fault) = &input.fault {
+        if ended == Status::ReaderFailed {
+            tell_unread(rt, name, fault);
+        }
+    }
+}
+
 // Carries out a job over the file of this name.
 fn run_file<L: Searchable, R: Threads + Wait + Sync + Clock + Files + Print + Eprint + AllocGlobal>(
     rt: &R,
@@ -69,21 +90,38 @@ fn run_file<L: Searchable, R: Threads + Wait + Sync + Clock + Files + Print + Ep
     requires workers { HasFewWorkers job.now }
     requires few { length L.listed ≤ 8 }
 {
-    let mut reader = match File::open(rt, name) {
-        Ok(file) => InputFile { file, fault: None },
-        Err(fault) => {
-            tell_unread(rt, name, &fault);
-            return Status::ReaderFailed;
-        }
+    let mut reader = match opened(rt, name) {
+        Ok(input) => input,
+        Err(status) => return status,
     };
     let mut writer = io::writer(rt);
-    let status = perform::<L, R, _, _>(rt, rt.alloc(), job, &mut reader, &mut writer);
-    if let Some(fault) = &reader.fault {
-        if status == Status::ReaderFailed {
-            tell_unread(rt, name, fault);
-        }
-    }
-    status
+    let ended = perform::<L, R, _, _>(rt, rt.alloc(), job, &mut reader, &mut writer);
+    tell_fault(rt, name, &reader, ended);
+    ended
+}
+
+// Walks over the file of this name, by commands on the standard input.
+fn walk_file<L: Searchable, R: Files + Input + Print + Eprint + AllocGlobal>(
+    rt: &R,
+    name: &str,
+) -> Status
+where
+    R::Reader: IsTerminal,
+    requires few { length L.listed ≤ 8 }
+{
+    let mut input = match opened(rt, name) {
+        Ok(input) => input,
+        Err(status) => return status,
+    };
+    let mut commands = rt.reader();
+    let style = Style {
+        is_prompted: commands.is_terminal(),
+    };
+    let mut writer = io::writer(rt);
+    let alloc = rt.alloc();
+    let ended = walk::<L, R, _, _, _>(rt, alloc, &mut input, style, &mut commands, &mut writer);
+    tell_fault(rt, name, &input, ended);
+    ended
 }
 
 // Carries out what the words ask for, and answers the exit status.
@@ -91,19 +129,25 @@ fn run_words<
     L: Searchable,
     R: Threads + Wait + Sync + Clock + Files + Input + Print + Eprint + AllocGlobal,
 >(rt: &R, words: &[String]) -> u8
+where
+    R::Reader: IsTerminal,
     requires few { length L.listed ≤ 8 }
 {
-    match request(rt.alloc(), words) {
-        Ok(asked) => {
-            if let Some(name) = asked.file {
-                return run_file::<L, R>(rt, &asked.job, name).number();
-            }
+    let asked = match request(rt.alloc(), words) {
+        Ok(asked) => asked,
+        Err(fault) => return tell(rt, &fault),
+    };
+    let Request { job, file } = asked;
+    let ended = match (job, file) {
+        (Job::Walk, Some(name)) => walk_file::<L, R>(rt, name),
+        (job, Some(name)) => run_file::<L, R>(rt, &job, name),
+        (job, None) => {
             let mut reader = rt.reader();
             let mut writer = io::writer(rt);
-            perform::<L, R, _, _>(rt, rt.alloc(), &asked.job, &mut reader, &mut writer).number()
+            perform::<L, R, _, _>(rt, rt.alloc(), &job, &mut reader, &mut writer)
         }
-        Err(fault) => tell(rt, &fault),
-    }
+    };
+    ended.number()
 }
 
 /// Carries out what the command line asks for, for the protocols of a list, which are at most
@@ -114,6 +158,8 @@ pub fn run<
     L: Searchable,
     R: Threads + Wait + Sync + Clock + Env + Files + Input + Print + Eprint + AllocGlobal,
 >(rt: &R) -> u8
+where
+    R::Reader: IsTerminal,
     requires few { length L.listed ≤ 8 }
 {
     match words(rt) {

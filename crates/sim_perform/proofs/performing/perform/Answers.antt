@@ -1,4 +1,6 @@
-use Rattle.std.proofs.Common.{◌∙◌, Bool, true, false, ap, subst}
+use Rattle.std.proofs.Common.{◌∙◌, Bool, true, false, [], ap, refl, subst}
+use Rattle.sim_lines.proofs.Known.{Appends-none}
+use Rattle.sim_cli.specs.declared.status.Status.TheVariants.{BadRequest}
 use Rattle.sim_cli.specs.Play.{Ended}
 use Rattle.sim_perform.specs.declared.answer.Form.{Form}
 use Rattle.sim_perform.specs.declared.hunting.Area.{Area}
@@ -62,3 +64,8 @@ returns-in-Page-clause-performed g c = λ given e.
     as_job g.L.Protocols.listed (nodes_by g.L.Subjects.nodes) c.args.job.now
     (jobs.Page c.in-Page.title c.in-Page.watch) given _ _ _ c.write_page.result c.in-Page.is
     (c.write_page.ensures given e)
+
+pub returns-in-Walk-clause-performed : goal.returns-in-Walk-clause-performed
+returns-in-Walk-clause-performed g c = λ given e.
+    as_job g.L.Protocols.listed (nodes_by g.L.Subjects.nodes) c.args.job.now jobs.Walk given _ _ _ BadRequest c.in-Walk.is
+    (record { written = []; appended = Appends-none (g.W.Write.contents c.args.writer.now); is = (refl, refl) })

@@ -1,7 +1,7 @@
 use Rattle.std.proofs.Common.{◌≡◌, ◌-◌, true}
 use Rattle.sim_world.specs.Events.{rules}
-use Rattle.sim_page.specs.Lines.{AreLines}
-use Rattle.sim_page.proofs.log.lines_of.Given as goal
+use Rattle.sim_log.specs.Lines.{AreLines}
+use Rattle.sim_log.proofs.lines.Teller.lines.Given as goal
 
 -- the lines so far, and the tape before the next event
 abbrev pub invariant-loop-place : goal.invariant-loop-place

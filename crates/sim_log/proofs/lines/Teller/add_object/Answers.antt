@@ -1,6 +1,6 @@
 use Rattle.std.proofs.Common.{◌++◌, ◌∙◌, ap, ℕ, List, string_bytes}
-use Rattle.sim_page.proofs.Telling.{led_past}
-use Rattle.sim_page.proofs.log.Teller.add_object.Goals as goal
+use Rattle.sim_log.proofs.Telling.{led_past}
+use Rattle.sim_log.proofs.lines.Teller.add_object.Goals as goal
 
 pub returns-clause-line : goal.returns-clause-line
 returns-clause-line g c =

@@ -1,7 +1,7 @@
 use Rattle.std.proofs.Common.{◌++◌, ◌∙◌, ap, ℕ, List, string_bytes}
-use Rattle.sim_page.specs.Lines.{word_line}
-use Rattle.sim_page.proofs.Telling.{led_past}
-use Rattle.sim_page.proofs.log.Teller.add_words.Goals as goal
+use Rattle.sim_log.specs.Lines.{word_line}
+use Rattle.sim_log.proofs.Telling.{led_past}
+use Rattle.sim_log.proofs.lines.Teller.add_words.Goals as goal
 
 pub returns-clause-line : goal.returns-clause-line
 returns-clause-line g c =

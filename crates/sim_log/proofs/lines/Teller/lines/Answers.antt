@@ -2,10 +2,10 @@ use Rattle.std.proofs.Common.{◌≡◌, ◌∙◌, ◌+◌, ◌-◌, ◌<◌, �
 use Rattle.std.specs.List.{slice_get}
 use Rattle.sim_world.specs.declared.Event.{Event}
 use Rattle.sim_world.specs.Events.{rules}
-use Rattle.sim_page.specs.Lines.{AreLines}
-use Rattle.sim_page.proofs.Telling.{is_there, no_lines, one_more, own_reach}
-use Rattle.sim_page.proofs.log.lines_of.Goals as goal
-use Rattle.sim_page.proofs.log.lines_of.Goals.{then-json+in_ok-add_object, else-json+in_ok-add_words}
+use Rattle.sim_log.specs.Lines.{AreLines}
+use Rattle.sim_log.proofs.Telling.{is_there, no_lines, one_more, own_reach}
+use Rattle.sim_log.proofs.lines.Teller.lines.Goals as goal
+use Rattle.sim_log.proofs.lines.Teller.lines.Goals.{then-json+in_ok-add_object, else-json+in_ok-add_words}
 
 pub loop-place-init : goal.loop-place-init
 loop-place-init g c =

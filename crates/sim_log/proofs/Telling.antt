@@ -7,7 +7,7 @@ use Rattle.sim_world.specs.declared.Event.{Event}
 use Rattle.sim_world.specs.World.{Scenario, World}
 use Rattle.sim_world.specs.Events.{Rules, rules, run}
 use Rattle.sim_tape.specs.Tape.{Tape, at, with_world}
-use Rattle.sim_page.specs.Lines.{AddsLine, AreLines, IsPast}
+use Rattle.sim_log.specs.Lines.{AddsLine, AreLines, IsPast}
 
 -- an event below the length of a run is there
 pub is_there : (events : List Event) (i : ℕ) → i < length events → slice_get events i ≡ None → ⊥

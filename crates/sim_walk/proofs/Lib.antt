@@ -1,0 +1,4 @@
+pub mod Growing
+pub mod Moving
+pub mod Replying
+pub mod Ways

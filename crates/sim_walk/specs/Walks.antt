@@ -1,0 +1,69 @@
+-- What an order does to the book of a walk, and what is written for it.
+use Rattle.std.specs.Prelude.{◌≡◌, ◌⊎◌, ◌++◌, ℕ, [], length, codes, Option, Result, Ok, Err, IfOk}
+use Rattle.std.specs.Prelude.{string_bytes}
+use Rattle.std.specs.Io.KnownBytes.{Appends}
+use Rattle.std.specs.declared.alloc.AllocError.{AllocError}
+use Rattle.sim_world.specs.Events.{Rules}
+use Rattle.sim_script.specs.Script.{Text, Names}
+use Rattle.sim_book.specs.declared.Command.{Command}
+use Rattle.sim_book.specs.declared.Command.TheVariants.{Goto}
+use Rattle.sim_book.specs.declared.Entry.{Entry}
+use Rattle.sim_book.specs.declared.NotTaken.{NotTaken}
+use Rattle.sim_book.specs.Book.{branch, branch_of}
+use Rattle.sim_replies.specs.Lines.{turn_line}
+use Rattle.sim_cli.specs.Turns.{Course, Takes}
+use Rattle.sim_walk.specs.declared.account.Account.{Account}
+use Rattle.sim_walk.specs.declared.desk.Answer.{Answer}
+use Rattle.sim_walk.specs.declared.order.Order.{Order}
+use Rattle.sim_walk.specs.declared.order.Order.TheVariants.{Asked, Sought}
+use Rattle.sim_walk.specs.declared.walking.Turned.{Turned}
+use Rattle.sim_walk.specs.declared.walking.Turned.TheVariants.{On}
+use Rattle.sim_walk.specs.Accounts.{Accounts}
+
+abbrev pub no_memory : Text
+no_memory = codes "there was not enough memory\n"
+
+-- the lines of events, between words
+abbrev pub account_text : Account → Text
+account_text a = string_bytes a.lead ++ a.told.items ++ string_bytes a.said
+
+-- what is written for an answer
+abbrev pub text_of : Answer → Text
+text_of a = string_bytes a.reply ++ account_text a.account
+
+-- what is written for an order, if there was memory for an answer or not
+abbrev pub text_by : {E : Type 0} → Result Answer E → Text
+text_by (Ok a) = text_of a
+text_by (Err e) = no_memory
+
+module _ {State Msg : Type 0} (r : Rules State Msg) (names : Names) where
+  -- A command was taken by a turn of the book. The answer has the line that tells the turn, and its
+  -- account; without memory there is no answer.
+  pub record TakesTurn {E : Type 0} (old : Course) (asked : Command) (answer : Result Answer E)
+      (new : Course) : Type 0 where
+    pub turn : Result Entry NotTaken
+    pub takes : Takes r old asked turn new
+    pub told : IfOk answer (λ a. (string_bytes a.reply ≡ turn_line names turn)
+        × Accounts r (length (branch (branch_of asked) old.branches).events)
+        (branch (branch_of asked) new.branches).events
+        turn a.account.told.items)
+
+  -- the book is as before, and there is no reply
+  abbrev pub Stays : {E : Type 0} → Course → Result Answer E → Course → Type 0
+  Stays old answer new = (new ≡ old) × IfOk answer (λ a. string_bytes a.reply ≡ [])
+
+  -- A line of a script is a turn of the book. What is sought is a place to which the branch goes by
+  -- a turn, or there is none. Nothing else changes the book.
+  abbrev pub Walks : {E : Type 0} → Course → ℕ → Order → Result Answer E → Course → Type 0
+  Walks old b (Asked asked) answer new = TakesTurn old asked answer new
+  Walks old b (Sought sought) answer new =
+      ((place : ℕ) × TakesTurn old (Goto b place) answer new) ⊎ Stays old answer new
+  Walks old b _ answer new = Stays old answer new
+
+  -- An order was carried out. If the walk goes on, its answer was written, or that there was not
+  -- enough memory for one.
+  pub record CarriesOut (old new : Course) (b : ℕ) (order : Order) (held holds : Option Text)
+      (turned : Turned) : Type 0 where
+    pub answer : Result Answer AllocError
+    pub walks : Walks old b order answer new
+    pub written : turned ≡ On → Appends held holds (text_by answer)

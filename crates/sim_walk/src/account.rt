@@ -1,0 +1,157 @@
+//! The account of a turn: the lines of the events that it passed.
+ghost use Rattle.std.specs.Prelude.{◌≡◌, ◌+◌, ◌<◌, ◌≤◌, [], false, length, min, max, IfOk};
+ghost use Rattle.sim_world.specs.Events.{rules};
+ghost use Rattle.sim_book.specs.Book.{branch as branch_in};
+ghost use Rattle.sim_book.specs.Kept.{all_shown};
+ghost use Rattle.sim_log.specs.Lines.{AreLines};
+ghost use Rattle.sim_walk.specs.Accounts.{IsAccount, told_count};
+
+use crate::run::{Run, frozen_of, place_of};
+use sim_book::Book;
+use sim_cli::Tally;
+use sim_node::{NoMemory, Node};
+use sim_script::Names;
+use std::alloc::Global;
+use std::fmt::Debug;
+
+/// At most this many events are told after a move.
+const MAX_TOLD: u32 = 20;
+
+/// A branch before a turn.
+#[derive(Clone, Copy, Debug, PartialEq, Eq)]
+pub(crate) struct Departure {
+    /// How many events it keeps.
+    pub(crate) kept: u32,
+    /// Its place.
+    pub(crate) place: u32,
+}
+
+impl Departure {
+    // The place from which its way is told, if `len` events are kept now: if events were added,
+    // they are the way.
+    fn start(self, len: u32) -> u32
+        ensures within { result ≤ len }
+        ensures added { self.kept < len → result ≡ self.kept }
+    {
+        if self.kept < len {
+            self.kept
+        } else {
+            self.place.min(len)
+        }
+    }
+}
+
+/// A branch before a turn; one that is not there keeps no event. The only error is want of memory.
+pub(crate) fn departure_of<N: Node<Meter = Tally>>(
+    alloc: Global,
+    book: &Book<N>,
+    branch: u32,
+) -> Result<Departure, NoMemory>
+    ensures { IfOk result
+        (λ d. d.kept ≡ length (branch_in branch (all_shown book.now.kept)).events) }
+{
+    let Some(run) = frozen_of(alloc, book, branch)? else {
+        return Ok(Departure { kept: 0, place: 0 });
+    };
+    let kept = run.events().len();
+    let place = place_of(alloc, book, branch).unwrap_or(kept);
+    Ok(Departure { kept, place })
+}
+
+/// What is told of a turn: the lines of events, and words before and after them.
+#[derive(Drop)]
+pub(crate) struct Account {
+    pub(crate) lead: String,
+    pub(crate) told: Vec<u8>,
+    pub(crate) said: String,
+}
+
+impl Account {
+    /// Words alone.
+    pub(crate) fn of_words(alloc: Global, said: String) -> Account
+        ensures { result.told.items ≡ [] }
+    {
+        Account {
+            lead: String::new(alloc),
+            told: Vec::new(alloc),
+            said,
+        }
+    }
+}
+
+// How many events are told of a way.
+fn told_count(from: u32, to: u32) -> u32
+    ensures value { result ≡ told_count from to }
+    ensures within { min from to + result ≤ max from to }
+{
+    if to < from {
+        1
+    } else {
+        (to - from).min(MAX_TOLD)
+    }
+}
+
+// The lines of the events of a way.
+fn way_lines<N: Node<Meter = Tally> + Debug>(
+    alloc: Global,
+    run: &Run<'_, N>,
+    from: u32,
+    to: u32,
+) -> Result<Vec<u8>, NoMemory>
+where
+    N::Msg: Debug,
+    requires from { from ≤ length run.now.frozen.events }
+    requires to { to ≤ length run.now.frozen.events }
+    ensures { IfOk result (λ told. AreLines (rules N.laws N.PROBES run.now.frozen.scenario)
+        run.now.frozen.events false (min from to + 1) (told_count from to) told.items) }
+{
+    let (least, count) = (from.min(to), told_count(from, to));
+    if count == 0 {
+        return Ok(Vec::new(alloc));
+    }
+    run.lines(least + 1, least + count)
+}
+
+// Words before the lines of a way: of a way back how long it was.
+fn lead_of(alloc: Global, from: u32, to: u32) -> Result<String, NoMemory> {
+    if to < from {
+        let count = from - to;
+        return format!(in alloc; "back by {count}; next is ");
+    }
+    Ok(String::new(alloc))
+}
+
+// Words after the lines of a way: how many events they leave out.
+fn rest_of(alloc: Global, from: u32, to: u32) -> Result<String, NoMemory> {
+    let last = from.saturating_add(MAX_TOLD);
+    if last < to {
+        let (left, next) = (to - last, last.saturating_add(1));
+        return format!(in alloc; ".. and {left} more: `log {next} {to}` tells them\n");
+    }
+    Ok(String::new(alloc))
+}
+
+/// The account of the way of a branch to a place. The only error is want of memory.
+pub(crate) fn account_of<N: Node<Meter = Tally> + Debug>(
+    alloc: Global,
+    names: &Names,
+    book: &Book<N>,
+    branch: u32,
+    left: Departure,
+    to: u32,
+) -> Result<Account, NoMemory>
+where
+    N::Msg: Debug,
+    requires { to ≤ length (branch_in branch (all_shown book.now.kept)).events }
+    ensures { IfOk result (λ a. IsAccount (rules N.laws N.PROBES book.now.scenario) left.kept
+        (branch_in branch (all_shown book.now.kept)).events to a.told.items) }
+{
+    let Some(run) = Run::of(alloc, names, book, branch)? else {
+        return Ok(Account::of_words(alloc, String::new(alloc)));
+    };
+    let from = left.start(run.len());
+    let lead = lead_of(alloc, from, to)?;
+    let told = way_lines(alloc, &run, from, to)?;
+    let said = rest_of(alloc, from, to)?;
+    Ok(Account { lead, told, said })
+}

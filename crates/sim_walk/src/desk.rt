@@ -1,0 +1,407 @@
+//! What is answered to an order, and what it does to the book.
+ghost use Rattle.std.specs.Prelude.{◌≡◌, ◌≤◌, [], length, IfOk, string_bytes};
+ghost use Rattle.sim_world.specs.Events.{rules};
+ghost use Rattle.sim_book.specs.Book.{branch as branch_in, branch_of};
+ghost use Rattle.sim_book.specs.Kept.{all_shown};
+ghost use Rattle.sim_cli.specs.Turns.{course_of, Takes};
+ghost use Rattle.sim_replies.specs.Lines.{turn_line};
+ghost use Rattle.sim_walk.specs.Accounts.{Accounts, IsWithin};
+ghost use Rattle.sim_walk.specs.Walks.{TakesTurn, Stays, Walks};
+
+use crate::account::{Account, Departure, account_of, departure_of};
+use crate::order::{Order, Request, Shown, Sought};
+use crate::run::{Run, place_of, whereabouts};
+use crate::saying::{Known, tell_not_taken};
+use crate::seeking::{SeekError, seek};
+use crate::showing::Sight;
+use crate::terms::tell_failing;
+use crate::topic::tell_help;
+use sim_book::{Book, Command, Entry, NotTaken, Refusal, Reply};
+use sim_cli::{Opened, Tally};
+use sim_export::{InputError, input_of};
+use sim_node::{NoMemory, Node};
+use sim_replies::tell_turn;
+use sim_tape::EventList;
+use sim_watch::BadTerm;
+use sim_world::Event;
+use std::alloc::Global;
+use std::fmt::Debug;
+
+/// The session of a walk.
+const SESSION: u8 = 0;
+
+/// What is written for an order: the line that replies to a turn of the book, if there was one, and
+/// what is told.
+#[derive(Drop)]
+pub(crate) struct Answer {
+    pub(crate) reply: String,
+    pub(crate) account: Account,
+}
+
+impl Answer {
+    // Words alone.
+    fn of_words(alloc: Global, said: String) -> Answer
+        ensures reply { string_bytes result.reply ≡ [] }
+    {
+        let reply = String::new(alloc);
+        let account = Account::of_words(alloc, said);
+        Answer { reply, account }
+    }
+}
+
+/// What a walk has at hand.
+#[derive(Drop)]
+pub(crate) struct Desk<'a> {
+    pub(crate) alloc: Global,
+    pub(crate) opened: &'a Opened,
+}
+
+// The first of the events of a list.
+fn events_before(alloc: Global, list: &EventList, place: u32) -> Result<Vec<Event>, NoMemory> {
+    let mut events = Vec::new(alloc);
+    for i in 0..place {
+        if let Some(event) = list.get(i) {
+            events.push(event)?;
+        }
+    }
+    Ok(events)
+}
+
+// The branch of which a command speaks.
+fn branch_of(command: &Command) -> u32
+    ensures { result ≡ branch_of command.now }
+{
+    match command {
+        Command::Step(b) | Command::Tick(b) | Command::Cut(b) | Command::Freeze(b) => *b,
+        Command::Run(b, _) | Command::Back(b, _) | Command::Forward(b, _) => *b,
+        Command::Goto(b, _) | Command::Rewind(b, _) | Command::Branch(b, _) => *b,
+        Command::Fault(b, _) => *b,
+        Command::Watch(b, _) => *b,
+        Command::Unwatch(b, _) => *b,
+        Command::Look(b, _) => *b,
+    }
+}
+
+// Takes a command. Where it moved the branch, the place is one of the branch.
+fn turn_on<N: Node>(alloc: Global, book: &mut Book<N>, command: Command) -> Result<Entry, NotTaken>
+    ensures takes { Takes (rules N.laws N.PROBES book.old.scenario) (course_of book.old)
+        command result (course_of book.new) }
+    ensures scenario { book.new.scenario ≡ book.old.scenario }
+    ensures within { IsWithin result
+        (branch_in (branch_of command) (all_shown book.new.kept)).events }
+{
+    book.turn(alloc, SESSION, command)
+}
+
+impl Desk<'_> {
+    // The names that are known, with so many probes.
+    fn known(&self, probes: u8) -> Known<'_> {
+        Known {
+            alloc: self.alloc,
+            names: &self.opened.names,
+            hosts: self.opened.scenario.hosts(),
+            probes,
+        }
+    }
+
+    // The account of a turn on a branch.
+    fn account<N: Node<Meter = Tally> + Debug>(
+        &self,
+        book: &Book<N>,
+        branch: u32,
+        left: Departure,
+        turn: &Result<Entry, NotTaken>,
+    ) -> Result<Account, NoMemory>
+    where
+        N::Msg: Debug,
+        requires { IsWithin turn.now (branch_in branch (all_shown book.now.kept)).events }
+        ensures { IfOk result (λ a. Accounts (rules N.laws N.PROBES book.now.scenario) left.kept
+            (branch_in branch (all_shown book.now.kept)).events turn.now a.told.items) }
+    {
+        let mut said = String::new(self.alloc);
+        match turn {
+            Ok(entry) => match &entry.reply {
+                Reply::Moved { place, .. } => {
+                    let names = &self.opened.names;
+                    return account_of(self.alloc, names, book, branch, left, *place);
+                }
+                Reply::Refused(why) => self.known(N::PROBES).tell_refusal(*why, &mut said)?,
+                Reply::Made(_) | Reply::Dropped(_) | Reply::Seen { .. } | Reply::Frozen(_) => {}
+            },
+            Err(why) => tell_not_taken(*why, &mut said)?,
+        }
+        Ok(Account::of_words(self.alloc, said))
+    }
+
+    // The answer where a place was not found.
+    fn answer_nowhere(&self, probes: u8, error: SeekError) -> Result<Answer, NoMemory>
+        ensures { IfOk result (λ a. string_bytes a.reply ≡ []) }
+    {
+        let mut said = String::new(self.alloc);
+        match error {
+            SeekError::Nowhere(why) => writeln!(&mut said, "{why}")?,
+            SeekError::Refused(why) => self.known(probes).tell_refusal(why, &mut said)?,
+            SeekError::NoMemory => said.push_str("there was not enough memory\n")?,
+        }
+        Ok(Answer::of_words(self.alloc, said))
+    }
+
+    // The line that tells a turn.
+    fn reply_to(&self, turn: &Result<Entry, NotTaken>) -> Result<String, NoMemory>
+        ensures { IfOk result (λ reply. string_bytes reply
+            ≡ turn_line self.now.opened.now.names turn.now) }
+    {
+        let mut reply = String::new(self.alloc);
+        tell_turn(self.alloc, &mut reply, &self.opened.names, turn)?;
+        Ok(reply)
+    }
+
+    // Takes a command.
+    fn take<N: Node<Meter = Tally> + Debug>(
+        &self,
+        book: &mut Book<N>,
+        command: Command,
+    ) -> Result<Answer, NoMemory>
+    where
+        N::Msg: Debug,
+        ensures turn { TakesTurn (rules N.laws N.PROBES book.old.scenario)
+            self.now.opened.now.names (course_of book.old) command result (course_of book.new) }
+        ensures scenario { book.new.scenario ≡ book.old.scenario }
+    {
+        let branch = branch_of(&command);
+        let left = departure_of(self.alloc, book, branch);
+        let turn = turn_on(self.alloc, book, command);
+        let reply = self.reply_to(&turn)?;
+        let account = self.account(book, branch, left?, &turn)?;
+        Ok(Answer { reply, account })
+    }
+
+    // Why what is sought can't be asked for, or nothing.
+    fn refusal(&self, probes: u8, sought: &Sought) -> Option<Refusal> {
+        let hosts = self.opened.scenario.hosts();
+        match sought {
+            Sought::First(cond) | Sought::Held(cond) => match cond.get().check(hosts, probes) {
+                Ok(()) => None,
+                Err(BadTerm::UnknownHost) => Some(Refusal::UnknownHost),
+                Err(_) => Some(Refusal::BadCondition),
+            },
+            Sought::Last(host) if hosts <= *host => Some(Refusal::UnknownHost),
+            Sought::At(_) | Sought::Cause | Sought::Last(_) => None,
+        }
+    }
+
+    // The place that is looked for, and where the branch is.
+    fn find<N: Node<Meter = Tally> + Debug>(
+        &self,
+        book: &Book<N>,
+        branch: u32,
+        sought: &Sought,
+    ) -> Result<u32, SeekError>
+    where
+        N::Msg: Debug,
+    {
+        if let Some(why) = self.refusal(N::PROBES, sought) {
+            return Err(SeekError::Refused(why));
+        }
+        let Some(run) = Run::of(self.alloc, &self.opened.names, book, branch)? else {
+            return Err(SeekError::Refused(Refusal::UnknownBranch));
+        };
+        let here = place_of(self.alloc, book, branch).unwrap_or(run.len());
+        seek(self.alloc, &run, here, sought)
+    }
+
+    // Tells which terms of the condition of what was sought fail at the place.
+    fn tell_found<N: Node>(
+        &self,
+        book: &Book<N>,
+        branch: u32,
+        sought: &Sought,
+        said: &mut String,
+    ) -> Result<(), NoMemory> {
+        if let (Sought::First(cond), Some(world)) = (sought, book.here(branch)) {
+            tell_failing(&self.opened.names, world, cond.get(), said)?;
+        }
+        Ok(())
+    }
+
+    // Goes to a place of a branch that was looked for.
+    fn go_to<N: Node<Meter = Tally> + Debug>(
+        &self,
+        book: &mut Book<N>,
+        branch: u32,
+        place: u32,
+        sought: &Sought,
+    ) -> Result<Answer, NoMemory>
+    where
+        N::Msg: Debug,
+        ensures turn { TakesTurn (rules N.laws N.PROBES book.old.scenario)
+            self.now.opened.now.names (course_of book.old) (Command.Goto branch place) result
+            (course_of book.new) }
+        ensures scenario { book.new.scenario ≡ book.old.scenario }
+    {
+        let mut answer = self.take(book, Command::Goto(branch, place))?;
+        self.tell_found(book, branch, sought, &mut answer.account.said)?;
+        Ok(answer)
+    }
+
+    // Looks for a place, and goes there.
+    fn look_for<N: Node<Meter = Tally> + Debug>(
+        &self,
+        book: &mut Book<N>,
+        branch: u32,
+        sought: &Sought,
+    ) -> Result<Answer, NoMemory>
+    where
+        N::Msg: Debug,
+        ensures looks { Walks (rules N.laws N.PROBES book.old.scenario)
+            self.now.opened.now.names (course_of book.old) branch (Order.Sought sought.now) result
+            (course_of book.new) }
+        ensures scenario { book.new.scenario ≡ book.old.scenario }
+    {
+        match self.find(book, branch, sought) {
+            Ok(place) => self.go_to(book, branch, place, sought),
+            Err(error) => self.answer_nowhere(N::PROBES, error),
+        }
+    }
+
+    // Tells the input that leads to a place of a run.
+    fn tell_script<N: Node<Meter = Tally> + Debug>(
+        &self,
+        run: &Run<'_, N>,
+        place: u32,
+        said: &mut String,
+    ) -> Result<(), NoMemory>
+    where
+        N::Msg: Debug,
+    {
+        let events = events_before(self.alloc, run.frozen.events(), place)?;
+        let text = str::from_utf8(self.opened.text.as_slice()).unwrap_or("");
+        match input_of(self.alloc, text, &self.opened.names, events.as_slice()) {
+            Ok(input) => said.push_str(input.as_str()),
+            Err(InputError::NoInput) => {
+                said.push_str("there is none: no line makes the clock move alone, as `tick` does\n")
+            }
+            Err(InputError::NoMemory) => said.push_str("there was not enough memory\n"),
+        }
+    }
+
+    // Tells what is there at the place of a branch.
+    fn tell_sight<N: Node<Meter = Tally> + Debug>(
+        &self,
+        sight: &Sight<'_, N>,
+        shown: &Shown,
+        said: &mut String,
+    ) -> Result<(), NoMemory>
+    where
+        N::Msg: Debug,
+    {
+        let known = self.known(N::PROBES);
+        match shown {
+            Shown::Host(host) | Shown::Disk(host) if *host >= known.hosts => {
+                known.tell_refusal(Refusal::UnknownHost, said)
+            }
+            Shown::Host(host) => sight.tell_host(*host, said),
+            Shown::Disk(host) => sight.tell_disk(*host, said),
+            Shown::Links => sight.tell_links(said),
+            _ => sight.tell_pending(None, said),
+        }
+    }
+
+    // Tells what is shown of a branch.
+    fn tell_branch<N: Node<Meter = Tally> + Debug>(
+        &self,
+        book: &Book<N>,
+        branch: u32,
+        shown: &Shown,
+        said: &mut String,
+    ) -> Result<(), NoMemory>
+    where
+        N::Msg: Debug,
+    {
+        let names = &self.opened.names;
+        let Some(run) = Run::of(self.alloc, names, book, branch)? else {
+            return self
+                .known(N::PROBES)
+                .tell_refusal(Refusal::UnknownBranch, said);
+        };
+        let end = run.len();
+        let place = place_of(self.alloc, book, branch).unwrap_or(end).min(end);
+        let tape = run.frozen.tape(self.alloc, place, &mut Tally::new())?;
+        let sight = Sight {
+            alloc: self.alloc,
+            names,
+            places: &run.places,
+            world: tape.here(),
+        };
+        match shown {
+            Shown::Event(asked) => run.tell_event(asked.unwrap_or(place), said),
+            Shown::Log(from, to) => { run.tell(from.unwrap_or(1), to.unwrap_or(end), said) }
+            Shown::Script => self.tell_script(&run, place, said),
+            _ => self.tell_sight(&sight, shown, said),
+        }
+    }
+
+    // Shows something of a branch.
+    fn show<N: Node<Meter = Tally> + Debug>(
+        &self,
+        book: &Book<N>,
+        branch: u32,
+        shown: &Shown,
+    ) -> Result<Answer, NoMemory>
+    where
+        N::Msg: Debug,
+        ensures { IfOk result (λ a. string_bytes a.reply ≡ []) }
+    {
+        let mut said = String::new(self.alloc);
+        match shown {
+            Shown::Help(about) => tell_help(*about, &mut said)?,
+            _ => self.tell_branch(book, branch, shown, &mut said)?,
+        }
+        Ok(Answer::of_words(self.alloc, said))
+    }
+
+    // Says where a branch is.
+    fn say_branch<N: Node<Meter = Tally>>(
+        &self,
+        book: &Book<N>,
+        branch: u32,
+    ) -> Result<Answer, NoMemory>
+        ensures { IfOk result (λ a. string_bytes a.reply ≡ []) }
+    {
+        let mut said = String::new(self.alloc);
+        match whereabouts(self.alloc, book, branch)? {
+            Some((place, clock)) => {
+                writeln!(&mut said, "branch {branch}, place {place}, clock {clock}")?
+            }
+            None => self
+                .known(N::PROBES)
+                .tell_refusal(Refusal::UnknownBranch, &mut said)?,
+        }
+        Ok(Answer::of_words(self.alloc, said))
+    }
+
+    /// Carries out an order on a book. The only error is want of memory.
+    pub(crate) fn answer<N: Node<Meter = Tally> + Debug>(
+        &self,
+        book: &mut Book<N>,
+        request: Request,
+    ) -> Result<Answer, NoMemory>
+    where
+        N::Msg: Debug,
+        ensures walks { Walks (rules N.laws N.PROBES book.old.scenario)
+            self.now.opened.now.names (course_of book.old) request.branch
+            request.order result (course_of book.new) }
+        ensures scenario { book.new.scenario ≡ book.old.scenario }
+    {
+        let Request { branch, order } = request;
+        match order {
+            Order::Asked(command) => self.take(book, command),
+            Order::Sought(sought) => self.look_for(book, branch, &sought),
+            Order::Shown(shown) => self.show(book, branch, &shown),
+            Order::Branch => self.say_branch(book, branch),
+            Order::Nothing | Order::Quit => {
+                Ok(Answer::of_words(self.alloc, String::new(self.alloc)))
+            }
+        }
+    }
+}

@@ -1,0 +1,226 @@
+//! The kept events of a branch, told one after the other.
+ghost use Rattle.std.specs.Prelude.{◌≡◌, ◌+◌, ◌-◌, false, length, IfOk, IsTrue, OnOk};
+ghost use Rattle.std.specs.Option.{option_map};
+ghost use Rattle.sim_world.specs.Events.{rules};
+ghost use Rattle.sim_book.specs.Freezing.{IsWhole};
+ghost use Rattle.sim_log.specs.Lines.{AreLines};
+ghost use Rattle.sim_log.specs.Range.{IsRange};
+
+use sim_book::Book;
+use sim_cli::Tally;
+use sim_log::{Places, Teller};
+use sim_node::{NoMemory, Node};
+use sim_script::Names;
+use sim_tape::{Frozen, Tape};
+use sim_world::{Event, World};
+use std::alloc::Global;
+use std::fmt::Debug;
+
+/// The kept events of a branch, with where in them each occurrence was queued and happened.
+#[derive(Drop)]
+pub(crate) struct Run<'a, N: Node> {
+    alloc: Global,
+    names: &'a Names,
+    pub(crate) frozen: Frozen<N>,
+    pub(crate) places: Places,
+}
+
+/// All kept events of a branch, or none if there is no such branch. The only error is want of
+/// memory.
+pub(crate) fn frozen_of<N: Node>(
+    alloc: Global,
+    book: &Book<N>,
+    branch: u32,
+) -> Result<Option<Frozen<N>>, NoMemory>
+    ensures { IfOk result (IsWhole book.now.scenario book.now.kept branch) }
+{
+    match book.warm(branch) {
+        None => Ok(None),
+        Some(_) => Ok(Some(book.frozen(alloc, branch)?)),
+    }
+}
+
+/// The place and the clock (ms) of a branch, or none if there is no such branch. A branch without
+/// its world in hand is one that was just made, and so at its end; or memory was wanted to move it,
+/// and its place is known again once it has moved. The only error is want of memory.
+pub(crate) fn whereabouts<N: Node<Meter = Tally>>(
+    alloc: Global,
+    book: &Book<N>,
+    branch: u32,
+) -> Result<Option<(u32, u64)>, NoMemory> {
+    if let Some(world) = book.here(branch) {
+        return Ok(Some((world.age(), world.clock())));
+    }
+    let Some(run) = frozen_of(alloc, book, branch)? else {
+        return Ok(None);
+    };
+    let end = run.events().len();
+    let tape = run.tape(alloc, end, &mut Tally::new())?;
+    Ok(Some((end, tape.clock())))
+}
+
+/// The place of a branch, or none if there is no such branch, or no memory to find it.
+pub(crate) fn place_of<N: Node<Meter = Tally>>(
+    alloc: Global,
+    book: &Book<N>,
+    branch: u32,
+) -> Option<u32> {
+    match whereabouts(alloc, book, branch) {
+        Ok(Some((place, _clock))) => Some(place),
+        Ok(None) | Err(_) => None,
+    }
+}
+
+/// Walks a tape past its next event, if there is one. The tape is warm then.
+pub(crate) fn pass<N: Node>(
+    alloc: Global,
+    tape: &mut Tape<N>,
+    meter: &mut N::Meter,
+) -> Result<(), NoMemory>
+    ensures { OnOk result (IsTrue tape.new.warm) }
+{
+    if tape.place() < tape.len() {
+        tape.forward(alloc, 1, meter)
+    } else {
+        tape.make_warm(alloc, meter)
+    }
+}
+
+/// What is asked of a world at a place, to tell an event that leads there or away.
+#[derive(Clone, Copy, Debug, PartialEq, Eq)]
+pub(crate) struct Serials {
+    /// The serial of the first pending occurrence.
+    pub(crate) first: Option<u64>,
+    /// The serial that the next occurrence gets.
+    pub(crate) next: u64,
+}
+
+fn serials_of<N: Node>(world: &World<N>) -> Serials {
+    let first = match world.first() {
+        Some((_due, serial, _occurrence)) => Some(serial),
+        None => None,
+    };
+    let next = world.next_serial();
+    Serials { first, next }
+}
+
+impl<'a, N: Node<Meter = Tally> + Debug> Run<'a, N>
+where
+    N::Msg: Debug,
+{
+    /// The kept events of a branch, or none if there is no such branch. The only error is want of
+    /// memory.
+    pub(crate) fn of(
+        alloc: Global,
+        names: &'a Names,
+        book: &Book<N>,
+        branch: u32,
+    ) -> Result<Option<Run<'a, N>>, NoMemory>
+        ensures { IfOk result (λ o. IsWhole book.now.scenario book.now.kept branch
+            (option_map (λ run. run.frozen) o)) }
+    {
+        let Some(frozen) = frozen_of(alloc, book, branch)? else {
+            return Ok(None);
+        };
+        let places = Places::new(alloc, &frozen, &mut Tally::new())?;
+        Ok(Some(Run {
+            alloc,
+            names,
+            frozen,
+            places,
+        }))
+    }
+
+    /// How many events are kept.
+    pub(crate) fn len(&self) -> u32
+        ensures { result ≡ length self.now.frozen.events }
+    {
+        self.frozen.events().len()
+    }
+
+    /// The event that leads to a place, or none if there is no such place or it is the start.
+    pub(crate) fn event(&self, place: u32) -> Option<Event> {
+        if place == 0 {
+            return None;
+        }
+        self.frozen.events().get(place - 1)
+    }
+
+    /// The serials at a place, or at the end if there is no such place. The only error is want of
+    /// memory.
+    pub(crate) fn serials(&self, place: u32) -> Result<Serials, NoMemory> {
+        let place = place.min(self.len());
+        let tape = self.frozen.tape(self.alloc, place, &mut Tally::new())?;
+        Ok(serials_of(tape.here()))
+    }
+
+    /// The lines of the events from one to another. The only error is want of memory.
+    pub(crate) fn lines(&self, first: u32, last: u32) -> Result<Vec<u8>, NoMemory>
+        requires { IsRange first last (length self.now.frozen.events) }
+        ensures { IfOk result (λ log. AreLines
+            (rules N.laws N.PROBES self.now.frozen.scenario) self.now.frozen.events
+            false first (last + 1 - first) log.items) }
+    {
+        let teller = Teller {
+            alloc: self.alloc,
+            names: self.names,
+            places: &self.places,
+        };
+        teller.lines(&self.frozen, false, first, last, &mut Tally::new())
+    }
+
+    /// Tells the events from one to another, those that there are. The only error is want of
+    /// memory.
+    pub(crate) fn tell(&self, from: u32, to: u32, said: &mut String) -> Result<(), NoMemory> {
+        let (first, last) = (from.max(1), to.min(self.len()));
+        if last < first {
+            return Ok(());
+        }
+        let lines = self.lines(first, last)?;
+        said.push_str(str::from_utf8(lines.as_slice()).unwrap_or(""))
+    }
+
+    // Tells the events at which what has one of these serials happens.
+    fn tell_steps(&self, from: u64, to: u64, said: &mut String) -> Result<(), NoMemory> {
+        for serial in from..to {
+            if let Some(place) = self.places.step_of(serial) {
+                said.push_str("leads to ")?;
+                self.tell(place, place, said)?;
+            }
+        }
+        Ok(())
+    }
+
+    // Tells which event queued what happens at a step, from this place on.
+    fn tell_cause(&self, before: Serials, said: &mut String) -> Result<(), NoMemory> {
+        let Some(serial) = before.first else {
+            return Ok(());
+        };
+        match self.places.queued_by(serial) {
+            Some(cause) => {
+                said.push_str("caused by ")?;
+                self.tell(cause, cause, said)
+            }
+            None => said.push_str("pending from the start\n"),
+        }
+    }
+
+    /// Tells the event that leads to a place, what caused it and what it led to. The only error is
+    /// want of memory.
+    pub(crate) fn tell_event(&self, place: u32, said: &mut String) -> Result<(), NoMemory> {
+        let Some(event) = self.event(place) else {
+            let len = self.len();
+            return writeln!(
+                said,
+                "there is no event {place}; the last kept event is {len}"
+            );
+        };
+        self.tell(place, place, said)?;
+        let before = self.serials(place.saturating_sub(1))?;
+        if event == Event::Step {
+            self.tell_cause(before, said)?;
+        }
+        let after = self.serials(place)?;
+        self.tell_steps(before.next, after.next, said)
+    }
+}

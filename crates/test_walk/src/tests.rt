@@ -1,0 +1,525 @@
+//! Sessions of a walk: the commands, and all that is written.
+//!
+//! What each test catches:
+//! - `from_the_failing_place_to_its_cause`: a session on a run that fails, whose answers leave out
+//!   what leads to the cause, or tell another.
+//! - `commands`, `other_commands`: a command whose answer is another one, a short name that is not
+//!   taken, and a mistake that is told as another.
+//! - `a_long_way`: a move that tells more or fewer than 20 events, or leaves the others out in
+//!   silence.
+//! - `a_prompt`: a prompt with another branch, place or clock, or none.
+//! - `a_fault_of_the_script`: a script at fault that is walked nevertheless.
+use sim_cli::{Shipped, Status};
+use sim_walk::{Style, walk};
+use std::alloc::Global;
+use std::process::Abort;
+use std::test::Fail;
+
+// Two-phase commit on slow disks, up to the crash that tears the write of the commit.
+const TORN: &str = r#"format = 2
+seed = "0000000000000000000000000000000000000000000000000500000000000000"
+protocol = "two_phase"
+tick = 100
+latency_min = 10
+latency_max = 10
+loss = 0
+disk_latency = 5
+servers = ["a", "b"]
+checkpoint = 4
+window = 2
+
+[[client]]
+name = "w"
+ops = 1
+---
+run 8
+crash a
+bounce a
+run 2
+"#;
+
+const TO_THE_CAUSE: &str = "\
+first agree first unless 0
+e
+b
+cause
+disk a
+cause
+event
+b
+d a
+p
+";
+
+const CAUSE: &str = "\
+> first agree first unless 0
+place 12 clock 50
+fails: agree first unless 0: a.first 2 b.first 1 w.first 0
+> e
+12 clock 50: b gets Decide(true, 1) from a (sent at 11): writes 10 bytes at 0; asks for a \
+sync, due 55
+caused by 11 clock 40: a starts: sends Decide(true, 1) to b, due 50 (arrives at 12); timer 140
+> b
+place 11 clock 40
+back by 1; next is 12 clock 50: b gets Decide(true, 1) from a (sent at 11): writes 10 bytes \
+at 0; asks for a sync, due 55
+> cause
+place 10 clock 40
+back by 1; next is 11 clock 40: a starts: sends Decide(true, 1) to b, due 50 (arrives at \
+12); timer 140
+> disk a
+a: 10 bytes stable
+     0  01 00 00 00 00 00 00 00 01 00
+> cause
+place 9 clock 40
+back by 1; next is 10 clock 40: bounce a
+> event
+9 clock 40: crash a: keeps 9 of 10 bytes at 0; loses its sync, due 45; loses its timer, due 140
+> b
+place 8 clock 40
+back by 1; next is 9 clock 40: crash a: keeps 9 of 10 bytes at 0; loses its sync, due 45; \
+loses its timer, due 140
+> d a
+a: 10 bytes stable
+     0  01 00 00 00 00 00 00 00 00 00
+not stable: 10 bytes at 0 (a sync is on its way): 01 00 00 00 00 00 00 00 01 01
+> p
+due 45: a's sync of 1 is done (queued at 8)
+due 125: b's timer ends (queued at 6)
+due 140: a's timer ends (queued at 8)
+due 200: w's timer ends (queued at 3)
+";
+
+// Two pings over links of 10 ms.
+const PINGS: &str = r#"format = 1
+seed = "0000000000000000000000000000000000000000000000000000000000000000"
+protocol = "echo"
+tick = 100
+latency_min = 10
+latency_max = 10
+loss = 0
+servers = ["a"]
+checkpoint = 4
+window = 2
+
+[[client]]
+name = "w"
+ops = 2
+---
+run 4
+"#;
+
+const COMMANDS: &str = "\
+pending
+hold a w
+s
+links
+
+host w
+disk a
+log 3 4
+at 10
+f 9
+last a
+c
+held w.next <= 1
+first w.next <= 1
+first done w
+first z.next = 0
+event 3
+event 9
+g 2
+script
+branch 2
+@1
+crash a
+@0 look
+bounce z
+log
+t
+script
+@7
+@x step
+crsh a
+goto a
+back 1 2
+host
+held w.next
+last z
+help first
+# a comment
+w w.next <= 1
+look probe w next
+trace
+quit
+s
+";
+
+const ANSWERS: &str = "\
+> pending
+due 30: a gets Ping(2) from w (queued at 4)
+> hold a w
+place 5 clock 20
+5 clock 20: hold a w
+> s
+place 6 clock 30
+6 clock 30: a gets Ping(2) from w (sent at 4): sends Pong(2) to w, held
+> links
+a to w: held, 1 message
+  Pong(2)
+w to a: held, 0 messages
+> links
+a to w: held, 1 message
+  Pong(2)
+w to a: held, 0 messages
+> host w
+w: up, not done
+state: Client { next: 2 }
+probes: next 2 served 0
+disk: 0 bytes stable, 0 writes not stable
+nothing is pending
+> disk a
+a: 0 bytes stable
+> log 3 4
+3 clock 10: a gets Ping(1) from w (sent at 2): sends Pong(1) to w, due 20 (arrives at 4)
+4 clock 20: w gets Pong(1) from a (sent at 3): sends Ping(2) to a, due 30 (arrives at 6)
+> at 10
+place 3 clock 10
+back by 3; next is 4 clock 20: w gets Pong(1) from a (sent at 3): sends Ping(2) to a, due \
+30 (arrives at 6)
+> f 9
+refused 5 TooFar
+there is no such place among the kept events
+> last a
+place 2 clock 0
+back by 1; next is 3 clock 10: a gets Ping(1) from w (sent at 2): sends Pong(1) to w, due \
+20 (arrives at 4)
+> c
+place 1 clock 0
+back by 1; next is 2 clock 0: w starts: sends Ping(1) to a, due 10 (arrives at 3)
+> held w.next <= 1
+place 0 clock 0
+back by 1; next is 1 clock 0: a starts
+> first w.next <= 1
+place 4 clock 20
+1 clock 0: a starts
+2 clock 0: w starts: sends Ping(1) to a, due 10 (arrives at 3)
+3 clock 10: a gets Ping(1) from w (sent at 2): sends Pong(1) to w, due 20 (arrives at 4)
+4 clock 20: w gets Pong(1) from a (sent at 3): sends Ping(2) to a, due 30 (arrives at 6)
+fails: w.next <= 1: w.next 2
+> first done w
+place 0 clock 0
+back by 4; next is 1 clock 0: a starts
+fails: done w
+> first z.next = 0
+there is no such host
+hosts: a w
+> event 3
+3 clock 10: a gets Ping(1) from w (sent at 2): sends Pong(1) to w, due 20 (arrives at 4)
+caused by 2 clock 0: w starts: sends Ping(1) to a, due 10 (arrives at 3)
+leads to 4 clock 20: w gets Pong(1) from a (sent at 3): sends Ping(2) to a, due 30 (arrives \
+at 6)
+> event 9
+there is no event 9; the last kept event is 6
+> g 2
+place 2 clock 0
+1 clock 0: a starts
+2 clock 0: w starts: sends Ping(1) to a, due 10 (arrives at 3)
+> script
+format = 1
+seed = \"0000000000000000000000000000000000000000000000000000000000000000\"
+protocol = \"echo\"
+tick = 100
+latency_min = 10
+latency_max = 10
+loss = 0
+servers = [\"a\"]
+checkpoint = 4
+window = 2
+
+[[client]]
+name = \"w\"
+ops = 2
+---
+step
+step
+> branch 2
+made 1
+> @1
+branch 1, place 2, clock 0
+> crash a
+place 3 clock 0
+3 clock 0: crash a
+> @0 look
+place 2 clock 0 serial 3 net 2 torn 0 pending 1 held 0
+> bounce z
+refused 2 UnknownHost
+there is no such host
+hosts: a w
+> log
+1 clock 0: a starts
+2 clock 0: w starts: sends Ping(1) to a, due 10
+3 clock 0: crash a
+> t
+place 5 clock 100
+4 clock 10: a gets Ping(1) from w (sent at 2): it is stopped, and the message is dropped
+5 clock 100: the clock goes on
+> script
+there is none: no line makes the clock move alone, as `tick` does
+> @7
+there is no such branch; `branch P` makes one
+> @x step
+word 1, \"@x\": expected `@` and the number of a branch
+> crsh a
+word 1, \"crsh\": expected a command
+`crash` is near; `help` lists the commands
+> goto a
+word 2, \"a\": expected a number of 1 to 9 digits
+> back 1 2
+word 3, \"2\": expected the end of the line
+> host
+a word is missing at the end: expected the name of a host
+hosts: a w
+> held w.next
+a word is missing at the end: expected `<`, `<=`, `=`, `!=`, `>=` or `>`
+> last z
+there is no such host
+hosts: a w
+> help first
+       first COND         to the first place at which the condition fails
+COND is 1 to 8 terms, joined by `and` and `or`. A term is one of:
+  HOST.PROBE OP VALUE          up HOST      not up HOST
+  any PROBE OP VALUE           done HOST    not done HOST
+  all PROBE OP VALUE           agree PROBE unless N
+  count PROBE OP VALUE OP K    agree PROBE by PROBE unless N
+                               differ PROBE unless N
+OP is <, <=, =, !=, >= or >; VALUE is a number or HOST.PROBE.
+> # a comment
+> w w.next <= 1
+made 0
+> look probe w next
+w next 1
+> trace
+{\"branch\":1,\"events\":[\"step\",\"step\",\"crash a\",\"step\",\"advance 100\"]}
+> quit
+";
+
+const OTHER_COMMANDS: &str = "\
+partition a w
+repair a w
+cutoneway w a
+repaironeway w a
+hold a w
+release a w
+run 9
+watch done w
+rewind 9
+unwatch 0
+unwatch 0
+cut
+forward
+r
+r 1
+bounce w
+? quit
+goto 0
+q
+";
+
+const OTHER_ANSWERS: &str = "\
+> partition a w
+place 5 clock 20
+5 clock 20: partition a w
+> repair a w
+place 6 clock 20
+6 clock 20: repair a w
+> cutoneway w a
+place 7 clock 20
+7 clock 20: cutoneway w a
+> repaironeway w a
+place 8 clock 20
+8 clock 20: repaironeway w a
+> hold a w
+place 9 clock 20
+9 clock 20: hold a w
+> release a w
+place 10 clock 20
+10 clock 20: release a w
+> run 9
+place 12 clock 40 all done
+11 clock 30: a gets Ping(2) from w (sent at 4): sends Pong(2) to w, due 40 (arrives at 12)
+12 clock 40: w gets Pong(2) from a (sent at 11): is done
+> watch done w
+made 0
+> rewind 9
+place 11 clock 30 watch 0
+back by 1; next is 12 clock 40: w gets Pong(2) from a (sent at 11): is done
+> unwatch 0
+dropped 0
+> unwatch 0
+refused 10 UnknownWatch
+there is no such watch
+> cut
+place 11 clock 30
+> forward
+refused 5 TooFar
+there is no such place among the kept events
+> r
+a word is missing at the end: expected a number of 1 to 9 digits
+> r 1
+place 12 clock 40 all done
+12 clock 40: w gets Pong(2) from a (sent at 11): is done
+> bounce w
+place 13 clock 40
+13 clock 40: bounce w
+> ? quit
+        quit           q  ends the walk, as the end of the input does
+> goto 0
+place 0 clock 0
+back by 13; next is 1 clock 0: a starts
+> q
+";
+
+// Twelve times a link is held and let go: 24 events.
+const MANY_HOLDS: &str = "\
+hold a w
+release a w
+hold a w
+release a w
+hold a w
+release a w
+hold a w
+release a w
+hold a w
+release a w
+hold a w
+release a w
+hold a w
+release a w
+hold a w
+release a w
+hold a w
+release a w
+hold a w
+release a w
+hold a w
+release a w
+hold a w
+release a w
+";
+
+const A_LONG_WAY: &str = "\
+> goto 4
+place 4 clock 20
+back by 24; next is 5 clock 20: hold a w
+> forward 24
+place 28 clock 20
+5 clock 20: hold a w
+6 clock 20: release a w
+7 clock 20: hold a w
+8 clock 20: release a w
+9 clock 20: hold a w
+10 clock 20: release a w
+11 clock 20: hold a w
+12 clock 20: release a w
+13 clock 20: hold a w
+14 clock 20: release a w
+15 clock 20: hold a w
+16 clock 20: release a w
+17 clock 20: hold a w
+18 clock 20: release a w
+19 clock 20: hold a w
+20 clock 20: release a w
+21 clock 20: hold a w
+22 clock 20: release a w
+23 clock 20: hold a w
+24 clock 20: release a w
+.. and 4 more: `log 25 28` tells them
+";
+
+// A walk of an input writes this for these commands, and ends well.
+fn is_walked<R: Eprint + Abort>(
+    rt: &R,
+    alloc: Global,
+    input: &str,
+    commands: &str,
+    is_prompted: bool,
+    want: &str,
+) -> Result<(), Fail> {
+    let mut written = Vec::new(alloc);
+    let style = Style { is_prompted };
+    let mut reader = input.as_bytes();
+    let mut typed = commands.as_bytes();
+    let ended = walk::<Shipped, _, _, _, _>(
+        rt,
+        alloc,
+        &mut reader,
+        style,
+        &mut typed,
+        &mut written,
+    );
+    assert!(rt; ended == Status::Well);
+    let text = str::from_utf8(written.as_slice())?;
+    assert!(rt; text == want, "{text}");
+    Ok(())
+}
+
+#[test]
+fn from_the_failing_place_to_its_cause(rt: HostRuntime) -> Result<(), Fail> {
+    is_walked(&rt, rt.alloc(), TORN, TO_THE_CAUSE, false, CAUSE)
+}
+
+#[test]
+fn commands(rt: HostRuntime) -> Result<(), Fail> {
+    is_walked(&rt, rt.alloc(), PINGS, COMMANDS, false, ANSWERS)
+}
+
+#[test]
+fn other_commands(rt: HostRuntime) -> Result<(), Fail> {
+    is_walked(&rt, rt.alloc(), PINGS, OTHER_COMMANDS, false, OTHER_ANSWERS)
+}
+
+#[test]
+fn a_long_way(rt: HostRuntime) -> Result<(), Fail> {
+    let input = format!(in rt.alloc(); "{PINGS}{MANY_HOLDS}")?;
+    let input = input.as_str();
+    is_walked(
+        &rt,
+        rt.alloc(),
+        input,
+        "goto 4\nforward 24\n",
+        false,
+        A_LONG_WAY,
+    )
+}
+
+#[test]
+fn a_prompt(rt: HostRuntime) -> Result<(), Fail> {
+    let want = "\
+`help` lists the commands.
+0 @ 4, 20 ms> place 3 clock 10
+back by 1; next is 4 clock 20: w gets Pong(1) from a (sent at 3): sends Ping(2) to a, due 30
+0 @ 3, 10 ms> \n";
+    is_walked(&rt, rt.alloc(), PINGS, "b\n", true, want)
+}
+
+#[test]
+fn a_fault_of_the_script(rt: HostRuntime) -> Result<(), Fail> {
+    let alloc = rt.alloc();
+    let mut written = Vec::new(alloc);
+    let style = Style { is_prompted: false };
+    let input = format!(in alloc; "{PINGS}back 5\n")?;
+    let mut reader = input.as_bytes();
+    let mut typed = b"look\n".as_slice();
+    let ended = walk::<Shipped, _, _, _, _>(
+        &rt,
+        alloc,
+        &mut reader,
+        style,
+        &mut typed,
+        &mut written,
+    );
+    assert!(rt; ended == Status::BadRequest);
+    assert!(rt; written.is_empty());
+    Ok(())
+}
