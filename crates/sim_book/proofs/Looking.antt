@@ -1,6 +1,6 @@
 -- The work of a rewind past the reach: stretch by stretch.
-use Rattle.std.proofs.Common.{◌≡◌, ℕ, suc, ◌+◌, ◌-◌, ◌*◌, ◌/◌, ◌%◌, ◌<◌, ◌≤◌, ◌⊎◌, true, false, nat_lt, nat_le, List, Option, None, Bool, inl, inr, refl, sym, ap, ◌∙◌, subst, arith}
-use Rattle.std.specs.Prelude.{if◌then◌else◌, ◌&&◌}
+use Rattle.std.proofs.Common.{◌≡◌, ℕ, suc, ◌+◌, ◌-◌, ◌*◌, ◌/◌, ◌%◌, ◌<◌, ◌≤◌, ◌⊎◌, true, false, nat_lt, List, Option, None, Bool, inl, inr, refl, sym, ap, ◌∙◌, subst, arith}
+use Rattle.std.specs.Prelude.{if◌then◌else◌}
 use Rattle.std.specs.Ordering.{ord_max, ord_min, nat_cmp}
 use Rattle.std.proofs.lemmas.Grind.{common_steps}
 use Rattle.std.proofs.Math.Nat.{add-mul, one-mul, mod-lt, div-mul-le_self, mul-mod_left, eq-or-lt_of_le}
@@ -14,6 +14,7 @@ use Rattle.sim_tape.specs.Tape.{Tape, with_world, at, is_within_reach, is_near_a
 use Rattle.sim_tape.specs.Works.{OnlyTurns, Plays, TakesAtMost, nodes_below}
 use Rattle.sim_tape.proofs.Joined.{quotient}
 use Rattle.sim_tape.proofs.Growing.{next_quotient}
+use Rattle.sim_tape.proofs.Turning.{not_ahead}
 use Rattle.sim_book.specs.Works.{TakesBack, stretches, nodes_from, Looks}
 use Rattle.sim_book.specs.declared.rewinds.Found.{Found}
 use Rattle.sim_book.specs.Running.{IsLooked, place_found}
@@ -207,16 +208,6 @@ module _ {State Msg : Type 0} (r : Rules State Msg) where
       let more = h.turns in
       let made = h.copies in
       record { turns = omega (arith, turns, more); copies = omega (arith, copies, made) }
-
-and_none : (b : Bool) → (b && false) ≡ false
-and_none true = refl
-and_none false = refl
-
--- a place before that of a tape is not ahead
-not_ahead : (p : ℕ) (u : Tape) → p ≤ u.place → is_near_ahead p u ≡ false
-not_ahead p u le =
-    let no : nat_lt u.place p ≡ false = grind (arith, nat_tests) in
-    ap (λ b. u.warm && (b && nat_le (p - u.place) (p % u.scenario.interval))) no ∙ and_none u.warm
 
 module _ {State Msg : Type 0} (node : NodeLaws State Msg) (probes : ℕ) where
   -- a jump back, within the reach or past it

@@ -1,6 +1,6 @@
--- The headline. A branch keeps its events and a place among them, and no world: its world is the run of these events,
--- from the start of the scenario up to the place. However the place was reached, forwards, back or by a jump, the world
--- that a book lends of a branch is that one.
+-- The headline. A branch keeps its events and a place among them, and no world: its world is the
+-- run of these events, from the start of the scenario up to the place. However the place was
+-- reached, forwards, back or by a jump, the world that a book lends of a branch is that one.
 use Rattle.std.specs.Prelude.{◌≡◌, ℕ, ◌≤◌, Bool, true, false, List, ◌++◌, length, take, Option, Some, None, slice_get, IsTrue}
 use Rattle.std.specs.Option.{unwrap_or, option_map}
 use Rattle.std.specs.List.{All}
@@ -34,13 +34,16 @@ module _ {State Msg : Type 0} (r : Rules State Msg) where
   abbrev pub IsWorldOf : Branch → World State Msg → Type 0
   IsWorldOf x w = world_by_run x ≡ Some w
 
-  -- Each branch's events can happen one after the other, so that it has a world; its place is among them; it has eight watches.
+  -- Each branch's events can happen one after the other, so that it has a world; its place is among
+  -- them; it has eight watches.
   abbrev pub AreBranches : Book → Type 0
   AreBranches book = All (IsBranch r) book
 
-  -- Each place of each branch has a world: the one that the answers speak of, which is nowhere the start for want of a run.
+  -- Each place of each branch has a world: the one that the answers speak of, which is nowhere the
+  -- start for want of a run.
   abbrev pub HasWorlds : Book → Type 0
-  HasWorlds book = All (λ x. (p : ℕ) → p ≤ length x.events → run r (take p x.events) ≡ Some (world_at r p x)) book
+  HasWorlds book = All (λ x. (p : ℕ) → p ≤ length x.events
+      → run r (take p x.events) ≡ Some (world_at r p x)) book
 
   -- how many steps past the end of a branch an answer speaks of, at most
   abbrev pub steps_ahead : Command → Branch → ℕ
@@ -58,9 +61,11 @@ module _ {State Msg : Type 0} (r : Rules State Msg) where
   abbrev pub BackAfterEvent : Book → Type 0
   BackAfterEvent book = (c : Command) → IsTrue (adds_one c) → refusal_of r c book ≡ None →
       let b = branch_of c in
-      world_by_run (branch b (after r (after r book c) (command.Back b 1))) ≡ world_by_run (branch b book)
+      world_by_run (branch b (after r (after r book c) (command.Back b 1)))
+      ≡ world_by_run (branch b book)
 
   -- A way back by n, and then one forward by n, lead to the world that was left.
   abbrev pub ForwardAfterBack : Book → Type 0
   ForwardAfterBack book = (b n : ℕ) → refusal_of r (command.Back b n) book ≡ None →
-      world_by_run (branch b (after r (after r book (command.Back b n)) (command.Forward b n))) ≡ world_by_run (branch b book)
+      world_by_run (branch b (after r (after r book (command.Back b n)) (command.Forward b n)))
+      ≡ world_by_run (branch b book)

@@ -17,8 +17,9 @@ use Rattle.sim_book.specs.Kept.{Kept, all_shown}
 
 -- The reach after a command that moves the place. It rises by one for each event that is added or
 -- walked forward, up to the window, and falls by one for each that is walked back within the reach.
--- On a cold tape a step, a fault, a run, a tick and a rewind first make the world at the place. After
--- any other jump the reach is that of the way there; after a rewind past the reach it is open.
+-- On a cold tape a step, a fault, a run, a tick and a rewind first make the world at the place.
+-- After any other jump the reach is that of the way there; after a rewind past the reach it is
+-- open.
 abbrev pub Moves : Command → Tape → Tape → Type 0
 Moves (command.Step b) t u = IsTrue u.warm × (u.reach ≡ min t.scenario.window (reach_here t + 1))
 Moves (command.Fault b f) t u = IsTrue u.warm × (u.reach ≡ min t.scenario.window (reach_here t + 1))
@@ -45,16 +46,24 @@ is_freeze (command.Freeze b) = true
 is_freeze _ = false
 
 module _ {State Msg : Type 0} (node : NodeLaws State Msg) (probes : ℕ) where
-  -- Where memory was wanted: a step or a run on a warm tape wants it only where something is pending;
-  -- a look, and a run of no step, only where the tape is cold.
+  -- Where memory was wanted: a step or a run on a warm tape wants it only where something is
+  -- pending. A look, a run of no step, and a move to the place where the tape is, want it only of a
+  -- cold tape.
   abbrev pub Wants : Command → Tape → Type 0
-  Wants (command.Step b) t = IsTrue t.warm → is_idle (world_of (rules node probes t.scenario) t) ≡ false
+  Wants (command.Step b) t =
+      IsTrue t.warm → is_idle (world_of (rules node probes t.scenario) t) ≡ false
   Wants (command.Run b n) t =
-      (IsTrue t.warm → is_idle (world_of (rules node probes t.scenario) t) ≡ false) × (n ≡ 0 → t.warm ≡ false)
+      (IsTrue t.warm → is_idle (world_of (rules node probes t.scenario) t) ≡ false)
+      × (n ≡ 0 → t.warm ≡ false)
+  Wants (command.Back b n) t = n ≡ 0 → t.warm ≡ false
+  Wants (command.Forward b n) t = n ≡ 0 → t.warm ≡ false
+  Wants (command.Goto b p) t = p ≡ t.place → t.warm ≡ false
+  Wants (command.Rewind b n) t = n ≡ 0 → t.warm ≡ false
   Wants (command.Look b q) t = t.warm ≡ false
   Wants _ t = Unit {0}
 
-  -- A refusal other than for want of memory leaves a tape as it is, warm or cold; that nothing is pending is found out on a warm one.
+  -- A refusal other than for want of memory leaves a tape as it is, warm or cold; that nothing is
+  -- pending is found out on a warm one.
   abbrev pub Refuses : Refusal → Command → Tape → Tape → Type 0
   Refuses refusal.NoMemory c t u = Wants c t
   Refuses refusal.Idle c t u = IsTrue t.warm → u ≡ t
@@ -70,11 +79,16 @@ module _ {State Msg : Type 0} (node : NodeLaws State Msg) (probes : ℕ) where
 
   -- of a book's tapes only that of the command's branch changes, in this way
   pub record KeepsTapes (c : Command) (given : Reply) (old new : List Kept) : Type 0 where
-    pub others : (i : ℕ) (d : Kept) → i < length old → i ≢ branch_of c → slice_index_or new i d ≡ slice_index_or old i d
-    pub own : (d : Kept) → branch_of c < length old → Keeps c given (slice_index_or old (branch_of c) d).tape (slice_index_or new (branch_of c) d).tape
+    pub others : (i : ℕ) (d : Kept) → i < length old → i ≢ branch_of c
+        → slice_index_or new i d ≡ slice_index_or old i d
+    pub own : (d : Kept) → branch_of c < length old
+        → Keeps c given (slice_index_or old (branch_of c) d).tape
+        (slice_index_or new (branch_of c) d).tape
 
   -- a step or a run where nothing is pending, of a branch whose tape is warm, is told so
   abbrev pub TellsIdle : Scenario → Command → Reply → List Kept → Type 0
   TellsIdle s c given kept =
-      (d : Kept) → branch_of c < length kept → IsTrue (slice_index_or kept (branch_of c) d).tape.warm
-      → answer (rules node probes s) (all_shown kept) c ≡ reply.Refused refusal.Idle → given ≡ reply.Refused refusal.Idle
+      (d : Kept) → branch_of c < length kept
+      → IsTrue (slice_index_or kept (branch_of c) d).tape.warm
+      → answer (rules node probes s) (all_shown kept) c ≡ reply.Refused refusal.Idle
+      → given ≡ reply.Refused refusal.Idle

@@ -17,9 +17,12 @@ use Rattle.sim_book.specs.Answer.{Addition, Move, tick_addition, run_addition, r
 abbrev pub IsLengthened : List Event → Tape → Tape → Type 0
 IsLengthened new t u = u ≡ with_world true u.reach (lengthened new t)
 
--- the tape u is t at a place, and warm
-abbrev pub IsMoved : ℕ → Tape → Tape → Type 0
-IsMoved p t u = u ≡ with_world true u.reach (at p t)
+-- the tape u is t with some events more at its end, or at some place, warm or cold
+abbrev pub HasGrown : Tape → Tape → Type 0
+HasGrown t u = (more : List Event) × (u ≡ with_world u.warm u.reach (lengthened more t))
+
+abbrev pub IsElsewhere : Tape → Tape → Type 0
+IsElsewhere t u = (p : ℕ) × (u ≡ with_world u.warm u.reach (at p t))
 
 module _ {State Msg : Type 0} (node : NodeLaws State Msg) (probes : ℕ) where
   -- the world at the place of a tape

@@ -33,31 +33,43 @@ found_at p (Some watch) = Some (record { place = p; watch = watch })
 found_at p None = None
 
 module _ {State Msg : Type 0} (node : NodeLaws State Msg) (probes : ℕ) where
-  -- Of a run of n steps that began at the tape t, k steps were added, which led to the tape u, and it did not have to stop.
-  pub record IsRunning (n : ℕ) (watches : List (Option Cond)) (t : Tape) (k : ℕ) (u : Tape) : Type 0 where
+  -- Of a run of n steps that began at the tape t, k steps were added, which led to the tape u, and
+  -- it did not have to stop.
+  pub record IsRunning (n : ℕ) (watches : List (Option Cond)) (t : Tape) (k : ℕ)
+      (u : Tape) : Type 0 where
     pub new : u ≡ with_world true u.reach (lengthened (steps k) t)
-    pub before : (j : ℕ) → 1 ≤ j → j ≤ k → run_stop_at (rules node probes t.scenario) n (branch_with watches t) j ≡ None
+    pub before : (j : ℕ) → 1 ≤ j → j ≤ k
+        → run_stop_at (rules node probes t.scenario) n (branch_with watches t) j ≡ None
     pub room : length u.events < 65536
-    pub can : refusal_of (rules node probes u.scenario) event.Step (world_of (rules node probes u.scenario) u) ≡ None
+    pub can : refusal_of (rules node probes u.scenario) event.Step
+        (world_of (rules node probes u.scenario) u) ≡ None
     pub reach : u.reach ≡ min t.scenario.window (t.reach + k)
 
-  -- Of a tick that began at the tape t, k steps were added, which led to the tape u, and before each of them something was due by the tick's end.
+  -- Of a tick that began at the tape t, k steps were added, which led to the tape u, and before
+  -- each of them something was due by the tick's end.
   pub record IsTicking (end : ℕ) (t : Tape) (k : ℕ) (u : Tape) : Type 0 where
     pub new : u ≡ with_world true u.reach (lengthened (steps k) t)
-    pub before : (j : ℕ) → j < k → is_due_by end (after_steps (rules node probes t.scenario) j (branch_with [] t)) ≡ true
-    pub on : (world_of (rules node probes t.scenario) t).clock ≤ (world_of (rules node probes u.scenario) u).clock
+    pub before : (j : ℕ) → j < k
+        → is_due_by end (after_steps (rules node probes t.scenario) j (branch_with [] t)) ≡ true
+    pub on : (world_of (rules node probes t.scenario) t).clock ≤
+        (world_of (rules node probes u.scenario) u).clock
     pub within : (world_of (rules node probes u.scenario) u).clock ≤ end
     pub reach : u.reach ≡ min t.scenario.window (t.reach + k)
 
   -- no watch fails at a place from `low` on, below `high`
   abbrev pub NoneFails : List (Option Cond) → Tape → ℕ → ℕ → Type 0
-  NoneFails watches t low high = (p : ℕ) → low ≤ p → p < high → failing_at (rules node probes t.scenario) (branch_with watches t) p ≡ None
+  NoneFails watches t low high =
+      (p : ℕ) → low ≤ p → p < high
+      → failing_at (rules node probes t.scenario) (branch_with watches t) p ≡ None
 
-  -- of the places from `low` on, below `high`, the last at which a watch fails, and the lowest watch that does
-  pub record FailsLast (watches : List (Option Cond)) (t : Tape) (low high : ℕ) (found : Found) : Type 0 where
+  -- of the places from `low` on, below `high`, the last at which a watch fails, and the lowest
+  -- watch that does
+  pub record FailsLast (watches : List (Option Cond)) (t : Tape) (low high : ℕ)
+      (found : Found) : Type 0 where
     pub from : low ≤ found.place
     pub below : found.place < high
-    pub fails : failing_at (rules node probes t.scenario) (branch_with watches t) found.place ≡ Some found.watch
+    pub fails : failing_at (rules node probes t.scenario) (branch_with watches t) found.place ≡
+        Some found.watch
     pub after : NoneFails watches t (found.place + 1) high
 
   -- what is found where a watch fails, or that none does
@@ -65,19 +77,24 @@ module _ {State Msg : Type 0} (node : NodeLaws State Msg) (probes : ℕ) where
   IsLast watches t low high None = NoneFails watches t low high
   IsLast watches t low high (Some found) = FailsLast watches t low high found
 
-  -- Of a rewind that began at the warm tape t, k events were taken back within the reach, which led to the tape u, and no watch failed.
+  -- Of a rewind that began at the warm tape t, k events were taken back within the reach, which led
+  -- to the tape u, and no watch failed.
   pub record IsRewinding (watches : List (Option Cond)) (t : Tape) (k : ℕ) (u : Tape) : Type 0 where
     pub new : u ≡ with_world true u.reach (at (t.place - k) t)
     pub none : NoneFails watches t (t.place - k) t.place
     pub reach : u.reach ≡ t.reach - k
 
-  -- Of a stretch that begins at the place of the warm tape t, k events were walked over, which led to the tape u, and this was found last.
-  pub record IsLooking (watches : List (Option Cond)) (t : Tape) (k : ℕ) (last : Option Found) (u : Tape) : Type 0 where
+  -- Of a stretch that begins at the place of the warm tape t, k events were walked over, which led
+  -- to the tape u, and this was found last.
+  pub record IsLooking (watches : List (Option Cond)) (t : Tape) (k : ℕ) (last : Option Found)
+      (u : Tape) : Type 0 where
     pub new : u ≡ with_world true u.reach (at (t.place + k) t)
     pub found : IsLast watches t t.place (t.place + k + 1) last
 
-  -- Of a rewind that began at the warm tape t, the places down to `high` were looked at, the tape is now u, and no watch failed.
-  pub record IsPast (watches : List (Option Cond)) (t : Tape) (low high : ℕ) (u : Tape) : Type 0 where
+  -- Of a rewind that began at the warm tape t, the places down to `high` were looked at, the tape
+  -- is now u, and no watch failed.
+  pub record IsPast (watches : List (Option Cond)) (t : Tape) (low high : ℕ)
+      (u : Tape) : Type 0 where
     pub new : u ≡ with_world true u.reach (at u.place t)
     pub ahead : high ≤ u.place
     pub from : low ≤ high

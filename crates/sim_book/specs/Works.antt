@@ -19,7 +19,8 @@ use Rattle.sim_book.specs.Book.{branch_of}
 use Rattle.sim_book.specs.Kept.{Kept}
 
 module _ {State Msg : Type 0} (r : Rules State Msg) where
-  -- the work of a world that is made anew: fewer turns than the interval, and one copy of a checkpoint
+  -- the work of a world that is made anew: fewer turns than the interval, and one copy of a
+  -- checkpoint
   abbrev pub Renews : ℕ → Tape → Work → Work → Type 0
   Renews p t old new = Plays (r.scenario.interval - 1) (nodes_below r p t.events) old new
 
@@ -33,7 +34,8 @@ module _ {State Msg : Type 0} (r : Rules State Msg) where
     pub first : Warms t old made
     pub last : work made new
 
-  -- the work of a jump to a place: fewer turns than the interval, and at most one copy of a checkpoint
+  -- the work of a jump to a place: fewer turns than the interval, and at most one copy of a
+  -- checkpoint
   abbrev pub Jumps : ℕ → Tape → Work → Work → Type 0
   Jumps p t old new = TakesAtMost (r.scenario.interval - 1) (nodes_below r p t.events) old new
 
@@ -41,7 +43,8 @@ module _ {State Msg : Type 0} (r : Rules State Msg) where
   abbrev pub TakesBack : ℕ → ℕ → Tape → Work → Work → Type 0
   TakesBack n p t old new = new ≡ undone_by (acting r p n t.events) old
 
-  -- The n last events of these were added: a turn for each at most, no undo, and a copy of the world for each multiple of the interval.
+  -- The n last events of these were added: a turn for each at most, no undo, and a copy of the
+  -- world for each multiple of the interval.
   abbrev pub Adds : ℕ → List Event → Work → Work → Type 0
   Adds n events old new = Plays n (nodes_made r (length events - n) n events) old new
 
@@ -66,33 +69,45 @@ module _ {State Msg : Type 0} (r : Rules State Msg) where
       (nodes_from (low / r.scenario.interval) (stretches low high) t.events
       + nodes_below r low t.events) old new
 
-  -- A command that moves the place. Where the world is not there, a step, a run, a tick, a fault and
-  -- a rewind first make it. Then an event is added with at most one turn; a walk back within the
-  -- reach takes no turn and no copy; a walk forward, and a goto a short way ahead, take a turn an
-  -- event at most, and nothing else; any other jump takes fewer turns than the interval and at most
-  -- one copy of a world. A rewind past the reach looks through the stretches that it passes there.
+  -- at most those reactions were taken back by which the last n events before the place act
+  abbrev pub UndoesAtMost : ℕ → Tape → Work → Work → Type 0
+  UndoesAtMost n t old new = new.undos ≤ old.undos + acting r (t.place - n) n t.events
+
+  -- A command that moves the place. Where the world is not there, a step, a run, a tick, a fault
+  -- and a rewind first make it. Then an event is added with at most one turn; a walk back within
+  -- the reach takes no turn and no copy; a walk forward, and a goto a short way ahead, take a turn
+  -- an event at most, and nothing else; any other jump makes the world anew, by one copy of a world
+  -- and fewer turns than the interval, and takes nothing back. A rewind past the reach takes back
+  -- what lies within it at most, and looks through the stretches that it passes there.
   abbrev pub MovesBy : Command → Tape → Tape → Work → Work → Type 0
   MovesBy (command.Step b) t u old new = WarmsAnd (Plays 1 (nodes_at_end r event.Step t)) t old new
-  MovesBy (command.Fault b f) t u old new = WarmsAnd (Plays 1 (nodes_at_end r (event.Fault f) t)) t old new
-  MovesBy (command.Run b n) t u old new = WarmsAnd (Adds (length u.events - length t.events) u.events) t old new
-  MovesBy (command.Tick b) t u old new = WarmsAnd (Adds (length u.events - length t.events) u.events) t old new
+  MovesBy (command.Fault b f) t u old new =
+      WarmsAnd (Plays 1 (nodes_at_end r (event.Fault f) t)) t old new
+  MovesBy (command.Run b n) t u old new =
+      WarmsAnd (Adds (length u.events - length t.events) u.events) t old new
+  MovesBy (command.Tick b) t u old new =
+      WarmsAnd (Adds (length u.events - length t.events) u.events) t old new
   MovesBy (command.Back b n) t u old new =
-      (IsTrue t.warm → n ≤ t.reach → TakesBack n (t.place - n) t old new) × Jumps (t.place - n) t old new
-      × (t.warm ≡ false → Renews (t.place - n) t old new)
+      (IsTrue t.warm → n ≤ t.reach → TakesBack n (t.place - n) t old new)
+      × Jumps (t.place - n) t old new
+      × (is_within_reach (t.place - n) t ≡ false → Renews (t.place - n) t old new)
   MovesBy (command.Goto b p) t u old new =
       (IsTrue (is_within_reach p t) → TakesBack (t.place - p) p t old new)
-      × (IsTrue (is_near_ahead p t) → OnlyTurns (p - t.place) old new) × Jumps p t old new
-      × (t.warm ≡ false → Renews p t old new)
+      × (IsTrue (is_near_ahead p t) → OnlyTurns (p - t.place) old new)
+      × Jumps p t old new
+      × (is_within_reach p t ≡ false → is_near_ahead p t ≡ false → Renews p t old new)
   MovesBy (command.Forward b n) t u old new =
       (IsTrue t.warm → OnlyTurns n old new) × (t.warm ≡ false → Renews (t.place + n) t old new)
   MovesBy (command.Rewind b n) t u old new =
       WarmsAnd (λ made last.
       (t.place - u.place ≤ reach_here t → TakesBack (t.place - u.place) u.place t made last)
-      × Looks u.place (t.place - reach_here t) t made last) t old new
+      × Looks u.place (t.place - reach_here t) t made last
+      × UndoesAtMost (reach_here t) t made last) t old new
   MovesBy (command.Cut b) t u old new = new ≡ old
   MovesBy _ t u old new = Unit {0}
 
-  -- Nothing is known where memory was wanted. That nothing is pending is found out on a warm tape; no other refusal takes any work.
+  -- Nothing is known where memory was wanted. That nothing is pending is found out on a warm tape;
+  -- no other refusal takes any work.
   abbrev pub RefusesBy : Refusal → Tape → Work → Work → Type 0
   RefusesBy refusal.NoMemory t old new = Unit {0}
   RefusesBy refusal.Idle t old new = Warms t old new
@@ -111,7 +126,11 @@ module _ {State Msg : Type 0} (node : NodeLaws State Msg) (probes : ℕ) where
   abbrev pub Works : Command → Reply → Tape → Tape → Work → Work → Type 0
   Works c given t u old new = WorksBy (rules node probes t.scenario) c given t u old new
 
-  -- the work of a command of a book: that on the tape of its branch, and none where there is no such branch
-  pub record TakesWork (c : Command) (given : Reply) (kept kept' : List Kept) (old new : Work) : Type 0 where
-    pub own : (d : Kept) → branch_of c < length kept → Works c given (slice_index_or kept (branch_of c) d).tape (slice_index_or kept' (branch_of c) d).tape old new
+  -- the work of a command of a book: that on the tape of its branch, and none where there is no
+  -- such branch
+  pub record TakesWork (c : Command) (given : Reply) (kept kept' : List Kept)
+      (old new : Work) : Type 0 where
+    pub own : (d : Kept) → branch_of c < length kept
+        → Works c given (slice_index_or kept (branch_of c) d).tape
+        (slice_index_or kept' (branch_of c) d).tape old new
     pub none : length kept ≤ branch_of c → new ≡ old

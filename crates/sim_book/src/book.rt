@@ -1,11 +1,13 @@
 ghost use Rattle.std.specs.Prelude.{◌≡◌, ℕ, ◌+◌, ◌<◌, ◌≤◌, ◌↔◌, ◌∷◌, [], ◌++◌};
-ghost use Rattle.std.specs.Prelude.{List, length, slice_index_or, replicate, true, false, IfOk, OnOk, OnErr, IfErr, OnSome, IfSome, IsSome, None, IsTrue};
+ghost use Rattle.std.specs.Prelude.{List, length, slice_index_or, replicate, true, false, IfOk};
+ghost use Rattle.std.specs.Prelude.{OnOk, OnErr, IfErr, OnSome, IfSome, IsSome, None, IsTrue};
 ghost use Rattle.sim_world.specs.Events.{rules};
-ghost use Rattle.sim_book.specs.Kept.{view_of, all_shown, first_kept, Kept as KeptValue};
+ghost use Rattle.sim_book.specs.Kept.{all_shown, first_kept, Kept as KeptValue};
 ghost use Rattle.sim_book.specs.History.{IsLegal};
 ghost use Rattle.sim_book.specs.Book.{branch};
-ghost use Rattle.sim_book.specs.Headline.{is_warm, AreOf, AreBranches, HasWorlds, HasStepWorlds, IsWorldOf, BackAfterEvent, ForwardAfterBack};
-ghost use Rattle.sim_book.specs.BookOf.{IsBook, Turned};
+ghost use Rattle.sim_book.specs.Headline.{is_warm, AreOf, AreBranches, HasWorlds, HasStepWorlds};
+ghost use Rattle.sim_book.specs.Headline.{IsWorldOf, BackAfterEvent, ForwardAfterBack};
+ghost use Rattle.sim_book.specs.BookOf.{Turned};
 ghost use Rattle.sim_tape.specs.Works.{Opens};
 ghost use Rattle.sim_book.specs.Freezing.{GivesFrozen, GivesMade, IsWhole};
 
@@ -36,58 +38,11 @@ impl<N: Node> Model for Book<N> {
 
     ghost Value = { BookView };
 
-    ghost view = { λ b. view_of b.scenario b.branches.items b.history.items (N.Meter.work b.meter) };
+    ghost view = { λ b.
+        view_of b.scenario b.branches.items b.history.items (N.Meter.work b.meter) };
 
-    ghost invariant = { λ b. IsBook (rules N.laws N.PROBES b.scenario) b.scenario b.branches.items b.history.items b.numbers };
-}
-
-// A command is carried out and its entry is kept.
-fn take_turn<N: Node>(
-    alloc: Global,
-    scenario: &Scenario,
-    branches: &mut Vec<Kept<N>>,
-    history: &mut Vec<Entry>,
-    numbers: &mut [u32; 256],
-    meter: &mut N::Meter,
-    session: u8,
-    command: Command,
-) -> Result<Entry, NotTaken>
-    requires book { IsBook (rules N.laws N.PROBES scenario.now) scenario.now branches.old.items history.old.items numbers.old }
-    ensures book { IsBook (rules N.laws N.PROBES scenario.now) scenario.now branches.new.items history.new.items numbers.new }
-    ensures turned { IfOk result (λ e. Turned N.laws N.PROBES session command
-        (view_of scenario.now branches.old.items history.old.items (N.Meter.work meter.old)) e
-        (view_of scenario.now branches.new.items history.new.items (N.Meter.work meter.new))) }
-    ensures meter { OnErr result (N.Meter.work meter.new ≡ N.Meter.work meter.old) }
-    ensures branches { OnErr result (branches.new.items ≡ branches.old.items) }
-    ensures history { OnErr result (history.new.items ≡ history.old.items) }
-    ensures full { IfErr result (λ why. (why ≡ NotTaken.HistoryFull) ↔ (65536 ≤ length history.old.items)) }
-{
-    if history.len() >= 65536 {
-        return Err(NotTaken::HistoryFull);
-    }
-    match history.reserve(1) {
-        Err(_) => return Err(NotTaken::NoMemory),
-        Ok(()) => {}
-    }
-    let Ok(again) = command.copy() else {
-        return Err(NotTaken::NoMemory);
-    };
-    let reply = carry_out(alloc, scenario, branches, meter, &command);
-    let (reply, told) = twin(alloc, reply);
-    let number = numbers[session as usize] + 1;
-    numbers[session as usize] = number;
-    history.push_reserved(Entry {
-        session,
-        number,
-        command,
-        reply,
-    });
-    Ok(Entry {
-        session,
-        number,
-        command: again,
-        reply: told,
-    })
+    ghost invariant = { λ b. IsBook (rules N.laws N.PROBES b.scenario)
+        b.scenario b.branches.items b.history.items b.numbers };
 }
 
 // The first branch.
@@ -97,7 +52,8 @@ fn opening<N: Node>(
     meter: &mut N::Meter,
 ) -> Result<Vec<Kept<N>>, NoMemory>
     ensures branches { IfOk result (λ branches. branches.items ≡ first_kept scenario.now ∷ []) }
-    ensures work { OnOk result (Opens N.laws N.PROBES scenario.now (N.Meter.work meter.old) (N.Meter.work meter.new)) }
+    ensures work { OnOk result (Opens N.laws N.PROBES scenario.now
+        (N.Meter.work meter.old) (N.Meter.work meter.new)) }
 {
     let tape = Tape::new(alloc, scenario, meter)?;
     let mut branches = Vec::new(alloc);
@@ -131,7 +87,8 @@ impl<N: Node> Book<N> {
         ensures scenario { IfOk result (λ b. b.scenario ≡ scenario.now) }
         ensures history { IfOk result (λ b. b.history ≡ []) }
         ensures branches { IfOk result (λ b. b.kept ≡ first_kept scenario.now ∷ []) }
-        ensures work { IfOk result (λ b. Opens N.laws N.PROBES scenario.now (N.Meter.work meter) b.work) }
+        ensures work { IfOk result (λ b.
+            Opens N.laws N.PROBES scenario.now (N.Meter.work meter) b.work) }
     {
         let branches = opening(alloc, scenario, &mut meter)?;
         let history = Vec::new(alloc);
@@ -145,30 +102,51 @@ impl<N: Node> Book<N> {
         })
     }
 
-    /// A session's command is carried out. An entry tells the reply and is kept at the history's end. Where none is taken the book
-    /// is unchanged.
+    /// A session's command is carried out. An entry tells the reply and is kept at the history's
+    /// end. Where none is taken the book is unchanged.
     pub fn turn(&mut self, alloc: Global, session: u8, command: Command) -> Result<Entry, NotTaken>
-        ensures turned { IfOk result (λ e. Turned N.laws N.PROBES session command self.old e self.new) }
+        ensures turned { IfOk result (λ e.
+            Turned N.laws N.PROBES session command self.old e self.new) }
         ensures not_taken { OnErr result (self.new ≡ self.old) }
-        ensures full { IfErr result (λ why. (why ≡ NotTaken.HistoryFull) ↔ (65536 ≤ length self.old.history)) }
+        ensures full { IfErr result (λ why.
+            (why ≡ NotTaken.HistoryFull) ↔ (65536 ≤ length self.old.history)) }
     {
-        take_turn(
-            alloc,
-            &self.scenario,
-            &mut self.branches,
-            &mut self.history,
-            &mut self.numbers,
-            &mut self.meter,
+        if MAX_ENTRIES <= self.history.len() {
+            return Err(NotTaken::HistoryFull);
+        }
+        match self.history.reserve(1) {
+            Err(_) => return Err(NotTaken::NoMemory),
+            Ok(()) => {}
+        }
+        let Ok(again) = command.copy() else {
+            return Err(NotTaken::NoMemory);
+        };
+        let branches = &mut self.branches;
+        let reply = carry_out(alloc, &self.scenario, branches, &mut self.meter, &command);
+        let (reply, told) = twin(alloc, reply);
+        let number = self.numbers[session as usize] + 1;
+        self.numbers[session as usize] = number;
+        self.history.push_reserved(Entry {
             session,
+            number,
             command,
-        )
+            reply,
+        });
+        Ok(Entry {
+            session,
+            number,
+            command: again,
+            reply: told,
+        })
     }
 
-    /// The world of a branch at its place: it is the run of the branch's kept events from the start up to that place, however the
-    /// place was reached. `None` where there is no such branch, or its tape is not warm. No memory is taken.
+    /// The world of a branch at its place: it is the run of the branch's kept events from the start
+    /// up to that place, however the place was reached. `None` where there is no such branch, or
+    /// its tape is not warm. No memory is taken.
     pub fn here(&self, b: u32) -> Option<&World<N>>
         ensures headline { IfSome result (λ w.
-            IsWorldOf (rules N.laws N.PROBES self.now.scenario) (branch b (all_shown self.now.kept)) w.now.world) }
+            IsWorldOf (rules N.laws N.PROBES self.now.scenario) (branch b (all_shown self.now.kept))
+            w.now.world) }
         ensures scenario { IfSome result (λ w. w.now.scenario ≡ self.now.scenario) }
         ensures there { IsSome result ↔ IsTrue (is_warm b self.now.kept) }
     {
@@ -182,20 +160,27 @@ impl<N: Node> Book<N> {
         Some(kept.tape.here())
     }
 
-    /// The laws of every book, as clauses: each branch has a world, that of its events up to its place, and so has each of its
-    /// places, and each number of steps more that a run or a tick looks at; a way back by one after an added event leads to the
-    /// world before it; and a way forward by as many events as were gone back leads to the world that was left. The call does
+    /// The laws of every book, as clauses: each branch has a world, that of its events up to its
+    /// place, and so has each of its places, and each number of steps more that a run or a tick
+    /// looks at; a way back by one after an added event leads to the world before it; and a way
+    /// forward by as many events as were gone back leads to the world that was left. The call does
     /// nothing.
     pub fn laws(&self)
-        ensures legal { IsLegal (rules N.laws N.PROBES self.now.scenario) self.now.history (all_shown self.now.kept) }
-        ensures branches { AreBranches (rules N.laws N.PROBES self.now.scenario) (all_shown self.now.kept) }
-        ensures worlds { HasWorlds (rules N.laws N.PROBES self.now.scenario) (all_shown self.now.kept) }
-        ensures ahead { HasStepWorlds (rules N.laws N.PROBES self.now.scenario) (all_shown self.now.kept) }
+        ensures legal { IsLegal (rules N.laws N.PROBES self.now.scenario) self.now.history
+            (all_shown self.now.kept) }
+        ensures branches { AreBranches (rules N.laws N.PROBES self.now.scenario)
+            (all_shown self.now.kept) }
+        ensures worlds { HasWorlds (rules N.laws N.PROBES self.now.scenario)
+            (all_shown self.now.kept) }
+        ensures ahead { HasStepWorlds (rules N.laws N.PROBES self.now.scenario)
+            (all_shown self.now.kept) }
         ensures tapes { AreOf self.now.scenario self.now.kept }
-        ensures back { BackAfterEvent (rules N.laws N.PROBES self.now.scenario) (all_shown self.now.kept) }
-        ensures forward { ForwardAfterBack (rules N.laws N.PROBES self.now.scenario) (all_shown self.now.kept) }
+        ensures back { BackAfterEvent (rules N.laws N.PROBES self.now.scenario)
+            (all_shown self.now.kept) }
+        ensures forward { ForwardAfterBack (rules N.laws N.PROBES self.now.scenario)
+            (all_shown self.now.kept) }
     {
-        let _branches = self.branches.len();
+        prove!(self.history.len() <= MAX_ENTRIES);
     }
 
     /// The book's meter.
@@ -209,7 +194,8 @@ impl<N: Node> Book<N> {
     pub fn warm(&self, b: u32) -> Option<bool>
         ensures there { OnSome result (b < length self.now.kept) }
         ensures none { result ≡ None → length self.now.kept ≤ b }
-        ensures value { IfSome result (λ w. (d : KeptValue) → w ≡ (slice_index_or self.now.kept b d).tape.warm) }
+        ensures value { IfSome result (λ w. (d : KeptValue) →
+            w ≡ (slice_index_or self.now.kept b d).tape.warm) }
     {
         match self.branches.get(b as usize) {
             None => None,
@@ -220,7 +206,8 @@ impl<N: Node> Book<N> {
     /// All kept events of a branch, which is there, with the book's scenario. No entry is made.
     pub fn frozen(&self, alloc: Global, b: u32) -> Result<Frozen<N>, NoMemory>
         requires { b < length self.now.kept }
-        ensures { IfOk result (λ f. (f.scenario ≡ self.now.scenario) × ((d : KeptValue) → f.events ≡ (slice_index_or self.now.kept b d).tape.events)) }
+        ensures { IfOk result (λ f. (f.scenario ≡ self.now.scenario) ×
+            ((d : KeptValue) → f.events ≡ (slice_index_or self.now.kept b d).tape.events)) }
     {
         self.branches[b as usize].tape.freeze(alloc)
     }
@@ -238,23 +225,26 @@ impl<N: Node> Book<N> {
     /// Whether no more entries can be kept.
     pub fn is_full(&self) -> bool
         ensures full { IsTrue result ↔ (65536 ≤ length self.now.history) }
-        ensures legal { IsLegal (rules N.laws N.PROBES self.now.scenario) self.now.history (all_shown self.now.kept) }
+        ensures legal { IsLegal (rules N.laws N.PROBES self.now.scenario) self.now.history
+            (all_shown self.now.kept) }
     {
         MAX_ENTRIES <= self.history.len()
     }
 
-    /// A session's command to freeze a branch is carried out, as by `turn`. Beside the entry all kept events of the branch are given
-    /// exactly where the reply is their list.
+    /// A session's command to freeze a branch is carried out, as by `turn`. Beside the entry all
+    /// kept events of the branch are given exactly where the reply is their list.
     pub fn freeze(
         &mut self,
         alloc: Global,
         session: u8,
         b: u32,
     ) -> Result<(Entry, Option<Frozen<N>>), NotTaken>
-        ensures turned { IfOk result (λ r. Turned N.laws N.PROBES session (Command.Freeze b) self.old r.0 self.new) }
+        ensures turned { IfOk result (λ r.
+            Turned N.laws N.PROBES session (Command.Freeze b) self.old r.0 self.new) }
         ensures frozen { IfOk result (λ r. GivesFrozen self.old.scenario r.0.reply r.1) }
         ensures not_taken { OnErr result (self.new ≡ self.old) }
-        ensures full { IfErr result (λ why. (why ≡ NotTaken.HistoryFull) ↔ (65536 ≤ length self.old.history)) }
+        ensures full { IfErr result (λ why.
+            (why ≡ NotTaken.HistoryFull) ↔ (65536 ≤ length self.old.history)) }
     {
         if self.is_full() {
             return Err(NotTaken::HistoryFull);
@@ -272,7 +262,8 @@ impl<N: Node> Book<N> {
     /// The history, without a growth.
     pub fn into_entries(self) -> Vec<Entry>
         ensures value { result.items ≡ self.history }
-        ensures legal { IsLegal (rules N.laws N.PROBES self.scenario) result.items (all_shown self.kept) }
+        ensures legal { IsLegal (rules N.laws N.PROBES self.scenario) result.items
+            (all_shown self.kept) }
     {
         let Book { history, .. } = self;
         history

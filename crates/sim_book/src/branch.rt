@@ -1,5 +1,6 @@
 //! The commands on one branch.
-ghost use Rattle.std.specs.Prelude.{◌≡◌, ℕ, ◌+◌, ◌<◌, ◌≤◌, List, Option, None, Some, IsTrue, MatchResult, length, is_some, if◌then◌else◌};
+ghost use Rattle.std.specs.Prelude.{◌≡◌, ℕ, ◌+◌, ◌<◌, ◌≤◌, List, Option, None, Some, IsTrue};
+ghost use Rattle.std.specs.Prelude.{MatchResult, length, is_some, if◌then◌else◌};
 ghost use Rattle.sim_node.specs.Work.{Work};
 ghost use Rattle.sim_world.specs.Events.{rules};
 ghost use Rattle.sim_world.specs.Looks.{looked, CanLook};
@@ -26,7 +27,8 @@ use std::alloc::Global;
 // Whether a step can happen at the tape's place.
 fn can_step<N: Node>(tape: &Tape<N>) -> Result<(), sim_world::Refusal>
     requires { IsTrue tape.now.warm }
-    ensures { MatchResult result (λ _. step_refusal N.laws N.PROBES tape.now ≡ None) (λ why. step_refusal N.laws N.PROBES tape.now ≡ Some why) }
+    ensures { MatchResult result (λ _. step_refusal N.laws N.PROBES tape.now ≡ None) (λ why.
+        step_refusal N.laws N.PROBES tape.now ≡ Some why) }
 {
     tape.here().can(Event::Step)
 }
@@ -35,7 +37,8 @@ fn can_step<N: Node>(tape: &Tape<N>) -> Result<(), sim_world::Refusal>
 fn look_at<N: Node>(tape: &Tape<N>, query: Query) -> View
     requires warm { IsTrue tape.now.warm }
     requires there { CanLook tape.now.scenario.setup.hosts N.PROBES query }
-    ensures { result ≡ looked (rules N.laws N.PROBES tape.now.scenario) query (world_on N.laws N.PROBES tape.now) }
+    ensures { result ≡ looked (rules N.laws N.PROBES tape.now.scenario) query
+        (world_on N.laws N.PROBES tape.now) }
 {
     tape.here().look(query)
 }
@@ -61,7 +64,8 @@ pub(crate) fn step<N: Node>(
     ensures turn { Turns N.laws N.PROBES (command.Step b) result tape.old tape.new }
     ensures same { tape.new.scenario ≡ tape.old.scenario }
     ensures keeps { Keeps N.laws N.PROBES (command.Step b) result tape.old tape.new }
-    ensures work { Works N.laws N.PROBES (command.Step b) result tape.old tape.new (N.Meter.work meter.old) (N.Meter.work meter.new) }
+    ensures work { Works N.laws N.PROBES (command.Step b) result tape.old tape.new
+        (N.Meter.work meter.old) (N.Meter.work meter.new) }
 {
     if tape.place() < tape.len() {
         return Reply::Refused(Refusal::NotAtEnd);
@@ -96,7 +100,8 @@ pub(crate) fn tick<N: Node>(
     ensures turn { Turns N.laws N.PROBES (command.Tick b) result tape.old tape.new }
     ensures same { tape.new.scenario ≡ tape.old.scenario }
     ensures keeps { Keeps N.laws N.PROBES (command.Tick b) result tape.old tape.new }
-    ensures work { Works N.laws N.PROBES (command.Tick b) result tape.old tape.new (N.Meter.work meter.old) (N.Meter.work meter.new) }
+    ensures work { Works N.laws N.PROBES (command.Tick b) result tape.old tape.new
+        (N.Meter.work meter.old) (N.Meter.work meter.new) }
 {
     if tape.place() < tape.len() {
         return Reply::Refused(Refusal::NotAtEnd);
@@ -124,10 +129,12 @@ pub(crate) fn run<N: Node>(
     count: u32,
 ) -> Reply
     requires checked { AreChecked tape.old.scenario.setup.hosts N.PROBES watches.now }
-    ensures turn { TurnsWith N.laws N.PROBES watches.now (command.Run b count) result tape.old tape.new }
+    ensures turn { TurnsWith N.laws N.PROBES watches.now (command.Run b count)
+        result tape.old tape.new }
     ensures same { tape.new.scenario ≡ tape.old.scenario }
     ensures keeps { Keeps N.laws N.PROBES (command.Run b count) result tape.old tape.new }
-    ensures work { Works N.laws N.PROBES (command.Run b count) result tape.old tape.new (N.Meter.work meter.old) (N.Meter.work meter.new) }
+    ensures work { Works N.laws N.PROBES (command.Run b count) result tape.old tape.new
+        (N.Meter.work meter.old) (N.Meter.work meter.new) }
 {
     if tape.place() < tape.len() {
         return Reply::Refused(Refusal::NotAtEnd);
@@ -165,7 +172,8 @@ pub(crate) fn fault<N: Node>(
     ensures turn { Turns N.laws N.PROBES (command.Fault b fault) result tape.old tape.new }
     ensures same { tape.new.scenario ≡ tape.old.scenario }
     ensures keeps { Keeps N.laws N.PROBES (command.Fault b fault) result tape.old tape.new }
-    ensures work { Works N.laws N.PROBES (command.Fault b fault) result tape.old tape.new (N.Meter.work meter.old) (N.Meter.work meter.new) }
+    ensures work { Works N.laws N.PROBES (command.Fault b fault) result tape.old tape.new
+        (N.Meter.work meter.old) (N.Meter.work meter.new) }
 {
     if named::names_unknown(hosts, fault) {
         return Reply::Refused(Refusal::UnknownHost);
@@ -200,7 +208,8 @@ pub(crate) fn back<N: Node>(
     ensures turn { Turns N.laws N.PROBES (command.Back b count) result tape.old tape.new }
     ensures same { tape.new.scenario ≡ tape.old.scenario }
     ensures keeps { Keeps N.laws N.PROBES (command.Back b count) result tape.old tape.new }
-    ensures work { Works N.laws N.PROBES (command.Back b count) result tape.old tape.new (N.Meter.work meter.old) (N.Meter.work meter.new) }
+    ensures work { Works N.laws N.PROBES (command.Back b count) result tape.old tape.new
+        (N.Meter.work meter.old) (N.Meter.work meter.new) }
 {
     if tape.place() < count {
         return Reply::Refused(Refusal::TooFar);
@@ -222,7 +231,8 @@ pub(crate) fn forward<N: Node>(
     ensures turn { Turns N.laws N.PROBES (command.Forward b count) result tape.old tape.new }
     ensures same { tape.new.scenario ≡ tape.old.scenario }
     ensures keeps { Keeps N.laws N.PROBES (command.Forward b count) result tape.old tape.new }
-    ensures work { Works N.laws N.PROBES (command.Forward b count) result tape.old tape.new (N.Meter.work meter.old) (N.Meter.work meter.new) }
+    ensures work { Works N.laws N.PROBES (command.Forward b count) result tape.old tape.new
+        (N.Meter.work meter.old) (N.Meter.work meter.new) }
 {
     if tape.len() - tape.place() < count {
         return Reply::Refused(Refusal::TooFar);
@@ -244,7 +254,8 @@ pub(crate) fn goto<N: Node>(
     ensures turn { Turns N.laws N.PROBES (command.Goto b place) result tape.old tape.new }
     ensures same { tape.new.scenario ≡ tape.old.scenario }
     ensures keeps { Keeps N.laws N.PROBES (command.Goto b place) result tape.old tape.new }
-    ensures work { Works N.laws N.PROBES (command.Goto b place) result tape.old tape.new (N.Meter.work meter.old) (N.Meter.work meter.new) }
+    ensures work { Works N.laws N.PROBES (command.Goto b place) result tape.old tape.new
+        (N.Meter.work meter.old) (N.Meter.work meter.new) }
 {
     if tape.len() < place {
         return Reply::Refused(Refusal::TooFar);
@@ -265,10 +276,12 @@ pub(crate) fn rewind<N: Node>(
     count: u32,
 ) -> Reply
     requires checked { AreChecked tape.old.scenario.setup.hosts N.PROBES watches.now }
-    ensures turn { TurnsWith N.laws N.PROBES watches.now (command.Rewind b count) result tape.old tape.new }
+    ensures turn { TurnsWith N.laws N.PROBES watches.now (command.Rewind b count)
+        result tape.old tape.new }
     ensures same { tape.new.scenario ≡ tape.old.scenario }
     ensures keeps { Keeps N.laws N.PROBES (command.Rewind b count) result tape.old tape.new }
-    ensures work { Works N.laws N.PROBES (command.Rewind b count) result tape.old tape.new (N.Meter.work meter.old) (N.Meter.work meter.new) }
+    ensures work { Works N.laws N.PROBES (command.Rewind b count) result tape.old tape.new
+        (N.Meter.work meter.old) (N.Meter.work meter.new) }
 {
     if tape.place() < count {
         return Reply::Refused(Refusal::TooFar);
@@ -310,7 +323,8 @@ pub(crate) fn look<N: Node>(
     ensures turn { Turns N.laws N.PROBES (command.Look b query) result tape.old tape.new }
     ensures same { tape.new.scenario ≡ tape.old.scenario }
     ensures keeps { Keeps N.laws N.PROBES (command.Look b query) result tape.old tape.new }
-    ensures work { Works N.laws N.PROBES (command.Look b query) result tape.old tape.new (N.Meter.work meter.old) (N.Meter.work meter.new) }
+    ensures work { Works N.laws N.PROBES (command.Look b query) result tape.old tape.new
+        (N.Meter.work meter.old) (N.Meter.work meter.new) }
 {
     if named::asks_unknown(hosts, query) {
         return Reply::Refused(Refusal::UnknownHost);
@@ -335,7 +349,8 @@ pub(crate) fn look<N: Node>(
 pub(crate) fn freeze<N: Node>(alloc: Global, tape: &Tape<N>, b: u32) -> Reply
     ensures turn { Turns N.laws N.PROBES (command.Freeze b) result tape.now tape.now }
     ensures keeps { Keeps N.laws N.PROBES (command.Freeze b) result tape.now tape.now }
-    ensures work { (w : Work) → Works N.laws N.PROBES (command.Freeze b) result tape.now tape.now w w }
+    ensures work { (w : Work) → Works N.laws N.PROBES (command.Freeze b)
+        result tape.now tape.now w w }
 {
     match tape.events(alloc) {
         Err(_) => Reply::Refused(Refusal::NoMemory),
@@ -355,9 +370,11 @@ fn fault_of<N: Node>(hosts: u16, cond: &Cond) -> Option<BadTerm>
 
 // The refusal of a condition that can't be used, but whose hosts are there.
 fn refuse_bad<N: Node>(watches: &[Option<Cond>; 8]) -> Reply
-    ensures value { result ≡ Reply.Refused (if is_some (free_watch watches.now) then Refusal.BadCondition else Refusal.WatchesFull) }
+    ensures value { result ≡ Reply.Refused
+        (if is_some (free_watch watches.now) then Refusal.BadCondition else Refusal.WatchesFull) }
     ensures keeps { (c : Command) (t : TapeValue) → Keeps N.laws N.PROBES c result t t }
-    ensures work { (c : Command) (t : TapeValue) (w : Work) → Works N.laws N.PROBES c result t t w w }
+    ensures work { (c : Command) (t : TapeValue) (w : Work) →
+        Works N.laws N.PROBES c result t t w w }
 {
     match stops::free(watches) {
         None => Reply::Refused(Refusal::WatchesFull),
@@ -374,10 +391,12 @@ pub(crate) fn watch<N: Node>(
 ) -> Reply
     requires checked { AreChecked hosts N.PROBES watches.old }
     ensures turn { (book : Book) (t : TapeValue) → hosts ≡ t.scenario.setup.hosts
-        → IsTurnOn (rules N.laws N.PROBES t.scenario) book (branch_with watches.old t) (command.Watch b cond.now) result (branch_with watches.new t) }
+        → IsTurnOn (rules N.laws N.PROBES t.scenario) book (branch_with watches.old t)
+        (command.Watch b cond.now) result (branch_with watches.new t) }
     ensures checked { AreChecked hosts N.PROBES watches.new }
     ensures keeps { (t : TapeValue) → Keeps N.laws N.PROBES (command.Watch b cond.now) result t t }
-    ensures work { (t : TapeValue) (w : Work) → Works N.laws N.PROBES (command.Watch b cond.now) result t t w w }
+    ensures work { (t : TapeValue) (w : Work) →
+        Works N.laws N.PROBES (command.Watch b cond.now) result t t w w }
 {
     match fault_of::<N>(hosts, cond) {
         Some(BadTerm::UnknownHost) => Reply::Refused(Refusal::UnknownHost),
@@ -402,10 +421,12 @@ pub(crate) fn unwatch<N: Node>(
 ) -> Reply
     requires checked { AreChecked hosts N.PROBES watches.old }
     ensures turn { (book : Book) (t : TapeValue)
-        → IsTurnOn (rules N.laws N.PROBES t.scenario) book (branch_with watches.old t) (command.Unwatch b number) result (branch_with watches.new t) }
+        → IsTurnOn (rules N.laws N.PROBES t.scenario) book (branch_with watches.old t)
+        (command.Unwatch b number) result (branch_with watches.new t) }
     ensures checked { AreChecked hosts N.PROBES watches.new }
     ensures keeps { (t : TapeValue) → Keeps N.laws N.PROBES (command.Unwatch b number) result t t }
-    ensures work { (t : TapeValue) (w : Work) → Works N.laws N.PROBES (command.Unwatch b number) result t t w w }
+    ensures work { (t : TapeValue) (w : Work) →
+        Works N.laws N.PROBES (command.Unwatch b number) result t t w w }
 {
     if MAX_WATCHES <= number as usize || watches[number as usize].is_none() {
         return Reply::Refused(Refusal::UnknownWatch);

@@ -1,4 +1,5 @@
-ghost use Rattle.std.specs.Prelude.{◌≡◌, ℕ, ◌+◌, ◌<◌, ◌≤◌, false, true, List, length, take, IsTrue, IfOk};
+ghost use Rattle.std.specs.Prelude.{◌≡◌, ℕ, ◌+◌, ◌<◌, ◌≤◌, false, true, List, length, take, IsTrue};
+ghost use Rattle.std.specs.Prelude.{IfOk};
 ghost use Rattle.std.specs.List.{All};
 ghost use Rattle.sim_node.specs.Work.{Work};
 ghost use Rattle.sim_world.specs.World.{Scenario as ScenarioValue};
@@ -28,10 +29,13 @@ fn on_branch<N: Node>(
 ) -> Reply
     requires kept { IsKept N.PROBES scenario.now kept.old }
     requires plain { makes_branch command.now ≡ false }
-    ensures turn { (book : Book) → IsTurnOn (rules N.laws N.PROBES kept.old.tape.scenario) book (shown kept.old) command.now result (shown kept.new) }
+    ensures turn { (book : Book) →
+        IsTurnOn (rules N.laws N.PROBES kept.old.tape.scenario) book (shown kept.old)
+        command.now result (shown kept.new) }
     ensures kept { IsKept N.PROBES scenario.now kept.new }
     ensures keeps { Keeps N.laws N.PROBES command.now result kept.old.tape kept.new.tape }
-    ensures work { Works N.laws N.PROBES command.now result kept.old.tape kept.new.tape (N.Meter.work meter.old) (N.Meter.work meter.new) }
+    ensures work { Works N.laws N.PROBES command.now result kept.old.tape kept.new.tape
+        (N.Meter.work meter.old) (N.Meter.work meter.new) }
 {
     let hosts = scenario.hosts();
     let takes = scenario.tick();
@@ -63,8 +67,10 @@ fn on_branch<N: Node>(
 // A branch of the first events of another.
 fn split<N: Node>(alloc: Global, kept: &Kept<N>, p: u32) -> Result<Kept<N>, NoMemory>
     requires { p ≤ length kept.now.tape.events }
-    ensures shown { IfOk result (λ k. shown k ≡ record empty_branch { events = take p kept.now.tape.events; place = p }) }
-    ensures kept { (s : ScenarioValue) → IsKept N.PROBES s kept.now → IfOk result (IsKept N.PROBES s) }
+    ensures shown { IfOk result (λ k.
+        shown k ≡ record empty_branch { events = take p kept.now.tape.events; place = p }) }
+    ensures kept { (s : ScenarioValue) → IsKept N.PROBES s kept.now →
+        IfOk result (IsKept N.PROBES s) }
     ensures branch { IfOk result (λ k. IsBranch (rules N.laws N.PROBES k.tape.scenario) (shown k)) }
 {
     let tape = kept.tape.split(alloc, p)?;
@@ -80,13 +86,17 @@ fn split<N: Node>(alloc: Global, kept: &Kept<N>, p: u32) -> Result<Kept<N>, NoMe
 fn make_branch<N: Node>(alloc: Global, branches: &mut Vec<Kept<N>>, b: u32, p: u32) -> Reply
     requires { b < length branches.old.items }
     ensures turn { (s : ScenarioValue)
-        → IsTurn (rules N.laws N.PROBES s) (all_shown branches.old.items) (Command.Branch b p) result (all_shown branches.new.items) }
-    ensures same { (s : ScenarioValue) → AllKept N.PROBES s branches.old.items → AllKept N.PROBES s branches.new.items }
+        → IsTurn (rules N.laws N.PROBES s) (all_shown branches.old.items) (Command.Branch b p)
+        result (all_shown branches.new.items) }
+    ensures same { (s : ScenarioValue) → AllKept N.PROBES s branches.old.items →
+        AllKept N.PROBES s branches.new.items }
     ensures branches { (s : ScenarioValue) → AllKept N.PROBES s branches.old.items
         → AreBranches (rules N.laws N.PROBES s) (all_shown branches.old.items)
         → AreBranches (rules N.laws N.PROBES s) (all_shown branches.new.items) }
-    ensures keeps { KeepsTapes N.laws N.PROBES (Command.Branch b p) result branches.old.items branches.new.items }
-    ensures work { (w : Work) → TakesWork N.laws N.PROBES (Command.Branch b p) result branches.old.items branches.new.items w w }
+    ensures keeps { KeepsTapes N.laws N.PROBES (Command.Branch b p)
+        result branches.old.items branches.new.items }
+    ensures work { (w : Work) → TakesWork N.laws N.PROBES (Command.Branch b p)
+        result branches.old.items branches.new.items w w }
 {
     let kept = &branches[b as usize];
     if kept.tape.len() < p {
@@ -120,13 +130,18 @@ fn on_one<N: Node>(
     requires there { b < length branches.old.items }
     requires named { b ≡ branch_of command.now }
     requires same { AllKept N.PROBES scenario.now branches.old.items }
-    requires branches { AreBranches (rules N.laws N.PROBES scenario.now) (all_shown branches.old.items) }
+    requires branches { AreBranches (rules N.laws N.PROBES scenario.now)
+        (all_shown branches.old.items) }
     requires plain { makes_branch command.now ≡ false }
-    ensures turn { IsTurn (rules N.laws N.PROBES scenario.now) (all_shown branches.old.items) command.now result (all_shown branches.new.items) }
+    ensures turn { IsTurn (rules N.laws N.PROBES scenario.now) (all_shown branches.old.items)
+        command.now result (all_shown branches.new.items) }
     ensures same { AllKept N.PROBES scenario.now branches.new.items }
-    ensures branches { AreBranches (rules N.laws N.PROBES scenario.now) (all_shown branches.new.items) }
-    ensures keeps { KeepsTapes N.laws N.PROBES command.now result branches.old.items branches.new.items }
-    ensures work { TakesWork N.laws N.PROBES command.now result branches.old.items branches.new.items (N.Meter.work meter.old) (N.Meter.work meter.new) }
+    ensures branches { AreBranches (rules N.laws N.PROBES scenario.now)
+        (all_shown branches.new.items) }
+    ensures keeps { KeepsTapes N.laws N.PROBES command.now result branches.old.items
+        branches.new.items }
+    ensures work { TakesWork N.laws N.PROBES command.now result branches.old.items
+        branches.new.items (N.Meter.work meter.old) (N.Meter.work meter.new) }
 {
     let kept = &mut branches[b as usize];
     let reply = on_branch(alloc, scenario, kept, meter, command);
@@ -143,12 +158,17 @@ pub(crate) fn carry_out<N: Node>(
     command: &Command,
 ) -> Reply
     requires same { AllKept N.PROBES scenario.now branches.old.items }
-    requires branches { AreBranches (rules N.laws N.PROBES scenario.now) (all_shown branches.old.items) }
-    ensures turn { IsTurn (rules N.laws N.PROBES scenario.now) (all_shown branches.old.items) command.now result (all_shown branches.new.items) }
+    requires branches { AreBranches (rules N.laws N.PROBES scenario.now)
+        (all_shown branches.old.items) }
+    ensures turn { IsTurn (rules N.laws N.PROBES scenario.now) (all_shown branches.old.items)
+        command.now result (all_shown branches.new.items) }
     ensures same { AllKept N.PROBES scenario.now branches.new.items }
-    ensures branches { AreBranches (rules N.laws N.PROBES scenario.now) (all_shown branches.new.items) }
-    ensures keeps { KeepsTapes N.laws N.PROBES command.now result branches.old.items branches.new.items }
-    ensures work { TakesWork N.laws N.PROBES command.now result branches.old.items branches.new.items (N.Meter.work meter.old) (N.Meter.work meter.new) }
+    ensures branches { AreBranches (rules N.laws N.PROBES scenario.now)
+        (all_shown branches.new.items) }
+    ensures keeps { KeepsTapes N.laws N.PROBES command.now result branches.old.items
+        branches.new.items }
+    ensures work { TakesWork N.laws N.PROBES command.now result branches.old.items
+        branches.new.items (N.Meter.work meter.old) (N.Meter.work meter.new) }
 {
     let b = command.branch();
     if branches.len() <= b as usize {

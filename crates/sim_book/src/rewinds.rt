@@ -2,13 +2,13 @@
 ghost use Rattle.std.specs.Prelude.{◌≡◌, ℕ, ◌+◌, ◌-◌, ◌/◌, ◌%◌, ◌<◌, ◌≤◌};
 ghost use Rattle.std.specs.Prelude.{IsTrue, OnOk, OnErr, IfOk, length};
 ghost use Rattle.sim_world.specs.Events.{rules};
-ghost use Rattle.sim_tape.specs.Tape.{with_world, at};
-ghost use Rattle.sim_book.specs.OnTape.{IsMoved, world_on, rewind_on};
+ghost use Rattle.sim_tape.specs.Tape.{IsMoved, KeepsRun};
+ghost use Rattle.sim_book.specs.OnTape.{IsElsewhere, world_on, rewind_on};
 ghost use Rattle.sim_book.specs.Book.{failing_watch};
 ghost use Rattle.sim_book.specs.Running.{IsLast, place_found, found_at};
 ghost use Rattle.sim_book.specs.Watches.{AreChecked, NoneFrom};
 ghost use Rattle.sim_tape.specs.Works.{OnlyTurns};
-ghost use Rattle.sim_book.specs.Works.{TakesBack, Looks};
+ghost use Rattle.sim_book.specs.Works.{TakesBack, Looks, UndoesAtMost};
 
 use crate::{Stop, stops};
 use sim_node::{NoMemory, Node};
@@ -30,7 +30,9 @@ fn found_here<N: Node>(tape: &Tape<N>, watches: &[Option<Cond>; 8], end: usize) 
     requires few { end ≤ 8 }
     requires none { NoneFrom end watches.now }
     requires checked { AreChecked tape.now.scenario.setup.hosts N.PROBES watches.now }
-    ensures { result ≡ found_at tape.now.place (failing_watch (rules N.laws N.PROBES tape.now.scenario) watches.now (world_on N.laws N.PROBES tape.now)) }
+    ensures { result ≡ found_at tape.now.place
+        (failing_watch (rules N.laws N.PROBES tape.now.scenario) watches.now
+        (world_on N.laws N.PROBES tape.now)) }
 {
     match stops::failing_here(tape, watches, end) {
         None => None,
@@ -56,12 +58,16 @@ fn look_near<N: Node>(
     requires few { end ≤ 8 }
     requires none { NoneFrom end watches.now }
     requires checked { AreChecked tape.old.scenario.setup.hosts N.PROBES watches.now }
-    ensures last { IfOk result (λ found. IsLast N.laws N.PROBES watches.now tape.old (tape.old.place - count) tape.old.place found) }
-    ensures moved { IfOk result (λ found. IsMoved (place_found (tape.old.place - count) found) tape.old tape.new) }
-    ensures reach { OnOk result (tape.new.reach ≡ tape.old.reach - (tape.old.place - tape.new.place)) }
-    ensures work { OnOk result (TakesBack (rules N.laws N.PROBES tape.old.scenario) (tape.old.place - tape.new.place) tape.new.place tape.old
+    ensures last { IfOk result (λ found.
+        IsLast N.laws N.PROBES watches.now tape.old (tape.old.place - count) tape.old.place found) }
+    ensures moved { IfOk result (λ found.
+        IsMoved (place_found (tape.old.place - count) found) tape.old tape.new) }
+    ensures reach { OnOk result (tape.new.reach ≡ tape.old.reach -
+        (tape.old.place - tape.new.place)) }
+    ensures work { OnOk result (TakesBack (rules N.laws N.PROBES tape.old.scenario)
+        (tape.old.place - tape.new.place) tape.new.place tape.old
         (N.Meter.work meter.old) (N.Meter.work meter.new)) }
-    ensures err { OnErr result ((p : ℕ) × (tape.new ≡ with_world tape.new.warm tape.new.reach (at p tape.old))) }
+    ensures err { OnErr result (IsElsewhere tape.old tape.new) }
 {
     for _ in 0..count {
         tape.back(alloc, 1, meter)?;
@@ -72,7 +78,8 @@ fn look_near<N: Node>(
     Ok(None)
 }
 
-// Goes forward by so many events, with a look at each place from the first on, and keeps no record. What is found is the last.
+// Goes forward by so many events, with a look at each place from the first on, and keeps no record.
+// What is found is the last.
 fn last_failing<N: Node>(
     alloc: Global,
     tape: &mut Tape<N>,
@@ -86,10 +93,14 @@ fn last_failing<N: Node>(
     requires few { end ≤ 8 }
     requires none { NoneFrom end watches.now }
     requires checked { AreChecked tape.old.scenario.setup.hosts N.PROBES watches.now }
-    ensures last { IfOk result (λ found. IsLast N.laws N.PROBES watches.now tape.old tape.old.place (tape.old.place + count + 1) found) }
+    ensures last { IfOk result (λ found.
+        IsLast N.laws N.PROBES watches.now tape.old tape.old.place (tape.old.place + count + 1)
+        found) }
     ensures moved { OnOk result (IsMoved (tape.old.place + count) tape.old tape.new) }
+    ensures spent { OnOk result (1 ≤ count → tape.new.reach ≡ 0) }
+    ensures still { OnOk result (count ≡ 0 → tape.new.reach ≡ tape.old.reach) }
     ensures work { OnOk result (OnlyTurns count (N.Meter.work meter.old) (N.Meter.work meter.new)) }
-    ensures err { OnErr result ((p : ℕ) × (tape.new ≡ with_world tape.new.warm tape.new.reach (at p tape.old))) }
+    ensures err { OnErr result (IsElsewhere tape.old tape.new) }
 {
     let mut last = found_here(tape, watches, end);
     for _ in 0..count {
@@ -114,8 +125,9 @@ fn stretch_below(high: u32, interval: u32, to: u32) -> u32
     max(to, high - 1 - (high - 1) % interval)
 }
 
-// Looks through the places below the tape's, down to `to`, by one stretch after the other: each from its checkpoint forward, without
-// records. Goes to the last place at which a watch fails, or to `to`.
+// Looks through the places below the tape's, down to `to`, by one stretch after the other: each
+// from its checkpoint forward, without records. There is no record to go back by. Goes to the last
+// place at which a watch fails, or to `to`.
 fn look_far<N: Node>(
     alloc: Global,
     tape: &mut Tape<N>,
@@ -126,15 +138,18 @@ fn look_far<N: Node>(
 ) -> Result<Option<Found>, NoMemory>
     requires within { to ≤ tape.old.place }
     requires warm { IsTrue tape.old.warm }
+    requires spent { tape.old.reach ≡ 0 }
     requires few { end ≤ 8 }
     requires none { NoneFrom end watches.now }
     requires checked { AreChecked tape.old.scenario.setup.hosts N.PROBES watches.now }
-    ensures last { IfOk result (λ found. IsLast N.laws N.PROBES watches.now tape.old to tape.old.place found) }
+    ensures last { IfOk result (λ found.
+        IsLast N.laws N.PROBES watches.now tape.old to tape.old.place found) }
     ensures moved { IfOk result (λ found. IsMoved (place_found to found) tape.old tape.new) }
     ensures looks { OnOk result (Looks (rules N.laws N.PROBES tape.old.scenario)
         tape.new.place tape.old.place tape.old
         (N.Meter.work meter.old) (N.Meter.work meter.new)) }
-    ensures err { OnErr result ((p : ℕ) × (tape.new ≡ with_world tape.new.warm tape.new.reach (at p tape.old))) }
+    ensures undos { OnOk result ((N.Meter.work meter.new).undos ≡ (N.Meter.work meter.old).undos) }
+    ensures err { OnErr result (IsElsewhere tape.old tape.new) }
 {
     let interval = tape.interval();
     let mut high = tape.place();
@@ -151,8 +166,9 @@ fn look_far<N: Node>(
     Ok(None)
 }
 
-// Goes back to the last place at which a watch fails, and at most by so many events. Within the reach it looks on its way back; past
-// it stretch by stretch. Where no watch is kept it looks at nothing.
+// Goes back to the last place at which a watch fails, and at most by so many events. Within the
+// reach it looks on its way back; past it stretch by stretch. Where no watch is kept it looks at
+// nothing.
 fn look_back<N: Node>(
     alloc: Global,
     tape: &mut Tape<N>,
@@ -166,23 +182,30 @@ fn look_back<N: Node>(
     requires few { end ≤ 8 }
     requires none { NoneFrom end watches.now }
     requires checked { AreChecked tape.old.scenario.setup.hosts N.PROBES watches.now }
-    ensures last { IfOk result (λ found. IsLast N.laws N.PROBES watches.now tape.old (tape.old.place - count) tape.old.place found) }
-    ensures moved { IfOk result (λ found. IsMoved (place_found (tape.old.place - count) found) tape.old tape.new) }
-    ensures reach { OnOk result (tape.old.place - tape.new.place ≤ tape.old.reach → tape.new.reach ≡ tape.old.reach - (tape.old.place - tape.new.place)) }
+    ensures last { IfOk result (λ found.
+        IsLast N.laws N.PROBES watches.now tape.old (tape.old.place - count) tape.old.place found) }
+    ensures moved { IfOk result (λ found.
+        IsMoved (place_found (tape.old.place - count) found) tape.old tape.new) }
+    ensures reach { OnOk result (tape.old.place - tape.new.place ≤ tape.old.reach →
+        tape.new.reach ≡ tape.old.reach - (tape.old.place - tape.new.place)) }
     ensures work { OnOk result (tape.old.place - tape.new.place ≤ tape.old.reach
-        → TakesBack (rules N.laws N.PROBES tape.old.scenario) (tape.old.place - tape.new.place) tape.new.place tape.old
+        → TakesBack (rules N.laws N.PROBES tape.old.scenario) (tape.old.place - tape.new.place)
+        tape.new.place tape.old
         (N.Meter.work meter.old) (N.Meter.work meter.new)) }
     ensures looks { OnOk result (Looks (rules N.laws N.PROBES tape.old.scenario)
         tape.new.place (tape.old.place - tape.old.reach) tape.old
         (N.Meter.work meter.old) (N.Meter.work meter.new)) }
-    ensures err { OnErr result ((p : ℕ) × (tape.new ≡ with_world tape.new.warm tape.new.reach (at p tape.old))) }
+    ensures undos { OnOk result (UndoesAtMost (rules N.laws N.PROBES tape.old.scenario)
+        tape.old.reach tape.old (N.Meter.work meter.old) (N.Meter.work meter.new)) }
+    ensures err { OnErr result (IsElsewhere tape.old tape.new) }
 {
+    let reach = tape.reach();
     if end == 0 {
         tape.back(alloc, count, meter)?;
         return Ok(None);
     }
     let to = tape.place() - count;
-    let near = min(count, tape.reach());
+    let near = min(count, reach);
     if let Some(found) = look_near(alloc, tape, watches, end, meter, near)? {
         return Ok(Some(found));
     }
@@ -192,7 +215,8 @@ fn look_back<N: Node>(
     look_far(alloc, tape, watches, end, meter, to)
 }
 
-// Goes back until a watch fails, and at most by so many events. After want of memory it may have gone back by some.
+// Goes back until a watch fails, and at most by so many events. After want of memory it may have
+// gone back by some.
 fn go_back<N: Node>(
     alloc: Global,
     tape: &mut Tape<N>,
@@ -207,16 +231,22 @@ fn go_back<N: Node>(
     requires few { end ≤ 8 }
     requires none { NoneFrom end watches.now }
     requires checked { AreChecked tape.old.scenario.setup.hosts N.PROBES watches.now }
-    ensures stop { IfOk result (λ why. why ≡ (rewind_on N.laws N.PROBES count watches.now tape.old).stop) }
-    ensures ok { OnOk result (IsMoved (rewind_on N.laws N.PROBES count watches.now tape.old).place tape.old tape.new) }
-    ensures reach { OnOk result (tape.old.place - tape.new.place ≤ tape.old.reach → tape.new.reach ≡ tape.old.reach - (tape.old.place - tape.new.place)) }
+    ensures stop { IfOk result (λ why.
+        why ≡ (rewind_on N.laws N.PROBES count watches.now tape.old).stop) }
+    ensures ok { OnOk result (IsMoved
+        (rewind_on N.laws N.PROBES count watches.now tape.old).place tape.old tape.new) }
+    ensures reach { OnOk result (tape.old.place - tape.new.place ≤ tape.old.reach →
+        tape.new.reach ≡ tape.old.reach - (tape.old.place - tape.new.place)) }
     ensures work { OnOk result (tape.old.place - tape.new.place ≤ tape.old.reach
-        → TakesBack (rules N.laws N.PROBES tape.old.scenario) (tape.old.place - tape.new.place) tape.new.place tape.old
+        → TakesBack (rules N.laws N.PROBES tape.old.scenario) (tape.old.place - tape.new.place)
+        tape.new.place tape.old
         (N.Meter.work meter.old) (N.Meter.work meter.new)) }
     ensures looks { OnOk result (Looks (rules N.laws N.PROBES tape.old.scenario)
         tape.new.place (tape.old.place - tape.old.reach) tape.old
         (N.Meter.work meter.old) (N.Meter.work meter.new)) }
-    ensures err { OnErr result ((p : ℕ) × (tape.new ≡ with_world tape.new.warm tape.new.reach (at p tape.old))) }
+    ensures undos { OnOk result (UndoesAtMost (rules N.laws N.PROBES tape.old.scenario)
+        tape.old.reach tape.old (N.Meter.work meter.old) (N.Meter.work meter.new)) }
+    ensures err { OnErr result (IsElsewhere tape.old tape.new) }
 {
     match look_back(alloc, tape, watches, end, meter, count)? {
         None => Ok(Stop::Asked),
@@ -224,7 +254,8 @@ fn go_back<N: Node>(
     }
 }
 
-/// Goes back until a watch fails, and at most by so many events. After want of memory the place is as before.
+/// Goes back until a watch fails, and at most by so many events. After want of memory the place is
+/// as before.
 pub(crate) fn rewind<N: Node>(
     alloc: Global,
     tape: &mut Tape<N>,
@@ -236,16 +267,22 @@ pub(crate) fn rewind<N: Node>(
     requires within { count ≤ tape.old.place }
     requires warm { IsTrue tape.old.warm }
     requires checked { AreChecked tape.old.scenario.setup.hosts N.PROBES watches.now }
-    ensures stop { IfOk result (λ why. why ≡ (rewind_on N.laws N.PROBES count watches.now tape.old).stop) }
-    ensures ok { OnOk result (IsMoved (rewind_on N.laws N.PROBES count watches.now tape.old).place tape.old tape.new) }
-    ensures reach { OnOk result (tape.old.place - tape.new.place ≤ tape.old.reach → tape.new.reach ≡ tape.old.reach - (tape.old.place - tape.new.place)) }
+    ensures stop { IfOk result (λ why.
+        why ≡ (rewind_on N.laws N.PROBES count watches.now tape.old).stop) }
+    ensures ok { OnOk result (IsMoved
+        (rewind_on N.laws N.PROBES count watches.now tape.old).place tape.old tape.new) }
+    ensures reach { OnOk result (tape.old.place - tape.new.place ≤ tape.old.reach →
+        tape.new.reach ≡ tape.old.reach - (tape.old.place - tape.new.place)) }
     ensures work { OnOk result (tape.old.place - tape.new.place ≤ tape.old.reach
-        → TakesBack (rules N.laws N.PROBES tape.old.scenario) (tape.old.place - tape.new.place) tape.new.place tape.old
+        → TakesBack (rules N.laws N.PROBES tape.old.scenario) (tape.old.place - tape.new.place)
+        tape.new.place tape.old
         (N.Meter.work meter.old) (N.Meter.work meter.new)) }
     ensures looks { OnOk result (Looks (rules N.laws N.PROBES tape.old.scenario)
         tape.new.place (tape.old.place - tape.old.reach) tape.old
         (N.Meter.work meter.old) (N.Meter.work meter.new)) }
-    ensures err { OnErr result (tape.new ≡ with_world tape.new.warm tape.new.reach tape.old) }
+    ensures undos { OnOk result (UndoesAtMost (rules N.laws N.PROBES tape.old.scenario)
+        tape.old.reach tape.old (N.Meter.work meter.old) (N.Meter.work meter.new)) }
+    ensures err { OnErr result (KeepsRun tape.old tape.new) }
 {
     let place = tape.place();
     let end = stops::end_of(watches);

@@ -35,7 +35,8 @@ pub(crate) fn failing<N: Node>(
     requires few { end ≤ 8 }
     requires none { NoneFrom end watches.now }
     requires checked { AreChecked world.now.scenario.setup.hosts N.PROBES watches.now }
-    ensures { result ≡ failing_watch (rules N.laws N.PROBES world.now.scenario) watches.now world.now.world }
+    ensures { result ≡ failing_watch (rules N.laws N.PROBES world.now.scenario)
+        watches.now world.now.world }
 {
     for number in 0..end {
         if let Some(cond) = &watches[number] {
@@ -47,15 +48,18 @@ pub(crate) fn failing<N: Node>(
     None
 }
 
-// The first reason to stop a run at a world, if there is one: a watch that fails, and the others in their order. `asked` tells whether
-// as many steps were added as it was asked for, `kept` how many events are kept.
+// The first reason to stop a run at a world, if there is one: a watch that fails, and the others in
+// their order. `asked` tells whether as many steps were added as it was asked for, `kept` how many
+// events are kept.
 fn first_stop<N: Node>(
     failing: Option<u32>,
     asked: bool,
     kept: u32,
     world: &World<N>,
 ) -> Option<Stop>
-    ensures { result ≡ first_stop failing (all_done (rules N.laws N.PROBES world.now.scenario) world.now.world) asked (nat_le 65536 kept)
+    ensures { result ≡ first_stop failing
+        (all_done (rules N.laws N.PROBES world.now.scenario) world.now.world) asked
+        (nat_le 65536 kept)
         (is_idle world.now.world) }
 {
     if let Some(watch) = failing {
@@ -86,7 +90,8 @@ pub(crate) fn failing_here<N: Node>(
     requires few { end ≤ 8 }
     requires none { NoneFrom end watches.now }
     requires checked { AreChecked tape.now.scenario.setup.hosts N.PROBES watches.now }
-    ensures { result ≡ failing_watch (rules N.laws N.PROBES tape.now.scenario) watches.now (world_on N.laws N.PROBES tape.now) }
+    ensures { result ≡ failing_watch (rules N.laws N.PROBES tape.now.scenario) watches.now
+        (world_on N.laws N.PROBES tape.now) }
 {
     if end == 0 {
         return None;
@@ -105,7 +110,8 @@ pub(crate) fn stop<N: Node>(
     requires few { end ≤ 8 }
     requires none { NoneFrom end watches.now }
     requires checked { AreChecked tape.now.scenario.setup.hosts N.PROBES watches.now }
-    ensures { result ≡ run_stop (rules N.laws N.PROBES tape.now.scenario) asked watches.now (length tape.now.events)
+    ensures { result ≡ run_stop (rules N.laws N.PROBES tape.now.scenario) asked watches.now
+        (length tape.now.events)
         (world_on N.laws N.PROBES tape.now) }
 {
     let world = tape.here();

@@ -1,14 +1,13 @@
 //! Ticks: steps up to a time, and an advance to it.
-ghost use Rattle.std.specs.Prelude.{◌≡◌, ℕ, ◌+◌, ◌-◌, ◌*◌, ◌==◌, ◌<◌, ◌≤◌, true, List, [], min, length, IsTrue, OnOk, OnErr, IfOk, if◌then◌else◌};
-ghost use Rattle.sim_world.specs.declared.Event.{Event};
+ghost use Rattle.std.specs.Prelude.{◌≡◌, ℕ, ◌+◌, ◌-◌, ◌*◌, ◌==◌, ◌<◌, ◌≤◌, true, List, [], min};
+ghost use Rattle.std.specs.Prelude.{length, IsTrue, OnOk, OnErr, IfOk, if◌then◌else◌};
 ghost use Rattle.sim_world.specs.Events.{rules};
-ghost use Rattle.sim_tape.specs.Tape.{with_world, raised};
-ghost use Rattle.sim_book.specs.Tapes.{lengthened};
+ghost use Rattle.sim_tape.specs.Tape.{KeepsRun, raised};
 ghost use Rattle.sim_book.specs.Kept.{branch_with};
 ghost use Rattle.sim_book.specs.Book.{all_done};
 ghost use Rattle.sim_book.specs.Works.{Adds};
 ghost use Rattle.sim_book.specs.Answer.{is_due_by, tick_end, tick_room};
-ghost use Rattle.sim_book.specs.OnTape.{IsLengthened, world_on, tick_on};
+ghost use Rattle.sim_book.specs.OnTape.{IsLengthened, HasGrown, world_on, tick_on};
 
 use crate::{MAX_EVENTS, MAX_TICK_EVENTS, Stop};
 use sim_node::{NoMemory, Node};
@@ -49,7 +48,8 @@ fn is_due_by<N: Node>(tape: &Tape<N>, time: u64) -> bool
 // Why a tick stops that came to its time, at the place of a warm tape.
 fn stop_at_end<N: Node>(tape: &Tape<N>) -> Stop
     requires { IsTrue tape.now.warm }
-    ensures { result ≡ (if all_done (rules N.laws N.PROBES tape.now.scenario) (world_on N.laws N.PROBES tape.now) then Stop.AllDone else Stop.Asked) }
+    ensures { result ≡ (if all_done (rules N.laws N.PROBES tape.now.scenario)
+        (world_on N.laws N.PROBES tape.now) then Stop.AllDone else Stop.Asked) }
 {
     if tape.here().are_clients_done() {
         Stop::AllDone
@@ -69,8 +69,8 @@ fn stop_short<N: Node>(tape: &Tape<N>) -> Stop
     }
 }
 
-// Adds steps while something is due by a time (ms), and then an advance to it, at most so many events. After want of memory some may
-// have been added.
+// Adds steps while something is due by a time (ms), and then an advance to it, at most so many
+// events. After want of memory some may have been added.
 fn add_tick<N: Node>(
     alloc: Global,
     tape: &mut Tape<N>,
@@ -78,18 +78,23 @@ fn add_tick<N: Node>(
     end: u64,
     room: u32,
 ) -> Result<Stop, NoMemory>
-    requires end { end ≡ tick_end (rules N.laws N.PROBES tape.old.scenario) (branch_with [] tape.old) }
+    requires end { end ≡ tick_end (rules N.laws N.PROBES tape.old.scenario)
+        (branch_with [] tape.old) }
     requires near { tape.old.scenario.tick ≤ 60000 }
-    requires room { room ≡ tick_room (rules N.laws N.PROBES tape.old.scenario) (branch_with [] tape.old) }
+    requires room { room ≡ tick_room (rules N.laws N.PROBES tape.old.scenario)
+        (branch_with [] tape.old) }
     requires reach { tape.old.reach ≤ tape.old.scenario.window }
     requires warm { IsTrue tape.old.warm }
     requires place { tape.old.place ≡ length tape.old.events }
     ensures stop { IfOk result (λ why. why ≡ (tick_on N.laws N.PROBES tape.old).stop) }
-    ensures ok { OnOk result (IsLengthened (tick_on N.laws N.PROBES tape.old).events tape.old tape.new) }
-    ensures reach { OnOk result (tape.new.reach ≡ raised (length (tick_on N.laws N.PROBES tape.old).events) tape.old) }
+    ensures ok { OnOk result (IsLengthened
+        (tick_on N.laws N.PROBES tape.old).events tape.old tape.new) }
+    ensures reach { OnOk result (tape.new.reach ≡ raised
+        (length (tick_on N.laws N.PROBES tape.old).events) tape.old) }
     ensures work { OnOk result (Adds (rules N.laws N.PROBES tape.old.scenario)
-        (length (tick_on N.laws N.PROBES tape.old).events) tape.new.events (N.Meter.work meter.old) (N.Meter.work meter.new)) }
-    ensures err { OnErr result ((more : List Event) × (tape.new ≡ with_world tape.new.warm tape.new.reach (lengthened more tape.old))) }
+        (length (tick_on N.laws N.PROBES tape.old).events) tape.new.events
+        (N.Meter.work meter.old) (N.Meter.work meter.new)) }
+    ensures err { OnErr result (HasGrown tape.old tape.new) }
 {
     for _ in 0..room {
         if !is_due_by(tape, end) {
@@ -101,7 +106,8 @@ fn add_tick<N: Node>(
     Ok(stop_short(tape))
 }
 
-/// Adds the events of a tick, which takes so long (ms). After want of memory the events are as before.
+/// Adds the events of a tick, which takes so long (ms). After want of memory the events are as
+/// before.
 pub(crate) fn tick<N: Node>(
     alloc: Global,
     tape: &mut Tape<N>,
@@ -113,11 +119,14 @@ pub(crate) fn tick<N: Node>(
     requires warm { IsTrue tape.old.warm }
     requires place { tape.old.place ≡ length tape.old.events }
     ensures stop { IfOk result (λ why. why ≡ (tick_on N.laws N.PROBES tape.old).stop) }
-    ensures ok { OnOk result (IsLengthened (tick_on N.laws N.PROBES tape.old).events tape.old tape.new) }
-    ensures reach { OnOk result (tape.new.reach ≡ raised (length (tick_on N.laws N.PROBES tape.old).events) tape.old) }
+    ensures ok { OnOk result (IsLengthened
+        (tick_on N.laws N.PROBES tape.old).events tape.old tape.new) }
+    ensures reach { OnOk result (tape.new.reach ≡ raised
+        (length (tick_on N.laws N.PROBES tape.old).events) tape.old) }
     ensures work { OnOk result (Adds (rules N.laws N.PROBES tape.old.scenario)
-        (length (tick_on N.laws N.PROBES tape.old).events) tape.new.events (N.Meter.work meter.old) (N.Meter.work meter.new)) }
-    ensures err { OnErr result (tape.new ≡ with_world tape.new.warm tape.new.reach tape.old) }
+        (length (tick_on N.laws N.PROBES tape.old).events) tape.new.events
+        (N.Meter.work meter.old) (N.Meter.work meter.new)) }
+    ensures err { OnErr result (KeepsRun tape.old tape.new) }
 {
     let start = tape.len();
     let end = clock(tape) + takes as u64;

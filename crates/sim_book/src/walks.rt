@@ -1,10 +1,8 @@
 //! Steps that are added one after the other.
 ghost use Rattle.std.specs.Prelude.{◌≡◌, ◌<◌, ◌≤◌, List, None, length, IsTrue, OnOk, OnErr, IfOk};
-ghost use Rattle.sim_world.specs.declared.Event.{Event};
 ghost use Rattle.sim_world.specs.Events.{rules};
-ghost use Rattle.sim_tape.specs.Tape.{with_world, raised};
-ghost use Rattle.sim_book.specs.Tapes.{lengthened};
-ghost use Rattle.sim_book.specs.OnTape.{IsLengthened, step_refusal, run_on};
+ghost use Rattle.sim_tape.specs.Tape.{KeepsRun, raised};
+ghost use Rattle.sim_book.specs.OnTape.{IsLengthened, HasGrown, step_refusal, run_on};
 ghost use Rattle.sim_book.specs.Watches.{AreChecked, NoneFrom};
 ghost use Rattle.sim_book.specs.Works.{Adds};
 
@@ -15,7 +13,8 @@ use sim_watch::Cond;
 use sim_world::Event;
 use std::alloc::Global;
 
-// Adds steps, at most so many, until a run has to stop. After want of memory some may have been added.
+// Adds steps, at most so many, until a run has to stop. After want of memory some may have been
+// added.
 fn add_steps<N: Node>(
     alloc: Global,
     tape: &mut Tape<N>,
@@ -33,12 +32,16 @@ fn add_steps<N: Node>(
     requires few { end ≤ 8 }
     requires none { NoneFrom end watches.now }
     requires checked { AreChecked tape.old.scenario.setup.hosts N.PROBES watches.now }
-    ensures stop { IfOk result (λ why. why ≡ (run_on N.laws N.PROBES count watches.now tape.old).stop) }
-    ensures ok { OnOk result (IsLengthened (run_on N.laws N.PROBES count watches.now tape.old).events tape.old tape.new) }
-    ensures reach { OnOk result (tape.new.reach ≡ raised (length (run_on N.laws N.PROBES count watches.now tape.old).events) tape.old) }
+    ensures stop { IfOk result (λ why.
+        why ≡ (run_on N.laws N.PROBES count watches.now tape.old).stop) }
+    ensures ok { OnOk result (IsLengthened
+        (run_on N.laws N.PROBES count watches.now tape.old).events tape.old tape.new) }
+    ensures reach { OnOk result (tape.new.reach ≡ raised
+        (length (run_on N.laws N.PROBES count watches.now tape.old).events) tape.old) }
     ensures work { OnOk result (Adds (rules N.laws N.PROBES tape.old.scenario)
-        (length (run_on N.laws N.PROBES count watches.now tape.old).events) tape.new.events (N.Meter.work meter.old) (N.Meter.work meter.new)) }
-    ensures err { OnErr result ((more : List Event) × (tape.new ≡ with_world tape.new.warm tape.new.reach (lengthened more tape.old))) }
+        (length (run_on N.laws N.PROBES count watches.now tape.old).events) tape.new.events
+        (N.Meter.work meter.old) (N.Meter.work meter.new)) }
+    ensures err { OnErr result (HasGrown tape.old tape.new) }
 {
     for added in 0..count {
         tape.add(alloc, Event::Step, meter)?;
@@ -50,7 +53,8 @@ fn add_steps<N: Node>(
     unreachable!()
 }
 
-/// Adds steps, at most so many, until a run has to stop. After want of memory the events are as before.
+/// Adds steps, at most so many, until a run has to stop. After want of memory the events are as
+/// before.
 pub(crate) fn run<N: Node>(
     alloc: Global,
     tape: &mut Tape<N>,
@@ -64,12 +68,16 @@ pub(crate) fn run<N: Node>(
     requires room { length tape.old.events < 65536 }
     requires can { step_refusal N.laws N.PROBES tape.old ≡ None }
     requires checked { AreChecked tape.old.scenario.setup.hosts N.PROBES watches.now }
-    ensures stop { IfOk result (λ why. why ≡ (run_on N.laws N.PROBES count watches.now tape.old).stop) }
-    ensures ok { OnOk result (IsLengthened (run_on N.laws N.PROBES count watches.now tape.old).events tape.old tape.new) }
-    ensures reach { OnOk result (tape.new.reach ≡ raised (length (run_on N.laws N.PROBES count watches.now tape.old).events) tape.old) }
+    ensures stop { IfOk result (λ why.
+        why ≡ (run_on N.laws N.PROBES count watches.now tape.old).stop) }
+    ensures ok { OnOk result (IsLengthened
+        (run_on N.laws N.PROBES count watches.now tape.old).events tape.old tape.new) }
+    ensures reach { OnOk result (tape.new.reach ≡ raised
+        (length (run_on N.laws N.PROBES count watches.now tape.old).events) tape.old) }
     ensures work { OnOk result (Adds (rules N.laws N.PROBES tape.old.scenario)
-        (length (run_on N.laws N.PROBES count watches.now tape.old).events) tape.new.events (N.Meter.work meter.old) (N.Meter.work meter.new)) }
-    ensures err { OnErr result (tape.new ≡ with_world tape.new.warm tape.new.reach tape.old) }
+        (length (run_on N.laws N.PROBES count watches.now tape.old).events) tape.new.events
+        (N.Meter.work meter.old) (N.Meter.work meter.new)) }
+    ensures err { OnErr result (KeepsRun tape.old tape.new) }
 {
     let start = tape.len();
     let end = stops::end_of(watches);

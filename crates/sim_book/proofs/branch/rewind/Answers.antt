@@ -1,8 +1,9 @@
 use Rattle.sim_book.specs.Works.{Works}
 use Rattle.sim_tape.specs.Tape.{reach_here}
-use Rattle.std.proofs.Common.{◌≡◌, ◌-◌, true, arith, sym, subst}
+use Rattle.std.proofs.Common.{◌≡◌, ◌-◌, true, arith, refl, sym, subst}
 use Rattle.sim_book.proofs.Turns.{rewind_on, rewind_none, rewind_keeps, rewind_none_keeps, rewind_works, rewind_none_works, rewind_looks}
 use Rattle.sim_book.proofs.Looking.{looks_none}
+use Rattle.sim_book.proofs.Undoing.{undone_none, rewind_undoes}
 use Rattle.sim_world.specs.Events.{rules}
 use Rattle.sim_book.specs.Keeps.{Keeps}
 use Rattle.sim_book.specs.declared.Command.TheVariants as command
@@ -39,6 +40,7 @@ returns-then-count-eq0-clause-work g c =
       last = (
         λ _. rewind_none_works g.N.Node.laws g.N.Node.PROBES c.args.tape.now c.make_warm.new.self (W c.make_warm.new.meter) c.in-Ok.ensures.ok,
         looks_none (rules g.N.Node.laws g.N.Node.PROBES c.args.tape.now.scenario) c.make_warm.new.self.place (c.args.tape.now.place - reach_here c.args.tape.now) c.args.tape.now (W c.make_warm.new.meter),
+        undone_none (rules g.N.Node.laws g.N.Node.PROBES c.args.tape.now.scenario) (reach_here c.args.tape.now) c.args.tape.now (W c.make_warm.new.meter) (W c.make_warm.new.meter) refl,
       );
     })
 
@@ -53,5 +55,9 @@ returns-in-Ok-rewind-clause-work g c =
       last = (
         rewind_works g.N.Node.laws g.N.Node.PROBES c.args.tape.now c.make_warm.new.self c.rewind.new.tape (W c.make_warm.new.meter) (W c.rewind.new.meter) c.in-Ok.ensures.ok c.in-Ok.ensures.reach c.in-Ok-rewind.ensures.work,
         rewind_looks g.N.Node.laws g.N.Node.PROBES c.args.tape.now c.make_warm.new.self c.rewind.new.tape (W c.make_warm.new.meter) (W c.rewind.new.meter) c.in-Ok.ensures.ok c.in-Ok.ensures.reach c.in-Ok-rewind.ensures.looks,
+        rewind_undoes g.N.Node.laws g.N.Node.PROBES c.args.tape.now c.make_warm.new.self (W c.make_warm.new.meter) (W c.rewind.new.meter) c.in-Ok.ensures.ok c.in-Ok.ensures.reach c.in-Ok-rewind.ensures.undos,
       );
     })
+
+pub returns-in-Err-rewind-clause-keeps : goal.returns-in-Err-rewind-clause-keeps
+returns-in-Err-rewind-clause-keeps g c = λ none. absurd (omega arith)

@@ -1,4 +1,4 @@
-use Rattle.std.proofs.Common.{◌≡◌, ℕ, ◌+◌, Option, sym, ◌∙◌, subst, arith}
+use Rattle.std.proofs.Common.{◌≡◌, ℕ, ◌+◌, Option, refl, sym, ◌∙◌, subst, arith}
 use Rattle.sim_book.specs.declared.rewinds.Found.{Found}
 use Rattle.sim_book.specs.Running.{IsLast, IsLooking}
 use Rattle.sim_book.proofs.Rewinding.{looking_none, looking_same, looking_found}
@@ -10,6 +10,8 @@ pub loop-init : goal.loop-init
 loop-init g c = (
   looking_none g.N.Node.laws g.N.Node.PROBES c.args.watches.now c.args.tape.now c.found_here-last.result c.requires.warm c.found_here-last.ensures,
   turned_none (g.N.Meter.Meter.work c.args.meter.now),
+  λ _. refl,
+  λ some. absurd (omega (arith, some)),
 )
 
 pub loop-preserved : goal.loop-preserved
@@ -25,9 +27,17 @@ loop-preserved g c =
             c.in_ok-pass.ensures.ok w.in_default.is c.found_here.ensures)
       ],
       turned_more c.loop.counter (W c.args.meter.now) (W c.loop.meter) (W c.pass.new.meter) c.loop.invariant.1 c.in_ok-pass.ensures.work,
+      λ none. absurd (omega (arith, none)),
+      λ _. c.pass.ensures.reach,
     )
 
 pub returns-clause-last : goal.returns-clause-last
 returns-clause-last g c =
     let all : c.args.tape.now.place + c.loop.counter + 1 ≡ c.args.tape.now.place + c.args.count + 1 = omega arith in
     subst (λ (n : ℕ). IsLast g.N.Node.laws g.N.Node.PROBES c.args.watches.now c.args.tape.now c.args.tape.now.place n c.loop.last) all c.loop.invariant.0.found
+
+pub returns-clause-spent : goal.returns-clause-spent
+returns-clause-spent g c = λ some. c.loop.invariant.3 (omega (arith, some))
+
+pub returns-clause-still : goal.returns-clause-still
+returns-clause-still g c = λ none. c.loop.invariant.2 (omega (arith, none))

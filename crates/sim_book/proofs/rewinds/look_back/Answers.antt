@@ -1,10 +1,11 @@
-use Rattle.std.proofs.Common.{◌≡◌, ℕ, ◌-◌, ap, ◌∙◌, subst}
+use Rattle.std.proofs.Common.{◌≡◌, ℕ, ◌-◌, ◌≤◌, ap, ◌∙◌, subst, arith}
 use Rattle.std.proofs.lemmas.Result.{IfOk-weaker, on_ok_weaker}
 use Rattle.sim_world.specs.Events.{rules}
 use Rattle.sim_tape.specs.Tape.{Tape}
 use Rattle.sim_book.specs.Running.{IsLast}
 use Rattle.sim_book.proofs.Rewinding.{none_so, none_kept, far_last}
 use Rattle.sim_book.proofs.Looking.{looks_jump, looks_back, moved_looks, far_looked, min_other}
+use Rattle.sim_book.proofs.Undoing.{min_both, near_undone, spent_far, undone_back}
 use Rattle.sim_book.proofs.rewinds.look_back.Goals as goal
 
 pub returns-then-end-eq0-clause-last : goal.returns-then-end-eq0-clause-last
@@ -57,5 +58,40 @@ returns-clause-looks g c =
     on_ok_weaker c.look_far.result
     (far_looked g.N.Node.laws g.N.Node.PROBES t u c.look_far.new.tape.place c.min-near.result (W c.args.meter.now) (W c.look_near.new.meter) (W c.look_far.new.meter)
     c.in_ok-found.field-0 c.in_default.is c.in_ok-found.ensures.moved
-    (min_other c.args.count c.reach.result c.min-near.result c.min-near.ensures c.if-near-count.false ∙ c.reach.ensures) c.in_ok-found.ensures.work)
+    (min_other c.args.count c.reach-reach.result c.min-near.result c.min-near.ensures c.if-near-count.false ∙ c.reach-reach.ensures.value) c.in_ok-found.ensures.work)
     c.look_far.ensures.looks
+
+pub look_far-requires-clause-spent : goal.look_far-requires-clause-spent
+look_far-requires-clause-spent g c =
+    spent_far g.N.Node.laws g.N.Node.PROBES c.args.tape.now c.look_near.new.tape c.min-near.result c.in_ok-found.field-0 c.in_default.is
+    (min_other c.args.count c.reach-reach.result c.min-near.result c.min-near.ensures c.if-near-count.false ∙ c.reach-reach.ensures.value)
+    c.reach-reach.ensures.within c.in_ok-found.ensures.moved c.in_ok-found.ensures.reach
+
+pub returns-then-end-eq0-clause-undos : goal.returns-then-end-eq0-clause-undos
+returns-then-end-eq0-clause-undos g c =
+    let W = g.N.Meter.Meter.work in
+    let t = c.args.tape.now in
+    undone_back (rules g.N.Node.laws g.N.Node.PROBES t.scenario) c.args.count t (W c.args.meter.now) (W c.back.new.meter)
+    c.requires.within c.reach-reach.ensures.within c.requires.warm c.in_ok-back.ensures.undos (λ past. (c.in_ok-back.ensures.anew past).undos)
+
+pub returns-in-Some-clause-undos : goal.returns-in-Some-clause-undos
+returns-in-Some-clause-undos g c =
+    let W = g.N.Meter.Meter.work in
+    let near : c.min-near.result ≤ c.args.tape.now.reach = omega (arith, (min_both c.args.count c.reach-reach.result c.min-near.result c.min-near.ensures).1, c.reach-reach.ensures.value) in
+    near_undone g.N.Node.laws g.N.Node.PROBES c.args.watches.now c.args.tape.now c.look_near.new.tape c.min-near.result c.in_ok-found.field-0 (W c.args.meter.now) (W c.look_near.new.meter)
+    near c.reach-reach.ensures.within c.in_ok-found.ensures.last c.in_ok-found.ensures.moved c.in_ok-found.ensures.work
+
+pub returns-then-near-count-clause-undos : goal.returns-then-near-count-clause-undos
+returns-then-near-count-clause-undos g c =
+    let W = g.N.Meter.Meter.work in
+    let near : c.min-near.result ≤ c.args.tape.now.reach = omega (arith, (min_both c.args.count c.reach-reach.result c.min-near.result c.min-near.ensures).1, c.reach-reach.ensures.value) in
+    near_undone g.N.Node.laws g.N.Node.PROBES c.args.watches.now c.args.tape.now c.look_near.new.tape c.min-near.result c.in_ok-found.field-0 (W c.args.meter.now) (W c.look_near.new.meter)
+    near c.reach-reach.ensures.within c.in_ok-found.ensures.last c.in_ok-found.ensures.moved c.in_ok-found.ensures.work
+
+pub returns-clause-undos : goal.returns-clause-undos
+returns-clause-undos g c =
+    let W = g.N.Meter.Meter.work in
+    let near : c.min-near.result ≤ c.args.tape.now.reach = omega (arith, (min_both c.args.count c.reach-reach.result c.min-near.result c.min-near.ensures).1, c.reach-reach.ensures.value) in
+    let first = near_undone g.N.Node.laws g.N.Node.PROBES c.args.watches.now c.args.tape.now c.look_near.new.tape c.min-near.result c.in_ok-found.field-0 (W c.args.meter.now) (W c.look_near.new.meter)
+    near c.reach-reach.ensures.within c.in_ok-found.ensures.last c.in_ok-found.ensures.moved c.in_ok-found.ensures.work in
+    on_ok_weaker c.look_far.result (λ same. omega (arith, same, first)) c.look_far.ensures.undos

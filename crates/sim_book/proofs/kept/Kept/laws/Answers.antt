@@ -7,4 +7,4 @@ use Rattle.sim_book.proofs.kept.Kept.laws.Goals as goal
 pub returns : goal.returns
 returns g c =
     subst (λ (k : Kept). IsBranch (rules g.N.Node.laws g.N.Node.PROBES k.tape.scenario) (shown k)) c.self.view_is
-    (record { runnable = c.len-events.ensures.runs; within = c.place-place.ensures.within; eight = c.are_eight.ensures })
+    (record { runnable = c.laws.ensures.runs; within = c.laws.ensures.within; eight = c.are_eight.ensures })
