@@ -19,11 +19,11 @@ pub record Disk : Type 0 where
 abbrev pub empty_disk : Disk
 empty_disk = record { stable = []; writes = []; asked = 0 }
 
--- the bytes as they reach at least to this place, a gap filled with 0
+-- the bytes, extended at least to this place with zeros
 abbrev pub filled_to : ℕ → List ℕ → List ℕ
 filled_to place bytes = bytes ++ replicate (place - length bytes) 0
 
--- a write laid over the bytes; a write of no bytes changes nothing
+-- the bytes with a write laid over them; a write of no bytes changes nothing
 abbrev pub laid_at : ℕ → List ℕ → List ℕ → List ℕ
 laid_at offset [] over = over
 laid_at offset (b ∷ bytes) over =
@@ -32,28 +32,27 @@ laid_at offset (b ∷ bytes) over =
 abbrev pub laid : List ℕ → Write → List ℕ
 laid over w = laid_at w.offset w.bytes over
 
--- the writes laid in order over the bytes
+-- the bytes with the writes laid over them in order
 abbrev pub all_laid : List ℕ → List Write → List ℕ
 all_laid over writes = fold laid over writes
 
--- what the host reads
+-- the bytes that the host reads
 abbrev pub read : Disk → List ℕ
 read d = all_laid d.stable d.writes
 
--- after one more write
+-- the disk after one more write
 abbrev pub written : ℕ → List ℕ → Disk → Disk
 written offset bytes d =
     record d { writes = d.writes ++ record { offset = offset; bytes = bytes } ∷ [] }
 
--- A sync asks for the writes that no sync covers yet: how many these are, and the disk after it
--- asked.
+-- A sync asks for the writes that no sync covers yet: their number, and the disk after it asked.
 abbrev pub not_asked : Disk → ℕ
 not_asked d = length d.writes - d.asked
 
 abbrev pub all_asked : Disk → Disk
 all_asked d = record d { asked = length d.writes }
 
--- when the sync comes, the writes that it covers are stable, the first so many
+-- when a sync of the first `count` writes comes, these are stable
 abbrev pub synced : ℕ → Disk → Disk
 synced count d =
     record {
@@ -62,8 +61,8 @@ synced count d =
       asked = d.asked - count;
     }
 
--- how many of its bytes a crash keeps of a write: none, all, or a first part, by the word drawn for
--- it
+-- the number of bytes that a crash keeps of a write: none, all, or a first part, by the word drawn
+-- for it
 abbrev pub kept_by : ℕ → ℕ → ℕ → ℕ
 kept_by zero word len = 0
 kept_by (suc zero) word len = len
@@ -75,18 +74,18 @@ kept_len word len = kept_by (word % 3) word len
 abbrev pub kept : ℕ → Write → Write
 kept word w = record w { bytes = take (kept_len word (length w.bytes)) w.bytes }
 
--- what is kept of each write, by a word for each
+-- the parts of the writes that a crash keeps, by a word for each
 abbrev pub all_kept : List ℕ → List Write → List Write
 all_kept (word ∷ words) (w ∷ writes) = kept word w ∷ all_kept words writes
 all_kept _ _ = []
 
--- after a crash what is kept is stable, and no write is left
+-- after a crash the kept parts are stable, and no write is left
 abbrev pub crashed : List ℕ → Disk → Disk
 crashed words d =
     record { stable = all_laid d.stable (all_kept words d.writes); writes = []; asked = 0 }
 
--- What is true of every disk: it has at most 4096 bytes, a write has 1 to 64 and ends within these,
--- there are at most 2 ^ 24 writes, and only writes that are there were asked for.
+-- The invariant of a disk: at most 4096 stable bytes; each write has 1 to 64 bytes and ends within
+-- 4096; at most 2 ^ 24 writes; the syncs in flight cover no more writes than there are.
 abbrev pub AllFit : List Write → Type 0
 AllFit [] = Unit {0}
 AllFit (w ∷ writes) =
@@ -99,10 +98,12 @@ pub record IsDisk (d : Disk) : Type 0 where
   pub few : length d.writes ≤ 2 ^ 24
   pub asked : d.asked ≤ length d.writes
 
--- The record of a change. Unchanged nothing changed: a sync came that covered no write, or a disk
--- crashed that had no write Added a write was added Asked a sync asked, and so many writes had been
--- asked for before Synced a sync that covered so many writes came, and this was the disk Crashed
--- the disk crashed, and this was the disk
+-- The record of a change.
+-- Unchanged          nothing changed: a sync that covered no write, or a crash without a write
+-- Added              a write was added
+-- Asked was          a sync asked, and `was` writes had been asked for before
+-- Synced count was   a sync of the first `count` writes came; `was` is the disk before it
+-- Crashed was        the disk crashed; `was` is the disk before it
 pub data DiskUndo : Type 0 where
   Unchanged : DiskUndo
   Added : DiskUndo

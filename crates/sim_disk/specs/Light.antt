@@ -1,15 +1,15 @@
--- The records of changes that keep nothing of the disk.
+-- The records of changes that store nothing of the disk.
 use Rattle.std.specs.Prelude.{Option, None, Some}
 use Rattle.sim_disk.specs.Disk.{DiskUndo}
 use Rattle.sim_disk.specs.declared.LightUndo.{LightUndo}
 use Rattle.sim_disk.specs.declared.LightUndo.TheVariants as light_undo
 
--- such a record, as one of all kinds
+-- the same record among those of all kinds
 abbrev pub whole : LightUndo → DiskUndo
 whole light_undo.Added = DiskUndo.Added
 whole (light_undo.Asked was) = DiskUndo.Asked was
 
--- a record as such a one, if it keeps nothing of the disk
+-- a record as a light one, if it stores nothing of the disk
 abbrev pub light : DiskUndo → Option LightUndo
 light DiskUndo.Unchanged = None
 light DiskUndo.Added = Some light_undo.Added

@@ -1,11 +1,10 @@
--- Disks that are kept side by side: the bytes of all, the writes of all, and where each disk stands
--- in these.
+-- Disks side by side: the bytes of all, the writes of all, and the span of each disk in these.
 use Rattle.std.specs.Prelude.{◌≤◌, ℕ, List, length, map}
 use Rattle.std.specs.List.{All, slice_range}
 use Rattle.sim_disk.specs.Disk.{Disk, Write, IsDisk}
 use Rattle.sim_disk.specs.declared.packed.Span.{Span}
 
--- the disk whose bytes and writes stand there
+-- the disk with the bytes and the writes of a span
 abbrev pub disk_at : List ℕ → List Write → Span → Disk
 disk_at bytes writes s =
     record {
@@ -17,7 +16,7 @@ disk_at bytes writes s =
 abbrev pub disks_at : List ℕ → List Write → List Span → List Disk
 disks_at bytes writes spans = map (disk_at bytes writes) spans
 
--- it lies within the bytes and the writes, and what stands there is a disk
+-- the span is within the bytes and the writes, and gives a disk
 pub record IsSpan (bytes : List ℕ) (writes : List Write) (s : Span) : Type 0 where
   pub from : s.from ≤ s.to
   pub to : s.to ≤ length bytes

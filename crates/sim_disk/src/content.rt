@@ -1,4 +1,4 @@
-//! The content of a disk, and what a sync and a crash make of it.
+//! The content of a disk, and its changes by a sync and a crash.
 ghost use Rattle.std.specs.Prelude.{◌≡◌, ◌≤◌, length, IfOk, OnOk};
 ghost use Rattle.sim_disk.specs.Disk as disk;
 ghost use Rattle.sim_disk.specs.Change.{disk_in};
@@ -14,12 +14,12 @@ use std::alloc::Global;
 pub(crate) struct Content {
     pub(crate) stable: Vec<u8>,
     pub(crate) writes: Vec<Write>,
-    // How many writes the syncs in flight cover, from the first on.
+    // The number of writes, from the first on, that the syncs in flight cover.
     pub(crate) asked: u32,
 }
 
 impl Content {
-    /// No bytes and no writes.
+    /// Returns a content of no bytes and no writes.
     pub(crate) fn empty(alloc: Global) -> Content
         ensures { disk_in result ≡ disk.empty_disk }
     {
@@ -30,7 +30,7 @@ impl Content {
         }
     }
 
-    /// A copy of these bytes and writes, of which syncs cover the first `asked`.
+    /// Returns a copy of these bytes and writes, of which syncs cover the first `asked`.
     pub(crate) fn of(
         alloc: Global,
         bytes: &[u8],
@@ -53,8 +53,8 @@ impl Content {
         })
     }
 
-    /// Becomes what a sync of the first `count` writes makes of another content. After an error it
-    /// can be anything.
+    /// Sets it to what a sync of the first `count` writes makes of another content. After an error
+    /// it is unspecified.
     pub(crate) fn become_synced(&mut self, was: &Content, count: u32) -> Result<(), NoMemory>
         requires asked { count ≤ was.now.asked }
         requires there { count ≤ length was.now.writes.items }
@@ -67,7 +67,7 @@ impl Content {
         Ok(())
     }
 
-    /// Makes its first `count` writes stable, in place. After an error it can be anything.
+    /// Makes its first `count` writes stable, in place. After an error it is unspecified.
     pub(crate) fn settle(&mut self, count: u32) -> Result<(), NoMemory>
         requires asked { count ≤ self.old.asked }
         requires there { count ≤ length self.old.writes.items }
@@ -95,8 +95,8 @@ impl Content {
         self.asked = 0;
     }
 
-    /// Becomes what a crash makes of another content, given a word for each of its writes. After an
-    /// error it can be anything.
+    /// Sets it to what a crash makes of another content, given a word for each of its writes. After
+    /// an error it is unspecified.
     pub(crate) fn become_crashed(&mut self, was: &Content, words: &[u32]) -> Result<(), NoMemory>
         requires { length words.now ≡ length was.now.writes.items }
         ensures { OnOk result (disk_in self.new ≡ disk.crashed words.now (disk_in was.now)) }

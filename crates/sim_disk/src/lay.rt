@@ -1,4 +1,4 @@
-//! How writes are laid over bytes.
+//! Lays writes over bytes.
 ghost use Rattle.std.specs.Prelude.{◌≡◌, ◌+◌, ◌<◌, ◌≤◌, ◌++◌, length, take, drop, OnOk};
 ghost use Rattle.sim_disk.specs.Disk as disk;
 ghost use Rattle.sim_disk.specs.Disk.{filled_to, laid_at, kept_len};
@@ -6,7 +6,7 @@ ghost use Rattle.sim_disk.specs.Disk.{filled_to, laid_at, kept_len};
 use crate::NoMemory;
 use crate::write::Write;
 
-// Fills bytes up with 0 so that they reach at least to a place.
+// Extends bytes with zeros at least to a place.
 fn fill_to(bytes: &mut Vec<u8>, place: usize) -> Result<(), NoMemory>
     ensures { OnOk result (bytes.new.items ≡ filled_to place bytes.old.items) }
 {
@@ -25,7 +25,7 @@ fn copy_over(bytes: &mut Vec<u8>, offset: usize, source: &[u8])
     bytes.as_mut_slice()[offset..offset + source.len()].copy_from_slice(source);
 }
 
-// Lays bytes over others from an offset on, a gap filled with 0.
+// Lays bytes over others from an offset on. A gap is filled with 0.
 fn lay(bytes: &mut Vec<u8>, offset: u32, source: &[u8]) -> Result<(), NoMemory>
     requires { length source.now ≤ 64 }
     ensures { OnOk result (bytes.new.items ≡ laid_at offset source.now bytes.old.items) }
@@ -39,7 +39,7 @@ fn lay(bytes: &mut Vec<u8>, offset: u32, source: &[u8]) -> Result<(), NoMemory>
     Ok(())
 }
 
-// How many of its bytes a crash keeps of a write, by the word drawn for it.
+// Returns the number of bytes that a crash keeps of a write, by the word drawn for it.
 fn kept(word: u32, len: usize) -> usize
     requires { 0 < len }
     ensures kept { result ≡ kept_len word len }
@@ -52,7 +52,7 @@ fn kept(word: u32, len: usize) -> usize
     }
 }
 
-// Makes bytes equal to others.
+// Sets bytes to a copy of others.
 fn set_to(bytes: &mut Vec<u8>, others: &[u8]) -> Result<(), NoMemory>
     ensures { OnOk result (bytes.new.items ≡ others.now) }
 {
@@ -61,7 +61,7 @@ fn set_to(bytes: &mut Vec<u8>, others: &[u8]) -> Result<(), NoMemory>
     Ok(())
 }
 
-// Lays writes in order over bytes. After an error some of them may be laid.
+// Lays writes in order over bytes. After an error some of them may have been laid.
 pub(crate) fn lay_all(bytes: &mut Vec<u8>, writes: &[Write]) -> Result<(), NoMemory>
     ensures { OnOk result (bytes.new.items ≡ disk.all_laid bytes.old.items writes.now) }
 {
@@ -71,7 +71,7 @@ pub(crate) fn lay_all(bytes: &mut Vec<u8>, writes: &[Write]) -> Result<(), NoMem
     Ok(())
 }
 
-// Makes bytes what the writes are that are laid in order over others.
+// Sets bytes to others with the writes laid over them in order.
 pub(crate) fn all_laid(bytes: &mut Vec<u8>, over: &[u8], writes: &[Write]) -> Result<(), NoMemory>
     ensures { OnOk result (bytes.new.items ≡ disk.all_laid over.now writes.now) }
 {
@@ -79,7 +79,7 @@ pub(crate) fn all_laid(bytes: &mut Vec<u8>, over: &[u8], writes: &[Write]) -> Re
     lay_all(bytes, writes)
 }
 
-// Makes bytes what the words keep of the writes, laid in order over others.
+// Sets bytes to others with what the words keep of the writes laid over them in order.
 pub(crate) fn kept_laid(
     bytes: &mut Vec<u8>,
     over: &[u8],
@@ -100,7 +100,7 @@ pub(crate) fn kept_laid(
     Ok(())
 }
 
-// Adds writes equal to others behind those that are there. After an error some of them are added.
+// Adds copies of writes at the end. After an error some of them have been added.
 pub(crate) fn append_all(all: &mut Vec<Write>, writes: &[Write]) -> Result<(), NoMemory>
     ensures ok { OnOk result (all.new.items ≡ all.old.items ++ writes.now) }
     ensures grown { (more : _) × (all.new.items ≡ all.old.items ++ more) }
@@ -111,7 +111,7 @@ pub(crate) fn append_all(all: &mut Vec<Write>, writes: &[Write]) -> Result<(), N
     Ok(())
 }
 
-// Makes writes equal to others.
+// Sets writes to copies of others.
 pub(crate) fn copy_all(all: &mut Vec<Write>, writes: &[Write]) -> Result<(), NoMemory>
     ensures { OnOk result (all.new.items ≡ writes.now) }
 {

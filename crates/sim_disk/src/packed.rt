@@ -1,4 +1,4 @@
-//! Disks that are kept for later.
+//! Packed disks, as in a checkpoint.
 ghost use Rattle.std.specs.Prelude.{◌≡◌, ◌+◌, ◌<◌, ◌^◌, [], ◌∷◌, ◌++◌, length, slice_get, Some};
 ghost use Rattle.std.specs.Prelude.{IfOk, OnOk, OnErr};
 
@@ -9,7 +9,7 @@ use crate::{Disk, NoMemory};
 use std::alloc::Global;
 use std::marker::Model;
 
-/// Disks that are kept for later, side by side in three vectors. Contracts see a list of disks.
+/// Disks side by side in three vectors, as a checkpoint stores them. Contracts see a list of disks.
 /// Together they have at most 2^32 - 1 stable bytes and as many writes; adding a disk beyond that
 /// fails with `NoMemory`.
 #[derive(Drop)]
@@ -17,11 +17,11 @@ pub struct PackedDisks {
     // The stable bytes of all disks, and the writes of all.
     bytes: Vec<u8>,
     writes: Vec<Write>,
-    // Where each disk stands in these.
+    // The span of each disk in these.
     spans: Vec<Span>,
 }
 
-// Where the bytes and the writes of a disk stand, and how many of the writes the syncs in flight
+// The span of a disk's bytes and writes, and the number of the writes that the syncs in flight
 // cover.
 #[derive(Clone, Copy)]
 struct Span {
@@ -45,8 +45,8 @@ impl Model for PackedDisks {
     ghost invariant = { λ p. AreSpans p.bytes.items p.writes.items p.spans.items };
 }
 
-// Where so many more end that stand behind these, in 32 bits. What ends past that is refused as a
-// want of memory.
+// Returns the sum, in 32 bits: where `more` elements after the first `before` end. Fails with
+// `NoMemory` if it is greater.
 fn end(before: usize, more: usize) -> Result<u32, NoMemory>
     requires { before + more < 2 ^ 64 }
     ensures { IfOk result (λ end. end ≡ before + more) }
@@ -59,8 +59,8 @@ fn end(before: usize, more: usize) -> Result<u32, NoMemory>
 }
 
 impl PackedDisks {
-    /// No disks, with room for `disks` disks that have `bytes` stable bytes and `writes` writes
-    /// together.
+    /// Returns no disks, with room for `disks` disks that have `bytes` stable bytes and `writes`
+    /// writes together.
     pub fn with_room(
         alloc: Global,
         disks: usize,
@@ -99,7 +99,7 @@ impl PackedDisks {
         Ok(())
     }
 
-    /// A copy of the disk at a place.
+    /// Returns a copy of the disk at a place.
     pub fn get(&self, alloc: Global, place: usize) -> Result<Disk, NoMemory>
         requires { place < length self.now }
         ensures { IfOk result (λ d. slice_get self.now place ≡ Some d) }

@@ -6,11 +6,11 @@ use crate::content::Content;
 use std::alloc::Global;
 use std::marker::Model;
 
-// The most boxes that are kept.
+// The greatest number of stored boxes.
 const MAX_SPARE: usize = 4096;
 
-/// Memory of records that are no longer needed, kept for later records: at most 4,096 boxes. It
-/// changes nothing but the speed.
+/// Memory of records that are no longer needed, for later records: at most 4,096 boxes. It affects
+/// only the speed.
 #[derive(Drop)]
 pub struct SpareDisks {
     contents: Vec<Box<Content>>,
@@ -23,14 +23,14 @@ impl Model for SpareDisks {
 }
 
 impl SpareDisks {
-    /// No spare memory. Takes no memory.
+    /// Returns no spare memory. Takes no memory.
     pub fn new(alloc: Global) -> SpareDisks {
         SpareDisks {
             contents: Vec::new(alloc),
         }
     }
 
-    // A box with any content. Making a box also makes the room to keep it later.
+    // Returns a box with any content. If it allocates one, it also makes the room to keep it later.
     pub(crate) fn take(&mut self, alloc: Global) -> Result<Box<Content>, NoMemory> {
         if let Some(content) = self.contents.pop() {
             return Ok(content);

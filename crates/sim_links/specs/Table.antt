@@ -1,20 +1,20 @@
--- The slots of directions: what a table of them stands for, and what is true of it.
+-- The slots of directions: the links that a table represents, and its invariant.
 use Rattle.std.specs.Prelude.{◌≡◌, ◌==◌, ℕ, ◌+◌, ◌<◌, ◌≤◌, List, length, map, count_by}
 use Rattle.std.specs.Prelude.{slice_index_or, vec_capacity}
 use Rattle.std.specs.List.{All}
 use Rattle.sim_links.specs.Link.{Links, open_link}
 use Rattle.sim_links.specs.declared.table.Table.{Table}
 
--- each direction is the one that stands in its slot
+-- each direction is the one in its slot
 abbrev pub links_in : {M : Type 0} → Table M → Links M
 links_in t = map (λ slot. slice_index_or t.touched.items slot open_link) t.slots.items
 
--- the slot of the direction of a place
+-- the slot of the direction at a place
 abbrev pub slot_at : {M : Type 0} → ℕ → Table M → ℕ
 slot_at place t = slice_index_or t.slots.items place 0
 
--- The slots are below a count, and no two directions have one but for slot 0. Beside slot 0, as
--- many are below the count as directions are not in slot 0.
+-- The slots are below a count, and no two directions share one other than slot 0. The slots from 1
+-- on are as many as the directions that are not in slot 0.
 pub record AreSlots (slots : List ℕ) (count : ℕ) : Type 0 where
   pub below : All (λ slot. slot < count) slots
   pub apart : (p q : ℕ) → p < length slots → q < length slots → 0 < slice_index_or slots p 0
@@ -22,7 +22,7 @@ pub record AreSlots (slots : List ℕ) (count : ℕ) : Type 0 where
   pub free : count + count_by (λ slot. slot == 0) slots ≡ length slots + 1
 
 -- The slots are those of the touched directions, the first of which is open. There is room for all.
--- From a place on none was touched.
+-- No direction from the place `past` on was touched.
 pub record IsSound {M : Type 0} (t : Table M) : Type 0 where
   pub whole : length t.slots.items ≡ 1024
   pub slots : AreSlots t.slots.items (length t.touched.items)

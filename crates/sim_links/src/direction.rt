@@ -7,7 +7,7 @@ use std::alloc::Global;
 use std::marker::Model;
 use std::mem;
 
-/// One direction: its state, and the messages that it holds in the order in which they were sent.
+/// One direction: its state, and the messages that it holds, in the order in which they were sent.
 #[derive(Drop)]
 pub struct Direction<M> {
     state: LinkState,
@@ -25,7 +25,7 @@ impl<M> Model for Direction<M> {
 impl LinkState {
     ghost use Rattle.sim_links.specs.Link.{state_after};
 
-    /// The state after a change, by the table.
+    /// Returns the state after a change, as the table gives it.
     pub fn after(self, change: Change) -> LinkState
         ensures { result ≡ state_after change self }
     {
@@ -40,7 +40,7 @@ impl LinkState {
     }
 }
 
-// A copy of the messages, in the same order.
+// Returns a copy of the messages, in the same order.
 fn copied<M: Drop, F: Fn(&M) -> Result<M, NoMemory>>(
     alloc: Global,
     messages: &[M],
@@ -62,7 +62,7 @@ impl<M> Direction<M> {
     ghost use Rattle.sim_links.specs.Link.{open_link, state_after, kept_in, changed, let_go};
     ghost use Rattle.sim_links.specs.Link.{with_held, without_newest, fits, back};
 
-    /// Open, with nothing held.
+    /// Returns an open direction that holds nothing.
     pub fn open(alloc: Global) -> Direction<M>
         ensures { result ≡ open_link }
     {
@@ -78,21 +78,21 @@ impl<M> Direction<M> {
         self.state
     }
 
-    /// The messages that it holds, the oldest first.
+    /// Returns the messages that it holds, the oldest first.
     pub fn messages(&self) -> &[M]
         ensures { result.now ≡ self.now.held }
     {
         &self.held
     }
 
-    /// How many messages it holds.
+    /// Returns the number of messages that it holds.
     pub fn count(&self) -> usize
         ensures { result ≡ length self.now.held }
     {
         self.held.len()
     }
 
-    /// Whether it is open, with nothing held.
+    /// Returns whether it is open and holds nothing.
     pub fn is_open(&self) -> bool
         ensures { IsTrue result ↔ (self.now ≡ open_link) }
     {
@@ -102,7 +102,7 @@ impl<M> Direction<M> {
         }
     }
 
-    /// Changes it, and returns the messages that leave it.
+    /// Changes the direction. Returns the messages that leave it.
     pub fn change(&mut self, change: Change) -> Vec<M>
         ensures after { self.new ≡ changed change self.old }
         ensures left { result.items ≡ let_go change self.old }
@@ -115,7 +115,7 @@ impl<M> Direction<M> {
         }
     }
 
-    /// Takes a change back, given the messages that left by it.
+    /// Undoes a change, given its record and the messages that left by it.
     pub fn undo(&mut self, undo: LinkUndo, messages: Vec<M>)
     where
         M: Drop,
@@ -130,7 +130,7 @@ impl<M> Direction<M> {
         self.state = undo.was;
     }
 
-    /// Adds a held message, the newest.
+    /// Adds a held message, the newest. After `NoMemory` the direction is unchanged.
     pub fn keep(&mut self, message: M) -> Result<(), NoMemory>
     where
         M: Drop,
@@ -141,7 +141,7 @@ impl<M> Direction<M> {
         Ok(())
     }
 
-    /// Takes the newest held message out.
+    /// Removes and returns the newest held message.
     pub fn unkeep(&mut self) -> M
         requires { 0 < length self.old.held }
         ensures message { self.old.held ≡ self.new.held ++ result ∷ [] }
@@ -150,7 +150,7 @@ impl<M> Direction<M> {
         self.held.pop().unwrap()
     }
 
-    /// An equal direction.
+    /// Returns an equal direction.
     pub fn copy<F: Fn(&M) -> Result<M, NoMemory>>(
         &self,
         alloc: Global,

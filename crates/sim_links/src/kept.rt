@@ -2,7 +2,7 @@ ghost use Rattle.std.specs.Prelude.{◌<◌};
 
 use crate::direction::Direction;
 
-// A direction that is kept for later, with its place.
+// A direction of packed links, with its place.
 #[derive(Drop)]
 pub(crate) struct Kept<M> {
     pub(crate) place: u16,

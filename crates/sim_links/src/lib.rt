@@ -1,10 +1,10 @@
-//! The links between hosts, and how messages go over them.
+//! The links between hosts, and how messages cross them.
 //!
-//! A link has two directions, and each direction is by itself. It is open (`Through`), held
-//! (messages wait in it), or cut (messages are dropped). [`Links::change`] applies one of four
-//! changes and returns the messages that leave the direction, with a record; [`Links::undo`] takes
-//! the change back, given both. `specs/Link.antt` has the table of changes. [`Ways`] says for each
-//! direction how long a message over an open link takes and how many messages are lost.
+//! A link has two directions, independent of each other. Each is open (`Through`), held (messages
+//! wait in it), or cut (messages are dropped). [`Links::change`] applies one of four changes and
+//! returns the messages that leave the direction, with a record; [`Links::undo`] undoes the change,
+//! given both. `specs/Link.antt` has the table of changes. [`Ways`] says for each direction how
+//! long a message over an open link takes and how many messages are lost.
 //!
 //! # How it is built
 //!
@@ -13,11 +13,11 @@
 //!
 //! - Each direction has a slot of two bytes. Slot 0 is one open direction that stands for all that
 //!   were never changed; a changed direction has a slot of its own. A copy and a drop cost what the
-//!   changed directions cost, and a look at a state is two loads.
+//!   changed directions cost, and reading a state is two loads.
 //! - The vector has room for all directions from the start (32 KB that are not touched before they
 //!   are needed). So `change` and `undo` take no memory and cannot fail, and a fault can always be
-//!   taken back. Only `keep` takes memory, for the message.
-//! - [`PackedLinks`] keeps links for later, as in a checkpoint: the directions that are not open,
+//!   undone. Only `keep` takes memory, for the message.
+//! - [`PackedLinks`] stores links compactly, as in a checkpoint: the directions that are not open,
 //!   with their places, and no table.
 #![tactic(auto)]
 
@@ -33,7 +33,7 @@ pub use packed::PackedLinks;
 pub use std::alloc::AllocError as NoMemory;
 pub use ways::Ways;
 
-/// The state of one direction. `Through` is the state called open.
+/// The state of one direction. `Through` is the open state.
 #[derive(Clone, Copy, Debug, PartialEq, Eq)]
 pub enum LinkState {
     Through,
@@ -50,8 +50,8 @@ pub enum Change {
     Repair,
 }
 
-/// How messages go over an open link: the least and the greatest latency in milliseconds (0 to
-/// 60,000 ms), and how many messages in a thousand are lost (0 to 1,000).
+/// How messages cross an open direction: the least and the greatest latency (0 to 60,000 ms), and
+/// the number of messages lost per thousand (0 to 1,000).
 #[derive(Clone, Copy, Debug, PartialEq, Eq)]
 pub struct Way {
     pub latency_min: u32,

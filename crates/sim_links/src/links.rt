@@ -24,7 +24,7 @@ impl<M> Model for Links<M> {
     ghost invariant = { λ l. IsSound l.table };
 }
 
-// Where the direction from a to b stands.
+// Returns the place of the direction from a to b.
 fn place(a: u16, b: u16) -> usize
     requires from { a < 32 }
     requires to { b < 32 }
@@ -39,7 +39,7 @@ impl<M> Links<M> {
     ghost use Rattle.sim_links.specs.Link.{kept_in, fits, back, with_held, without_newest};
     ghost use Rattle.sim_links.specs.declared.LinkState.TheVariants as state;
 
-    /// All directions open, and nothing held.
+    /// Returns links that are all open and hold nothing.
     pub fn new(alloc: Global) -> Result<Links<M>, NoMemory>
     where
         M: Drop,
@@ -49,14 +49,14 @@ impl<M> Links<M> {
         Ok(Links { table })
     }
 
-    /// What is always true of links: there is a direction from each of 32 hosts to each.
+    /// The invariant: there is a direction from each of 32 hosts to each.
     pub fn laws(&self)
         ensures { length self.now ≡ 1024 }
     {
         let _table = &self.table;
     }
 
-    /// The state of the direction from host a to host b, both below 32.
+    /// Returns the state of the direction from host a to host b, both below 32.
     pub fn state(&self, a: u16, b: u16) -> LinkState
         requires from { a < 32 }
         requires to { b < 32 }
@@ -67,8 +67,8 @@ impl<M> Links<M> {
         direction.state()
     }
 
-    /// How many messages the direction from host a to host b holds, both hosts below 32. Returns
-    /// `u32::MAX` if there are more.
+    /// Returns the number of messages that the direction from host a to host b holds, both below
+    /// 32, or `u32::MAX` if there are more.
     pub fn held(&self, a: u16, b: u16) -> u32
         requires from { a < 32 }
         requires to { b < 32 }
@@ -78,8 +78,8 @@ impl<M> Links<M> {
         direction.count().min(u32::MAX as usize) as u32
     }
 
-    /// The messages that the direction from host a to host b holds, the oldest first. Both hosts
-    /// are below 32.
+    /// Returns the messages that the direction from host a to host b holds, the oldest first. Both
+    /// hosts are below 32.
     pub fn messages(&self, a: u16, b: u16) -> &[M]
         requires from { a < 32 }
         requires to { b < 32 }
@@ -90,8 +90,8 @@ impl<M> Links<M> {
     }
 
     /// Changes the direction from host a to host b, both below 32. Returns the record of the change
-    /// and the messages that leave the direction, which a release delivers and a cut drops, in the
-    /// order in which they were sent. Takes no memory.
+    /// and the messages that leave the direction, in the order in which they were sent; a release
+    /// delivers them, a cut drops them. Takes no memory.
     pub fn change(&mut self, a: u16, b: u16, change: Change) -> (LinkUndo, Vec<M>)
         requires from { a < 32 }
         requires to { b < 32 }
@@ -105,7 +105,7 @@ impl<M> Links<M> {
           was = (link a b self.old).state;
         } }
 
-        // What an undo of it asks for, and that it leads back.
+        // What `undo` requires of them, and that it leads back.
         ensures fits { fits result.0 (link a b self.new) }
         ensures none_left { kept_in (state_after result.0.change result.0.was) result.1.items ≡ [] }
         ensures back { with_link a b (back result.0 result.1.items (link a b self.new)) self.new
@@ -119,9 +119,9 @@ impl<M> Links<M> {
         (undo, messages)
     }
 
-    /// Takes a change back, given its record and the messages that left the direction. The
-    /// direction has to be as the change left it. No message left a direction that is held after
-    /// the change. Takes no memory.
+    /// Undoes a change, given its record and the messages that left the direction. The direction
+    /// must be as the change left it. If the change left it held, no message left it. Takes no
+    /// memory.
     pub fn undo(&mut self, undo: LinkUndo, messages: Vec<M>)
     where
         M: Drop,
@@ -138,7 +138,7 @@ impl<M> Links<M> {
     }
 
     /// Adds a message to those that the direction from host a to host b holds, as the newest. Both
-    /// hosts are below 32, and the direction is held and holds fewer than 4,096 messages. After
+    /// hosts are below 32; the direction must be held, and hold fewer than 4,096 messages. After
     /// `NoMemory` the links are unchanged and the message is dropped.
     pub fn keep(&mut self, a: u16, b: u16, message: M) -> Result<(), NoMemory>
     where
@@ -159,8 +159,8 @@ impl<M> Links<M> {
         direction.keep(message)
     }
 
-    /// Takes out the newest message that the direction from host a to host b holds. Both hosts are
-    /// below 32, and it holds at least one. Takes no memory.
+    /// Removes and returns the newest message that the direction from host a to host b holds. Both
+    /// hosts are below 32, and it holds at least one. Takes no memory.
     pub fn unkeep(&mut self, a: u16, b: u16) -> M
         requires from { a < 32 }
         requires to { b < 32 }
@@ -173,7 +173,7 @@ impl<M> Links<M> {
         direction.unkeep()
     }
 
-    /// A copy. `each` copies a message; if it fails, so does the call.
+    /// Returns a copy. `each` copies a message; if it fails, so does the call.
     pub fn copy<F: Fn(&M) -> Result<M, NoMemory>>(
         &self,
         alloc: Global,

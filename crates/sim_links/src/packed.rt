@@ -1,4 +1,4 @@
-//! Links that are kept for later, as in a checkpoint.
+//! Packed links, as in a checkpoint.
 ghost use Rattle.std.specs.Prelude.{◌≡◌, ◌<◌, slice_index_or, slice_set, IfOk, OnOk};
 ghost use Rattle.std.specs.Fn.{FnReturnsAt};
 ghost use Rattle.sim_links.specs.Link.{open_link};
@@ -11,8 +11,7 @@ use crate::table::Table;
 use std::alloc::Global;
 use std::marker::Model;
 
-/// Links that are kept for later, in less memory: only the directions that are not open. Contracts
-/// see the links.
+/// Links in less memory: only the directions that are not open. Contracts see the links.
 #[derive(Drop)]
 pub struct PackedLinks<M> {
     kept: Vec<Kept<M>>,
@@ -28,7 +27,7 @@ impl<M> Model for PackedLinks<M> {
 }
 
 impl<M> Links<M> {
-    /// A copy that is kept for later. `each` copies a message; if it fails, so does the call.
+    /// Returns a packed copy. `each` copies a message; if it fails, so does the call.
     pub fn pack<F: Fn(&M) -> Result<M, NoMemory>>(
         &self,
         alloc: Global,
@@ -53,7 +52,7 @@ impl<M> Links<M> {
 }
 
 impl<M> PackedLinks<M> {
-    // Keeps an equal direction, where it is not open, at a place that was open.
+    // Stores a copy of a direction, unless it is open, at a place that was open.
     fn keep<F: Fn(&M) -> Result<M, NoMemory>>(
         &mut self,
         alloc: Global,
@@ -78,7 +77,8 @@ impl<M> PackedLinks<M> {
         Ok(())
     }
 
-    /// A copy to be used. `each` copies a message; if it fails, so does the call.
+    /// Returns the links again, ready for use. `each` copies a message; if it fails, so does the
+    /// call.
     pub fn open<F: Fn(&M) -> Result<M, NoMemory>>(
         &self,
         alloc: Global,

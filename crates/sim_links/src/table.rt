@@ -1,5 +1,5 @@
-//! A table of directions. It stores only the directions that were ever changed, so that a copy and
-//! a drop cost what those cost.
+//! A table of directions. It stores only the directions that were ever changed, so a copy and a
+//! drop cost what those cost.
 ghost use Rattle.std.specs.Prelude.{◌≡◌, ◌<◌, slice_index_or, slice_set, IfOk};
 ghost use Rattle.std.specs.Fn.{FnReturnsAt};
 ghost use Rattle.sim_links.specs.Link.{all_open, open_link};
@@ -27,7 +27,7 @@ pub(crate) struct Table<M> {
 const SLOTS: usize = 1025;
 
 impl<M> Table<M> {
-    /// All directions open, and nothing held.
+    /// Returns a table of open directions that hold nothing.
     pub(crate) fn new(alloc: Global) -> Result<Table<M>, NoMemory>
     where
         M: Drop,
@@ -44,7 +44,7 @@ impl<M> Table<M> {
         })
     }
 
-    /// The direction of a place.
+    /// Returns the direction at a place.
     pub(crate) fn direction(&self, place: usize) -> &Direction<M>
         requires sound { IsSound self.now }
         requires within { place < 1024 }
@@ -53,7 +53,7 @@ impl<M> Table<M> {
         &self.touched[self.slots[place] as usize]
     }
 
-    /// The slot of the direction of a place. Gives it one of its own if it has none.
+    /// Returns the slot of the direction at a place. Gives it its own slot first if it has none.
     pub(crate) fn touch(&mut self, place: usize) -> usize
         requires sound { IsSound self.old }
         requires within { place < 1024 }
@@ -74,7 +74,7 @@ impl<M> Table<M> {
         free
     }
 
-    /// Sets the direction of a place.
+    /// Sets the direction at a place.
     pub(crate) fn put(&mut self, place: usize, direction: Direction<M>)
     where
         M: Drop,
@@ -87,7 +87,8 @@ impl<M> Table<M> {
         self.touched[slot] = direction;
     }
 
-    /// How many directions are not open. It is only used as a capacity, so it has no contract.
+    /// Returns the number of directions that are not open. It is only used as a capacity, so it has
+    /// no contract.
     pub(crate) fn count(&self) -> usize {
         self.touched
             .iter()
@@ -95,7 +96,7 @@ impl<M> Table<M> {
             .count()
     }
 
-    /// An equal table.
+    /// Returns an equal table.
     pub(crate) fn copy<F: Fn(&M) -> Result<M, NoMemory>>(
         &self,
         alloc: Global,

@@ -4,7 +4,7 @@ ghost use Rattle.sim_links.specs.Ways as ways;
 use crate::Way;
 use std::marker::Model;
 
-/// How messages go over each open direction: a fixed table of 32 by 32 ways, in place.
+/// How messages cross each open direction: a fixed table of 32 by 32 ways, in place.
 #[derive(Drop)]
 pub struct Ways {
     table: [Way; 1024],
@@ -20,7 +20,7 @@ impl Model for Ways {
 }
 
 impl Ways {
-    /// The same way for each direction.
+    /// Returns the same way for each direction.
     pub fn all(way: Way) -> Ways
         ensures { result ≡ ways.all way }
     {
@@ -36,7 +36,7 @@ impl Ways {
         self.table[32 * a as usize + b as usize] = way;
     }
 
-    /// The way from host a to host b, both below 32.
+    /// Returns the way from host a to host b, both below 32.
     pub fn way(&self, a: u16, b: u16) -> Way
         requires from { a < 32 }
         requires to { b < 32 }
@@ -45,7 +45,7 @@ impl Ways {
         self.table[32 * a as usize + b as usize]
     }
 
-    /// An equal table.
+    /// Returns an equal table.
     pub fn copy(&self) -> Ways
         ensures { result ≡ self.now }
     {

@@ -1,10 +1,10 @@
--- How the program's effects are seen.
+-- The effects that the program stores, as contracts see them.
 use Rattle.std.specs.Prelude.{◌≡◌, ℕ, ◌≤◌, ◌<◌, List, [], ◌∷◌, take, length}
 use Rattle.sim_node.specs.declared.effects.Effect.{Effect as Stored}
 use Rattle.sim_node.specs.declared.effects.Effect.TheVariants as stored
 use Rattle.sim_node.specs.Effects.{Effect}
 
--- of a write the first bytes count, as many as its length says
+-- of a write, only the first `len` bytes count
 abbrev pub seen : {M : Type 0} → Stored M → Effect M
 seen (stored.Send to msg) = Effect.Send to msg
 seen (stored.Timer delay) = Effect.Timer delay
@@ -12,8 +12,8 @@ seen (stored.Write offset len bytes) = Effect.Write offset (take len bytes)
 seen stored.Sync = Effect.Sync
 seen stored.Done = Effect.Done
 
--- What is stored is within the limits: it names a host, a delay from 1 to 60,000 ms, 1 to 64 bytes
--- of the 64 that there are.
+-- A stored effect is within the limits: it names a host, a delay from 1 to 60,000 ms, or 1 to 64 of
+-- its 64 stored bytes.
 abbrev pub IsStored : {M : Type 0} → ℕ → Stored M → Type 0
 IsStored hosts (stored.Send to msg) = to < hosts
 IsStored hosts (stored.Timer delay) = (1 ≤ delay) × (delay ≤ 60000)

@@ -9,7 +9,7 @@ use std::alloc::Global;
 use std::collections::VecDeque;
 use std::marker::Model;
 
-/// What a node asks for when it reacts.
+/// An effect that a node asks for when it reacts.
 #[derive(Debug, PartialEq, Drop)]
 pub enum Effect<M> {
     /// A message to a host, which may be the node's own.
@@ -17,9 +17,9 @@ pub enum Effect<M> {
         to: u16,
         msg: M,
     },
-    /// A timer after a delay of 1 to 60,000 ms, in place of the one that is pending.
+    /// A timer after a delay of 1 to 60,000 ms, which replaces the pending one.
     Timer(u32),
-    /// Bytes for the disk from an offset on (both in bytes): the first `len` of `bytes`, 1 to 64.
+    /// A write to the disk from an offset on (both in bytes): the first `len` of `bytes`, 1 to 64.
     /// The rest of `bytes` has no meaning. A write that would end beyond the 4,096 bytes of the
     /// disk is skipped.
     Write {
@@ -27,17 +27,17 @@ pub enum Effect<M> {
         len: u32,
         bytes: [u8; 64],
     },
-    /// The writes so far are to become stable. The input `Synced` tells that they are.
+    /// A sync: the writes so far shall become stable. The input `Synced` reports that they are.
     Sync,
-    /// The host is done: it has no more to do as a client.
+    /// The host is done: it has nothing more to do as a client.
     Done,
 }
 
 /// The effects of one reaction, in order, with room for 40.
 ///
-/// A contract sees them as the number of hosts and the list of the effects. Only `new` takes
-/// memory. When all effects are taken out the value is as `new` made it, and can be used for the
-/// next reaction.
+/// Contracts see the number of hosts and the list of the effects. Only `new` takes memory. After
+/// all effects have been taken out, the value is as `new` made it and can be reused for the next
+/// reaction.
 #[derive(Drop)]
 pub struct Effects<M> {
     hosts: u16,
@@ -59,7 +59,7 @@ impl<M> Model for Effects<M> {
 }
 
 impl<M> Effects<M> {
-    /// No effects, for the hosts of the setup, with the room for 40. The only error is want of
+    /// Returns no effects, for the hosts of the setup, with room for 40. Fails only for want of
     /// memory.
     pub fn new(alloc: Global, setup: &Setup) -> Result<Effects<M>, NoMemory>
         ensures { IfOk result (λ e. e ≡ record { hosts = setup.now.hosts; list = [] }) }
@@ -70,14 +70,14 @@ impl<M> Effects<M> {
         })
     }
 
-    /// What is always true of effects: there are at most 40, and each is within the limits.
+    /// The invariant: there are at most 40 effects, and each is within the limits.
     pub fn laws(&self)
         ensures { IsLimited self.now }
     {
         let _list = &self.list;
     }
 
-    /// How many effects there are: at most 40, and each is within the limits.
+    /// Returns the number of effects: at most 40, and each is within the limits.
     pub fn len(&self) -> usize
         ensures value { result ≡ length self.now.list }
         ensures bound { length self.now.list ≤ 40 }
@@ -86,8 +86,8 @@ impl<M> Effects<M> {
         self.list.len()
     }
 
-    /// Takes the first effect out; the others keep their order. Where there is none, nothing
-    /// changes. What was asked for is within the limits.
+    /// Removes and returns the first effect; the others keep their order. If there is none, returns
+    /// `None` and changes nothing. The effects are within the limits.
     pub fn take_first(&mut self) -> Option<Effect<M>>
         ensures none { IfNone result ((self.old.list ≡ []) × (self.new ≡ self.old)) }
         ensures some { IfSome result (λ e. self.old ≡ record self.new
@@ -108,7 +108,7 @@ impl<M: Drop> Effects<M> {
         self.list.push_back_reserved(effect);
     }
 
-    /// Asks for a message to a host, which may be the node's own.
+    /// Asks to send a message to a host, which may be the node's own.
     pub fn send(&mut self, to: u16, msg: M)
         requires room { length self.old.list < 40 }
         requires host { to < self.old.hosts }
@@ -117,7 +117,7 @@ impl<M: Drop> Effects<M> {
         self.push(Effect::Send { to, msg });
     }
 
-    /// Asks for a timer after a delay in milliseconds, in place of the one that is pending.
+    /// Asks for a timer after a delay in milliseconds, which replaces the pending one.
     pub fn timer(&mut self, delay: u32)
         requires room { length self.old.list < 40 }
         requires low { 1 ≤ delay }
@@ -127,8 +127,8 @@ impl<M: Drop> Effects<M> {
         self.push(Effect::Timer(delay));
     }
 
-    /// Asks for a write of 1 to 64 bytes to the disk, from an offset in bytes on. It is skipped
-    /// where it would end beyond the 4,096 bytes of the disk.
+    /// Asks for a write of 1 to 64 bytes to the disk, from an offset in bytes on. The world skips a
+    /// write that would end beyond the 4,096 bytes of the disk.
     pub fn write(&mut self, offset: u32, bytes: &[u8])
         requires room { length self.old.list < 40 }
         requires some { 1 ≤ length bytes.now }
@@ -146,7 +146,7 @@ impl<M: Drop> Effects<M> {
         });
     }
 
-    /// Asks that the writes so far become stable.
+    /// Asks for a sync: the writes so far shall become stable.
     pub fn sync(&mut self)
         requires { length self.old.list < 40 }
         ensures { self.new ≡ record self.old { list = self.old.list ++ Asked.Sync ∷ [] } }
@@ -154,7 +154,7 @@ impl<M: Drop> Effects<M> {
         self.push(Effect::Sync);
     }
 
-    /// Says that the host is done.
+    /// Reports that the host is done.
     pub fn done(&mut self)
         requires { length self.old.list < 40 }
         ensures { self.new ≡ record self.old { list = self.old.list ++ Asked.Done ∷ [] } }

@@ -8,41 +8,41 @@ use crate::meter::Meter;
 use crate::{Input, NoMemory, Setup};
 use std::alloc::Global;
 
-/// A node: the state of what runs on a host. It boots, reacts to inputs by effects, and can be
-/// taken back.
+/// A node: the state of what runs on a host. It boots, reacts to inputs with effects, and can undo
+/// a reaction.
 ///
 /// An impl gives its tables as ghost members and is proved to follow them. The world that runs the
-/// nodes knows no more of them than this contract. The only error of a method is want of memory. Of
-/// `boot`, `copy` and `copy_msg` nothing is left then; after it from `act` or `undo` the node's
-/// value is open, and the world that held it drops it.
+/// nodes relies on this contract alone. A method fails only for want of memory. After an error
+/// `boot`, `copy` and `copy_msg` leave nothing; after one of `act` or `undo` the value of the node
+/// is unspecified, and the world that held it drops it.
 pub trait Node: Drop {
-    /// What the nodes send to each other.
+    /// The messages that nodes send to each other.
     type Msg: Drop;
 
-    /// The record of a reaction, by which it is taken back. It is best small: of fixed fields,
-    /// without a collection.
+    /// The record of a reaction, by which `undo` undoes it. It is best small: fixed fields, without
+    /// a collection.
     type Undo: Drop;
 
-    /// What counts the calls. A node that works with each meter takes it as a type parameter.
+    /// The counter of the calls. A node that works with any meter takes it as a type parameter.
     type Meter: Meter;
 
-    /// How many probes there are: numbers that the outside may look at.
+    /// The number of probes: numbers that the outside may look at.
     const PROBES: u8;
 
     /// The number of probes, for contracts.
     ghost PROBES: { ℕ };
 
-    /// The tables: how a node boots, how it reacts, what its probes show.
+    /// The tables: how a node boots, how it reacts, and what its probes show.
     ghost laws: { NodeLaws Self Self.Msg };
 
     /// The setup of the boot, which every later state keeps.
     ghost told: { Self → Setup };
 
-    /// Which states a record fits, and where it leads back to.
+    /// Which states a record fits, and to which state it leads back.
     ghost records: { NodeRecords Self Self.Undo };
 
-    /// The state in which the host `me` starts from the stable bytes of its disk. It counts one
-    /// turn.
+    /// Returns the state in which the host `me` starts from the stable bytes of its disk. Counts
+    /// one turn.
     fn boot(
         alloc: Global,
         setup: &Setup,
@@ -56,9 +56,8 @@ pub trait Node: Drop {
         ensures keeps { IfOk result (λ s. told s ≡ setup.now) }
         ensures work { Self.Meter.work meter.new ≡ turned (Self.Meter.work meter.old) };
 
-    /// Reacts to an input at a time of the clock in milliseconds, with one random word, and asks
-    /// for at most 40 effects. The answer is the record by which `undo` takes the reaction back. It
-    /// counts one turn.
+    /// Reacts to an input at clock `now` (ms), with one random word, and asks for at most 40
+    /// effects. Returns the record by which `undo` undoes the reaction. Counts one turn.
     fn act(
         &mut self,
         alloc: Global,
@@ -80,7 +79,7 @@ pub trait Node: Drop {
         ensures back { IfOk result (λ r. records.back r self.new ≡ self.old) }
         ensures work { Self.Meter.work meter.new ≡ turned (Self.Meter.work meter.old) };
 
-    /// Takes a reaction back by its record, which has to fit the state. It counts one undo.
+    /// Undoes a reaction, given its record, which must fit the state. Counts one undo.
     fn undo(
         &mut self,
         alloc: Global,
@@ -92,24 +91,24 @@ pub trait Node: Drop {
         ensures keeps { OnOk result (told self.new ≡ told self.old) }
         ensures work { Self.Meter.work meter.new ≡ undone (Self.Meter.work meter.old) };
 
-    /// An equal node. It counts one copy.
+    /// Returns an equal node. Counts one copy.
     fn copy(&self, alloc: Global, meter: &mut Self::Meter) -> Result<Self, NoMemory>
         ensures state { IfOk result (λ s. s ≡ self.now) }
         ensures work { Self.Meter.work meter.new ≡ copied (Self.Meter.work meter.old) };
 
-    /// The number that the probe `k` shows.
+    /// Returns the number that the probe `k` shows.
     fn probe(&self, k: u8) -> u64
         requires { k < PROBES }
         ensures { result ≡ laws.probe self.now k };
 
-    /// An equal message.
+    /// Returns an equal message.
     fn copy_msg(alloc: Global, msg: &Self::Msg) -> Result<Self::Msg, NoMemory>
         ensures { IfOk result (λ m. m ≡ msg.now) };
 }
 
-/// Lets a node react and takes the reaction back at once: the node is as before, and the effects
-/// stay as they were asked for. It counts one turn and one undo. The only error is want of memory;
-/// the node's value is then open.
+/// Lets a node react and undoes the reaction at once: the node is as before, and `effects` keeps
+/// what the reaction asked for. Counts one turn and one undo. Fails only for want of memory; the
+/// value of the node is then unspecified.
 pub fn there_and_back<N: Node>(
     node: &mut N,
     alloc: Global,

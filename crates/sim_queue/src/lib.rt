@@ -1,36 +1,37 @@
-//! What is pending: a set of items, each with a due time (ms), a serial and a body.
+//! Pending items: a set of items, each with a due time (ms), a serial and a body.
 //!
 //! [`Queue::insert`] gives an item the next serial. [`Queue::take_first`] takes the item with the
-//! least due and, among equal dues, the least serial. Every change can be taken back: `uninsert`
-//! takes back an `insert`, and `put_back` a `take` or a `take_first`. Contracts see a list of items
-//! in the order of their serials and the next serial (`specs/Pending.antt`).
+//! least due and, among equal dues, the least serial. Every change can be undone: `uninsert` undoes
+//! an `insert`, and `put_back` a `take` or a `take_first`. Contracts see a list of items in the
+//! order of their serials and the next serial (`specs/Pending.antt`).
 //!
 //! # How it is built
 //!
 //! - `slots`: an item stays at one place from its insertion until it is taken out. Each serial from
-//!   the first one on has a slot of four bytes with the place of its item, so an item is found by
-//!   its serial in two loads. Empty slots at the front are cut off, where an insertion would take
+//!   the first one on has a slot of four bytes with the place of its item, so finding an item by
+//!   its serial takes two loads. Empty slots at the front are dropped when an insertion would take
 //!   more memory and they are at least half of all.
 //! - `lists`: a place has a node with the due and the serial of its item, which is also the node of
 //!   a list. Time is cut into days, and all days that are equal modulo 256 share one of 256 lists,
-//!   in the order of (due, serial). A list is a ring through its end, so a key joins it or leaves
-//!   it by three writes. A new key mostly comes last; else its spot is looked for from the end on.
+//!   in the order of (due, serial). A list is a ring through its end, so a key joins or leaves it
+//!   by three writes. A new key mostly comes last; otherwise the search for its spot starts at the
+//!   end.
 //! - `wheel`: the lists and the least due. `marks` has a bit for each list, by which the next due
-//!   is found in a few steps. Where no key is due within 256 days, it is the least of the lists'
-//!   first keys.
+//!   is found in a few steps. If no key is due within 256 days, the next due is the least of the
+//!   lists' first keys.
 //! - `store`: the queue's operations by slots.
-//! - `packed`: a queue that is kept for later has only its items, in the order of their serials.
+//! - `packed`: a packed queue has only its items, in the order of their serials.
 //!
-//! A day has 2 to the power of its width milliseconds: one for [`Queue::new`], and for
-//! [`Queue::with_reach`] so many that 256 days are not shorter than the reach, so that lists stay
-//! short. Keys that are due later share the lists; all answers are the same at any width.
+//! A day has 2 to the power of its width milliseconds: one for [`Queue::new`]. For
+//! [`Queue::with_reach`] 256 days are not shorter than the reach, so that lists stay short. Keys
+//! that are due later share the lists; all results are the same at any width.
 //!
 //! This is a calendar queue (Brown, CACM 1988). A heap, and lists of keys apart from the items with
 //! a heap for keys far ahead, were measured too: with delays of up to a second the latter take
 //! about twice the instructions.
 //!
-//! Only `insert`, `put_back`, `copy` and `pack` take memory. A place that is left leads to the one
-//! that was left before it, so taking an item out needs none.
+//! Only `insert`, `put_back`, `copy` and `pack` take memory. Taking an item out needs none: its
+//! free place leads to the one that was freed before it.
 #![tactic(auto)]
 
 mod link;
@@ -56,7 +57,7 @@ use std::alloc::Global;
 use std::marker::Model;
 use store::Store;
 
-/// One that is pending: when it is due (ms), its serial, and what it is.
+/// A pending item: its due (ms), its serial, and its body.
 #[derive(Drop)]
 pub struct Item<B> {
     pub due: u64,
@@ -64,7 +65,7 @@ pub struct Item<B> {
     pub body: B,
 }
 
-/// The pending items, each with a serial of its own, and the serial that the next one gets.
+/// The pending items, each with its own serial, and the serial that the next one gets.
 #[derive(Drop)]
 pub struct Queue<B> {
     store: Store<B>,
@@ -82,7 +83,7 @@ impl<B> Model for Queue<B> {
 }
 
 impl<B> Queue<B> {
-    /// A queue with nothing pending, whose next serial is 0.
+    /// Returns a queue with nothing pending, whose next serial is 0.
     pub fn new(alloc: Global) -> Queue<B>
         ensures { result ≡ none_pending }
     {
@@ -91,8 +92,8 @@ impl<B> Queue<B> {
         }
     }
 
-    /// The same, made for items that are due up to `reach` milliseconds after the first one. Others
-    /// may take longer.
+    /// Returns an empty queue made for items that are due at most `reach` milliseconds after the
+    /// first one. Others may take longer.
     pub fn with_reach(alloc: Global, reach: u64) -> Queue<B>
         ensures { result ≡ none_pending }
     {
@@ -101,8 +102,8 @@ impl<B> Queue<B> {
         }
     }
 
-    /// What is always true of a queue: its items are listed by rising serials, which differ and are
-    /// below the next serial.
+    /// The invariant: its items are listed by rising serials, which differ and are below the next
+    /// serial.
     pub fn laws(&self)
         ensures { IsQueue self.now }
     {
@@ -127,15 +128,15 @@ impl<B> Queue<B> {
         self.store.add(due, body)
     }
 
-    /// The due (ms), the serial and the body of the first item: the one with the least due and,
-    /// among equal dues, the least serial.
+    /// Returns the due (ms), the serial and the body of the first item: the one with the least due
+    /// and, among equal dues, the least serial.
     pub fn first(&self) -> Option<(u64, u64, &B)>
         ensures { option_map (λ r. item_of r.1 (r.0, r.2.now)) result ≡ first self.now.items }
     {
         self.store.first()
     }
 
-    /// The due (ms) and the body of the pending item with this serial.
+    /// Returns the due (ms) and the body of the pending item with this serial.
     pub fn get(&self, serial: u64) -> Option<(u64, &B)>
         ensures { option_map (λ r. item_of serial (r.0, r.1.now)) result
             ≡ with_serial serial self.now.items }
@@ -143,7 +144,7 @@ impl<B> Queue<B> {
         self.store.get(serial)
     }
 
-    /// The least serial, not below `serial`, of an item whose body passes the test.
+    /// Returns the least serial, not below `serial`, of an item whose body passes the test.
     pub fn next_that<F: Fn(&B) -> bool>(&self, serial: u64, test: F) -> Option<u64>
         requires { F.IsAlwaysCallable test }
         ensures { (p : B → Bool) → Decides F.Fn test p → result
@@ -152,14 +153,14 @@ impl<B> Queue<B> {
         self.store.next_that(serial, &test)
     }
 
-    /// The serial that the next item gets. It takes no memory.
+    /// Returns the serial that the next item gets. It takes no memory.
     pub fn next_serial(&self) -> u64
         ensures { result ≡ self.now.next_serial }
     {
         self.store.next_serial()
     }
 
-    /// How many items are pending.
+    /// Returns the number of pending items.
     pub fn len(&self) -> usize
         ensures count { result ≡ length self.now.items }
         ensures rising { IsQueue self.now }
@@ -167,7 +168,7 @@ impl<B> Queue<B> {
         self.store.count()
     }
 
-    /// Takes the first item out. It can be put back. It takes no memory.
+    /// Takes the first item out. `put_back` undoes this. It takes no memory.
     #[inline(always)]
     pub fn take_first(&mut self) -> Option<Item<B>>
         ensures item { result ≡ first self.old.items }
@@ -180,7 +181,8 @@ impl<B> Queue<B> {
         self.store.remove_first()
     }
 
-    /// Takes out the item of a serial, if it is pending. It can be put back. It takes no memory.
+    /// Takes out the item of a serial, if it is pending. `put_back` undoes this. It takes no
+    /// memory.
     #[inline(always)]
     pub fn take(&mut self, serial: u64) -> Option<Item<B>>
         ensures item { result ≡ with_serial serial self.old.items }
@@ -192,10 +194,10 @@ impl<B> Queue<B> {
         self.store.remove(serial)
     }
 
-    /// Puts an item back that was taken. The next serial stays.
+    /// Puts back an item that was taken. The next serial is unchanged.
     ///
-    /// The item's serial has to be below the next one, and not pending. After `NoMemory` the queue
-    /// is unchanged, and the item is dropped.
+    /// The item's serial must be below the next one, and not pending. After `NoMemory` the queue is
+    /// unchanged, and the item is dropped.
     #[inline(always)]
     pub fn put_back(&mut self, item: Item<B>) -> Result<(), NoMemory>
     where
@@ -208,9 +210,9 @@ impl<B> Queue<B> {
         self.store.add_back(item)
     }
 
-    /// Takes the newest item out, as if it had never been added: the next serial is lowered by one.
+    /// Takes the newest item out, as if it had never been added: the next serial falls by one.
     ///
-    /// The item with the serial below the next one has to be pending. It takes no memory.
+    /// The item with the serial one below the next must be pending. It takes no memory.
     #[inline(always)]
     pub fn uninsert(&mut self) -> Item<B>
         requires { HasNewest self.old }
@@ -220,7 +222,7 @@ impl<B> Queue<B> {
         self.store.remove_last()
     }
 
-    /// A copy. `each` copies a body.
+    /// Returns a copy. `each` copies a body.
     ///
     /// `each` returns an equal body or `NoMemory`. After `NoMemory` the bodies copied so far are
     /// dropped.
@@ -240,7 +242,7 @@ impl<B> Queue<B> {
         })
     }
 
-    /// A copy that is kept for later. `each` copies a body.
+    /// Returns a packed copy. `each` copies a body.
     ///
     /// `each` returns an equal body or `NoMemory`. After `NoMemory` the bodies copied so far are
     /// dropped.
@@ -259,8 +261,8 @@ impl<B> Queue<B> {
     }
 }
 
-// The width of a day with which 256 days are not shorter than this (ms): the day has 2 to the power
-// of it milliseconds.
+// Returns a width of a day with which 256 days are not shorter than `reach` (ms): the day has 2 to
+// the power of it milliseconds.
 fn width_for(reach: u64) -> u32
     ensures { result ≤ 56 }
 {

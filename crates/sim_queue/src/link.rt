@@ -6,7 +6,7 @@ use std::marker::Model;
 /// A place below 2^32 - 1, or none.
 #[derive(Clone, Copy)]
 pub(crate) struct Link {
-    // One more than the place, and 0 for none.
+    // One more than the place, or 0 for none.
     code: u32,
 }
 
@@ -24,7 +24,7 @@ impl Model for Link {
 }
 
 impl Link {
-    /// No place.
+    /// Returns no place.
     #[inline(always)]
     pub(crate) fn none() -> Link
         ensures { result ≡ None }
@@ -32,7 +32,7 @@ impl Link {
         Link { code: 0 }
     }
 
-    /// This place.
+    /// Returns this place.
     #[inline(always)]
     pub(crate) fn to(place: u32) -> Link
         requires { place < 4294967295 }
@@ -41,7 +41,7 @@ impl Link {
         Link { code: place + 1 }
     }
 
-    /// The place, if there is one.
+    /// Returns the place, if there is one.
     #[inline(always)]
     pub(crate) fn get(&self) -> Option<u32>
         ensures place { result ≡ self.now }
@@ -53,7 +53,7 @@ impl Link {
         Some(self.code - 1)
     }
 
-    /// Whether there is no place.
+    /// Returns whether there is no place.
     #[inline(always)]
     pub(crate) fn is_none(&self) -> bool
         ensures { is_some self.now ≡ not result }

@@ -9,7 +9,7 @@ ghost use Rattle.sim_queue.specs.inside.Lists.{IsSpot, KeepsOthers, IsEmptyList}
 use crate::NoMemory;
 use std::alloc::Global;
 
-/// How many lists there are. So many nodes at the front are the ends of the lists.
+/// The number of lists. As many nodes at the front are the ends of the lists.
 pub(crate) const LISTS: u32 = 256;
 
 /// The serial of a node without a key: one that is free, or an end of a list.
@@ -24,19 +24,19 @@ pub(crate) struct Node {
     pub(crate) after: u32,
 }
 
-/// The nodes of all lists. Each list is a ring, in which its end comes before the first key and
-/// after the last one.
+/// The nodes of all lists. Each list is a ring: its end comes before the first key and after the
+/// last one.
 #[derive(Drop)]
 pub(crate) struct Lists {
     pub(crate) nodes: Vec<Node>,
-    // Where most likely a free node is, which has the place of the next one behind it.
+    // A place that most likely holds a free node, which leads to the next one.
     pub(crate) free: u32,
-    // A day has 2 to the power of this many milliseconds.
+    // A day has 2 to the power of `width` milliseconds.
     pub(crate) width: u32,
 }
 
 impl Lists {
-    /// The day of a due.
+    /// Returns the day of a due.
     #[inline(always)]
     pub(crate) fn day(&self, due: u64) -> u64
         requires { self.now.width ≤ 56 }
@@ -45,7 +45,7 @@ impl Lists {
         due >> self.width
     }
 
-    /// The place of the first key of a list.
+    /// Returns the place of the first key of a list.
     #[inline(always)]
     pub(crate) fn head(&self, list: u64) -> Option<u32>
         requires { list < 256 }
@@ -61,7 +61,7 @@ impl Lists {
         Some(place)
     }
 
-    /// The place of a node without a key.
+    /// Returns the place of a node without a key.
     #[inline(always)]
     pub(crate) fn free_place(&mut self) -> Result<u32, NoMemory>
         requires lists { IsLists self.old.width self.old.nodes.items }
@@ -82,7 +82,7 @@ impl Lists {
         Ok(place)
     }
 
-    // A new node behind the others.
+    // Adds a node behind the others.
     #[cold]
     #[inline(never)]
     fn make_place(&mut self) -> Result<u32, NoMemory>
@@ -105,7 +105,7 @@ impl Lists {
         Ok(place as u32)
     }
 
-    // Makes the ends of the lists, where they are not there yet.
+    // Makes the ends of the lists, unless they exist.
     fn make_ends(&mut self) -> Result<(), NoMemory>
         requires lists { IsLists self.old.width self.old.nodes.items }
         requires width { self.old.width ≤ 56 }
@@ -122,7 +122,7 @@ impl Lists {
         Ok(())
     }
 
-    /// The place behind which a key comes in its list.
+    /// Returns the place after which a key belongs in its list.
     #[inline(always)]
     pub(crate) fn spot(&self, due: u64, serial: u64) -> u32
         requires lists { IsLists self.now.width self.now.nodes.items }
@@ -145,7 +145,7 @@ impl Lists {
         self.spot_before(last, due, serial)
     }
 
-    // The same, from the place of a node in its list on that comes behind the key.
+    // Returns the same, starting from the place of a node in its list that comes after the key.
     #[inline(never)]
     fn spot_before(&self, last: u32, due: u64, serial: u64) -> u32
         requires lists { IsLists self.now.width self.now.nodes.items }
@@ -165,7 +165,7 @@ impl Lists {
         at
     }
 
-    /// Gives the node at a place a key, which comes behind the node at `before`.
+    /// Gives the node at a place a key. The node comes right after the node at `before`.
     #[inline(always)]
     pub(crate) fn join(&mut self, place: u32, before: u32, due: u64, serial: u64)
         requires lists { IsLists self.old.width self.old.nodes.items }
@@ -190,7 +190,7 @@ impl Lists {
         set_before(&mut self.nodes, after, place);
     }
 
-    /// Takes the key of a node away. Returns the node as it was.
+    /// Removes the key of a node. Returns the node as it was.
     #[inline(always)]
     pub(crate) fn leave(&mut self, place: u32) -> Node
         requires lists { IsLists self.old.width self.old.nodes.items }
@@ -213,7 +213,7 @@ impl Lists {
     }
 }
 
-// The place of the free node behind this one, if this one is free.
+// Returns the place to which a node leads, if the node is free.
 #[inline(always)]
 fn next_free(nodes: &Vec<Node>, place: u32) -> Option<u32>
     ensures free { IfSome result (λ next. IsFree place nodes.now.items) }
@@ -226,7 +226,7 @@ fn next_free(nodes: &Vec<Node>, place: u32) -> Option<u32>
     Some(node.after)
 }
 
-// A node without a key.
+// Returns a node without a key.
 #[inline(always)]
 fn free_node(next: u32) -> Node
     ensures { result ≡ record no_node { after = next } }
@@ -239,7 +239,7 @@ fn free_node(next: u32) -> Node
     }
 }
 
-// The ends of all lists, which have no keys.
+// Returns the ends of all lists, which have no keys.
 fn ends(alloc: Global, width: u32) -> Result<Vec<Node>, NoMemory>
     requires { width ≤ 56 }
     ensures len { IfOk result (λ made. length made.items ≡ 256) }
@@ -257,7 +257,7 @@ fn ends(alloc: Global, width: u32) -> Result<Vec<Node>, NoMemory>
     Ok(made)
 }
 
-// Whether a node's key is before this one.
+// Returns whether a node's key is before this one.
 #[inline(always)]
 fn is_before(node: &Node, due: u64, serial: u64) -> bool
     requires key { node.now.serial < 2 ^ 40 }
@@ -267,7 +267,7 @@ fn is_before(node: &Node, due: u64, serial: u64) -> bool
     node.due < due || (node.due == due && node.serial < serial)
 }
 
-// Whether a node's key is behind this one.
+// Returns whether a node's key is behind this one.
 #[inline(always)]
 fn is_behind(node: &Node, due: u64, serial: u64) -> bool
     requires key { node.now.serial < 2 ^ 40 }
@@ -277,7 +277,7 @@ fn is_behind(node: &Node, due: u64, serial: u64) -> bool
     due < node.due || (due == node.due && serial < node.serial)
 }
 
-// What comes behind the node at a place.
+// Sets the place after the node at a place.
 #[inline(always)]
 fn set_after(nodes: &mut Vec<Node>, place: u32, after: u32)
     requires { place < length nodes.old.items }
@@ -287,7 +287,7 @@ fn set_after(nodes: &mut Vec<Node>, place: u32, after: u32)
     nodes[place as usize].after = after;
 }
 
-// What comes before the node at a place.
+// Sets the place before the node at a place.
 #[inline(always)]
 fn set_before(nodes: &mut Vec<Node>, place: u32, before: u32)
     requires { place < length nodes.old.items }

@@ -1,4 +1,4 @@
-//! Queues that are kept for later.
+//! Packed queues.
 ghost use Rattle.std.specs.Prelude.{◌≡◌, ◌≤◌, ◌^◌, IfOk};
 ghost use Rattle.std.specs.Fn.{FnReturnsAt};
 ghost use Rattle.sim_queue.specs.Packed.{packed, IsPacked};
@@ -9,8 +9,7 @@ use crate::{Item, NoMemory, Queue};
 use std::alloc::Global;
 use std::marker::Model;
 
-/// A queue that is kept for later, in less memory: its items, without their keys and places.
-/// Contracts see the queue.
+/// A queue in less memory: its items, without their keys and places. Contracts see the queue.
 #[derive(Drop)]
 pub struct PackedQueue<B> {
     // The items, in the order of their serials.
@@ -32,7 +31,7 @@ impl<B> Model for PackedQueue<B> {
 }
 
 impl<B> PackedQueue<B> {
-    // The queue of these items.
+    // Returns the packed queue of these items.
     pub(crate) fn of(items: Vec<Item<B>>, next_serial: u64, width: u32) -> PackedQueue<B>
         requires { IsPacked items.items next_serial width }
         ensures { result ≡ packed items.items next_serial }
@@ -44,9 +43,9 @@ impl<B> PackedQueue<B> {
         }
     }
 
-    /// An equal queue, whose bodies are those that `each` answers.
+    /// Returns an equal queue. `each` copies a body.
     ///
-    /// `each` has to answer an equal body or `NoMemory`. After `NoMemory` the bodies copied so far
+    /// `each` must return an equal body or `NoMemory`. After `NoMemory` the bodies copied so far
     /// are dropped.
     pub fn open<F: Fn(&B) -> Result<B, NoMemory>>(
         &self,

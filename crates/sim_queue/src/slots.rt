@@ -20,14 +20,14 @@ use std::marker::Model;
 /// The items by their serials: the first slot stands for the serial `base`.
 #[derive(Drop)]
 pub(crate) struct Slots<B> {
-    // The due and the serial of each item that is there, by its place.
+    // The due and the serial of each item, by its place.
     wheel: Wheel,
-    // The body of each, by its place.
+    // The body of each item, by its place.
     bodies: Vec<Option<B>>,
     // The place of each slot's item.
     places: Vec<Link>,
     base: u64,
-    // How many items there are.
+    // The number of items.
     count: usize,
 }
 
@@ -45,7 +45,7 @@ impl<B> Model for Slots<B> {
 }
 
 impl<B> Slots<B> {
-    /// No slots, of which the first one is to stand for the serial `base`. A day of the wheel has 2
+    /// Returns no slots; the first one will stand for the serial `base`. A day of the wheel has 2
     /// to the power of `width` milliseconds.
     pub(crate) fn new(alloc: Global, base: u64, width: u32) -> Slots<B>
         requires { width ≤ 56 }
@@ -60,7 +60,7 @@ impl<B> Slots<B> {
         }
     }
 
-    /// So many empty slots.
+    /// Returns `count` empty slots.
     pub(crate) fn empty(
         alloc: Global,
         base: u64,
@@ -81,35 +81,35 @@ impl<B> Slots<B> {
         })
     }
 
-    /// The width of a day of the wheel.
+    /// Returns the width of a day of the wheel.
     pub(crate) fn width(&self) -> u32
         ensures { result ≤ 56 }
     {
         self.wheel.width()
     }
 
-    /// The serial of the first slot.
+    /// Returns the serial of the first slot.
     pub(crate) fn base(&self) -> u64
         ensures { result ≡ self.now.base }
     {
         self.base
     }
 
-    /// How many slots there are.
+    /// Returns the number of slots.
     pub(crate) fn len(&self) -> usize
         ensures { result ≡ length self.now.items }
     {
         self.places.len()
     }
 
-    /// How many of them have an item.
+    /// Returns the number of slots that have an item.
     pub(crate) fn count(&self) -> usize
         ensures { result ≡ length (items_from self.now.base self.now.items) }
     {
         self.count
     }
 
-    /// The due and the body in a slot.
+    /// Returns the due and the body in a slot.
     pub(crate) fn get(&self, place: usize) -> Option<(u64, &B)>
         ensures { option_map (λ r. (r.0, r.1.now)) result ≡ at self.now.items place }
     {
@@ -119,7 +119,7 @@ impl<B> Slots<B> {
         Some((due, body))
     }
 
-    /// The slot of the first item.
+    /// Returns the slot of the first item.
     pub(crate) fn first(&self) -> Option<usize>
         ensures first { IfSome result (λ i. IsFirstSlot i self.now.items) }
         ensures none { IfNone result (HasNoItem self.now.items) }
@@ -129,8 +129,8 @@ impl<B> Slots<B> {
         Some((serial - self.base) as usize)
     }
 
-    /// Adds a slot with this due and body behind the others, and answers its serial, or changes
-    /// nothing.
+    /// Adds a slot with this due and body at the end. Returns its serial. After an error nothing
+    /// has changed.
     #[inline(always)]
     pub(crate) fn push(&mut self, due: u64, body: B) -> Result<u64, NoMemory>
     where
@@ -149,7 +149,7 @@ impl<B> Slots<B> {
         Ok(serial)
     }
 
-    /// Puts a due and a body into an empty slot, or changes nothing.
+    /// Puts a due and a body into an empty slot. After an error nothing has changed.
     pub(crate) fn fill(&mut self, place: usize, due: u64, body: B) -> Result<(), NoMemory>
     where
         B: Drop,
@@ -183,7 +183,7 @@ impl<B> Slots<B> {
         Some(take_out(&mut self.wheel, &mut self.bodies, at))
     }
 
-    /// Takes the last slot off, with its item.
+    /// Removes the last slot. Returns its item.
     #[inline(always)]
     pub(crate) fn pop(&mut self) -> Item<B>
         requires { IsSome (at self.old.items (length self.old.items - 1)) }
@@ -197,13 +197,13 @@ impl<B> Slots<B> {
         taken
     }
 
-    /// Whether one more slot would take memory.
+    /// Returns whether one more slot would take memory.
     #[inline(always)]
     pub(crate) fn is_full(&self) -> bool {
         self.places.len() == self.places.capacity()
     }
 
-    /// How many slots are empty before the first one that is not.
+    /// Returns the number of empty slots before the first one that has an item.
     pub(crate) fn empty_at_front(&self) -> usize
         ensures within { result ≤ length self.now.items }
         ensures empty { (i : ℕ) → i < result → at self.now.items i ≡ None }
@@ -231,7 +231,7 @@ impl<B> Slots<B> {
         self.base += count as u64;
     }
 
-    /// Adds `count` empty slots before the others, or changes nothing.
+    /// Adds `count` empty slots before the others. After an error nothing has changed.
     pub(crate) fn add_front(&mut self, count: usize) -> Result<(), NoMemory>
         requires { count ≤ self.old.base }
         ensures ok { OnOk result (self.new ≡ record {
@@ -249,7 +249,7 @@ impl<B> Slots<B> {
         Ok(())
     }
 
-    /// The first place, from `start` on, whose body the test takes.
+    /// Returns the first place, not below `start`, whose body the test accepts.
     pub(crate) fn first_taken<F: Fn(&B) -> bool>(&self, start: usize, test: &F) -> Option<usize>
         requires { F.IsAlwaysCallable test.now }
         ensures within { IfSome result (λ i. i < length self.now.items) }
@@ -266,7 +266,7 @@ impl<B> Slots<B> {
         None
     }
 
-    /// The items that are there, in the order of their serials, each body as `each` copies it.
+    /// Returns the items in the order of their serials, with bodies that `each` copies.
     pub(crate) fn pack<F: Fn(&B) -> Result<B, NoMemory>>(
         &self,
         alloc: Global,
@@ -290,7 +290,7 @@ impl<B> Slots<B> {
     }
 }
 
-// Puts an item at a place of its own, or changes nothing. Returns the place.
+// Puts an item at a place of its own. Returns the place. After an error nothing has changed.
 #[inline(always)]
 fn put_in<B: Drop>(
     wheel: &mut Wheel,
@@ -314,8 +314,8 @@ fn put_in<B: Drop>(
     Ok(at)
 }
 
-// Puts a body at a place, or changes nothing. The wheel gives out its places in turn, so that none
-// is skipped, and there is room for one more.
+// Puts a body at a place. After an error nothing has changed. The wheel gives out its places in
+// order, so the vector has this place or ends right before it.
 #[inline(always)]
 fn put_body<B: Drop>(bodies: &mut Vec<Option<B>>, at: u32, body: B) -> Result<(), NoMemory>
     ensures body { OnOk result (body_at bodies.new.items at ≡ Some body) }
@@ -360,14 +360,14 @@ fn take_body<B>(bodies: &mut Vec<Option<B>>, at: u32) -> B
     bodies[at as usize].take().unwrap()
 }
 
-/// The capacity of a copy, which leaves some room for what comes next.
+/// Returns the capacity of a copy of `len` items, with some room to grow.
 pub(crate) fn with_room(len: usize) -> usize
     ensures { len ≤ result }
 {
     len.saturating_add(len / 8).saturating_add(8)
 }
 
-/// Equal items.
+/// Returns equal items.
 pub(crate) fn copy_items<B: Drop, F: Fn(&B) -> Result<B, NoMemory>>(
     alloc: Global,
     items: &Vec<Item<B>>,
@@ -387,7 +387,7 @@ pub(crate) fn copy_items<B: Drop, F: Fn(&B) -> Result<B, NoMemory>>(
     Ok(copied)
 }
 
-// An equal item.
+// Returns an equal item.
 fn copy_item<B, F: Fn(&B) -> Result<B, NoMemory>>(
     item: &Item<B>,
     each: &F,
@@ -399,7 +399,7 @@ fn copy_item<B, F: Fn(&B) -> Result<B, NoMemory>>(
     copied(item.due, item.serial, &item.body, each)
 }
 
-// An item with an equal body.
+// Returns an item with an equal body.
 fn copied<B, F: Fn(&B) -> Result<B, NoMemory>>(
     due: u64,
     serial: u64,

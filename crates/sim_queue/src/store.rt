@@ -1,4 +1,4 @@
-//! A queue's operations, by its slots.
+//! The operations of a queue on its slots.
 ghost use Rattle.std.specs.Prelude.{◌≡◌, ℕ, ◌+◌, ◌^◌, ◌<◌, ◌≤◌, OnOk, OnErr, IfOk, IfSome, IfNone};
 ghost use Rattle.std.specs.Prelude.{length, Bool};
 ghost use Rattle.std.specs.Fn.{FnReturnsAt};
@@ -15,7 +15,7 @@ use crate::slots::Slots;
 use crate::{Item, NoMemory};
 use std::alloc::Global;
 
-/// The items in slots. It has no invariant: each call says what it asks for and what it leaves.
+/// The items in slots. It has no invariant: each call states what it requires and ensures.
 #[derive(Drop)]
 pub(crate) struct Store<B> {
     slots: Slots<B>,
@@ -32,7 +32,7 @@ impl<B> Store<B> {
         }
     }
 
-    /// Adds an item, and drops empty slots where there are many.
+    /// Adds an item. Drops empty slots first, if they are many.
     #[inline(always)]
     pub(crate) fn add(&mut self, due: u64, body: B) -> Result<u64, NoMemory>
     where
@@ -48,7 +48,7 @@ impl<B> Store<B> {
         self.slots.push(due, body)
     }
 
-    /// The first item.
+    /// Returns the first item.
     pub(crate) fn first(&self) -> Option<(u64, u64, &B)>
         requires { IsKeyed self.now }
         ensures { option_map (λ r. item_of r.1 (r.0, r.2.now)) result
@@ -59,7 +59,7 @@ impl<B> Store<B> {
         Some((due, self.slots.base() + place as u64, body))
     }
 
-    /// The due and the body of the item of a serial.
+    /// Returns the due and the body of the item of a serial.
     pub(crate) fn get(&self, serial: u64) -> Option<(u64, &B)>
         ensures { option_map (λ r. item_of serial (r.0, r.1.now)) result
             ≡ with_serial serial (pending_in self.now).items }
@@ -70,7 +70,7 @@ impl<B> Store<B> {
         self.slots.get((serial - self.slots.base()) as usize)
     }
 
-    /// The least serial, of at least this one, of an item whose body the test takes.
+    /// Returns the least serial, not below `serial`, of an item whose body the test accepts.
     pub(crate) fn next_that<F: Fn(&B) -> bool>(&self, serial: u64, test: &F) -> Option<u64>
         requires small { (pending_in self.now).next_serial ≤ 2 ^ 40 }
         requires callable { F.IsAlwaysCallable test.now }
@@ -82,7 +82,7 @@ impl<B> Store<B> {
         Some(self.slots.base() + place as u64)
     }
 
-    /// The serial that the next item gets.
+    /// Returns the serial that the next item gets.
     pub(crate) fn next_serial(&self) -> u64
         requires { (pending_in self.now).next_serial ≤ 2 ^ 40 }
         ensures { result ≡ (pending_in self.now).next_serial }
@@ -90,7 +90,7 @@ impl<B> Store<B> {
         self.slots.base() + self.slots.len() as u64
     }
 
-    /// How many items are pending.
+    /// Returns the number of pending items.
     pub(crate) fn count(&self) -> usize
         ensures { result ≡ length (pending_in self.now).items }
     {
@@ -139,7 +139,7 @@ impl<B> Store<B> {
         self.slots.pop()
     }
 
-    /// Puts an item back, or changes nothing.
+    /// Puts an item back. After an error nothing has changed.
     pub(crate) fn add_back(&mut self, item: Item<B>) -> Result<(), NoMemory>
     where
         B: Drop,
@@ -156,7 +156,7 @@ impl<B> Store<B> {
         self.slots.fill(place, due, body)
     }
 
-    /// Equal pending items, each body as `each` copies it.
+    /// Returns equal pending items, with bodies that `each` copies.
     pub(crate) fn copy<F: Fn(&B) -> Result<B, NoMemory>>(
         &self,
         alloc: Global,
@@ -174,7 +174,7 @@ impl<B> Store<B> {
         Store::of(alloc, items, self.next_serial(), self.slots.width())
     }
 
-    /// Equal pending items without their keys and places, each body as `each` copies it.
+    /// Returns equal pending items without their keys and places, with bodies that `each` copies.
     pub(crate) fn pack<F: Fn(&B) -> Result<B, NoMemory>>(
         &self,
         alloc: Global,
@@ -191,7 +191,7 @@ impl<B> Store<B> {
         Ok(PackedQueue::of(items, self.next_serial(), self.slots.width()))
     }
 
-    /// These items, which stand in the order of their serials.
+    /// Returns a store of these items, which are in the order of their serials.
     pub(crate) fn of(
         alloc: Global,
         items: Vec<Item<B>>,
@@ -216,7 +216,7 @@ impl<B> Store<B> {
         Ok(store)
     }
 
-    // Drops the empty slots at the front, where one more slot would take memory.
+    // Drops the empty slots at the front, if one more slot would take memory.
     #[inline(always)]
     fn trim(&mut self)
         requires { IsKeyed self.old }
@@ -228,8 +228,8 @@ impl<B> Store<B> {
         }
     }
 
-    // Drops the empty slots at the front, where these are at least half of all. Otherwise more
-    // memory is taken, so that an insertion does not often come here.
+    // Drops the empty slots at the front, if these are at least half of all. Otherwise the
+    // insertion takes more memory, so that insertions rarely come here.
     #[cold]
     #[inline(never)]
     fn drop_empty(&mut self)
@@ -243,8 +243,8 @@ impl<B> Store<B> {
         }
     }
 
-    // Makes the slot of this serial, where it is before the first one, and those between them. So
-    // many are made that putting back one item after another does not often come here.
+    // Makes the slot of this serial if it is before the first one, with those between them. Makes
+    // enough of them that putting back one item after another rarely comes here.
     fn widen(&mut self, serial: u64) -> Result<(), NoMemory>
         requires { IsKeyed self.old }
         ensures reached { OnOk result (self.new.slots.base ≤ serial) }
@@ -260,8 +260,8 @@ impl<B> Store<B> {
     }
 }
 
-// How many slots to make before the first one, whose serial is `base`, where so many are needed: as
-// many as there are, or one for each earlier serial, where that is more.
+// Returns how many slots to make before the first one, whose serial is `base`, if `needed` are
+// needed: as many as there are or `needed`, whichever is more, but none before serial 0.
 fn before_first(needed: u64, len: u64, base: u64) -> u64
     requires { needed ≤ base }
     ensures enough { needed ≤ result }
@@ -271,7 +271,7 @@ fn before_first(needed: u64, len: u64, base: u64) -> u64
     if needed < many { many } else { needed }
 }
 
-// The serial of the first of these items, and where there are none, the next serial.
+// Returns the serial of the first of these items, or the next serial if there are none.
 fn first_serial<B>(items: &Vec<Item<B>>, next_serial: u64) -> u64
     requires { IsQueue (packed items.now.items next_serial) }
     ensures below { result ≤ next_serial }

@@ -1,4 +1,4 @@
-//! Keys in lists by their days, of which the first is at hand.
+//! Keys in lists by their days; the first key is at hand.
 ghost use Rattle.std.specs.Prelude.{◌≡◌, ◌≢◌, ℕ, ◌^◌, ◌<◌, ◌≤◌, Some, None, IfOk, IfSome, IfNone};
 ghost use Rattle.std.specs.Option.{IsSome};
 ghost use Rattle.sim_queue.specs.inside.Lists.{IsLists};
@@ -15,9 +15,9 @@ use std::marker::Model;
 #[derive(Drop)]
 pub(crate) struct Wheel {
     lists: Lists,
-    // The days of all keys are marked.
+    // The marks of the days of all keys.
     marks: Marks,
-    // The least due, and the greatest of all times where there are no keys.
+    // The least due, or the greatest time if there are no keys.
     floor: u64,
 }
 
@@ -33,7 +33,7 @@ impl Model for Wheel {
 }
 
 impl Wheel {
-    /// No keys. A day has 2 to the power of `width` milliseconds.
+    /// Returns no keys. A day has 2 to the power of `width` milliseconds.
     pub(crate) fn new(alloc: Global, width: u32) -> Wheel
         requires { width ≤ 56 }
         ensures { HasNone result }
@@ -49,14 +49,14 @@ impl Wheel {
         }
     }
 
-    /// The width of a day.
+    /// Returns the width of a day.
     pub(crate) fn width(&self) -> u32
         ensures { result ≤ 56 }
     {
         self.lists.width
     }
 
-    /// A place without a key.
+    /// Returns a place without a key.
     #[inline(always)]
     pub(crate) fn free_place(&mut self) -> Result<u32, NoMemory>
         ensures place { IfOk result (λ p. IsPlace p self.new) }
@@ -81,7 +81,7 @@ impl Wheel {
         self.floor = self.floor.min(due);
     }
 
-    /// Takes the key at a place out, and returns its due and its serial.
+    /// Takes the key at a place out. Returns its due and its serial.
     #[inline(always)]
     pub(crate) fn remove(&mut self, place: u32) -> (u64, u64)
         requires { IsSome (key_at self.old place) }
@@ -96,7 +96,7 @@ impl Wheel {
         (node.due, node.serial)
     }
 
-    /// The due and the serial of the key at a place.
+    /// Returns the due and the serial of the key at a place.
     #[inline(always)]
     pub(crate) fn key(&self, place: u32) -> (u64, u64)
         requires { IsSome (key_at self.now place) }
@@ -106,7 +106,7 @@ impl Wheel {
         (node.due, node.serial)
     }
 
-    /// The place of the first key.
+    /// Returns the place of the first key.
     #[inline(always)]
     pub(crate) fn first(&self) -> Option<u32>
         ensures first { IfSome result (λ p. IsFirst p self.now) }
@@ -116,7 +116,7 @@ impl Wheel {
     }
 }
 
-// The floor, once a key of this due was taken out.
+// Returns the floor after a key of this due was taken out.
 #[inline(always)]
 fn floor_after(lists: &Lists, marks: &Marks, floor: u64, due: u64) -> u64
     requires narrow { lists.now.width ≤ 56 }
@@ -132,9 +132,9 @@ fn floor_after(lists: &Lists, marks: &Marks, floor: u64, due: u64) -> u64
     least_from(lists, marks, floor)
 }
 
-// The least due, of which none is before the floor: from one marked day to the next, once through
-// all lists. The first key of a list is its least, so where none is due within 256 days, the least
-// of these first keys is the first of all.
+// Returns the least due, given that none is before `floor`: goes from one marked day to the next,
+// once through all lists. The first key of a list is its least, so if none is due within 256 days,
+// the least of these first keys is the first of all.
 #[inline(never)]
 fn least_from(lists: &Lists, marks: &Marks, floor: u64) -> u64
     requires narrow { lists.now.width ≤ 56 }

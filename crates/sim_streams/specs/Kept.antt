@@ -1,4 +1,4 @@
--- What is kept of the words of the streams.
+-- The stored words of the streams.
 use Rattle.std.specs.Prelude.{◌≡◌, ℕ, ◌+◌, ◌<◌, List, length, slice_index, slice_index_or}
 use Rattle.sim_streams.specs.declared.Kept.{Kept}
 use Rattle.sim_streams.specs.Word.{word}
@@ -8,11 +8,11 @@ abbrev pub AreWords : List ℕ → ℕ → ℕ → List ℕ → Type 0
 AreWords seed stream first words =
     (i : ℕ) → i < length words → slice_index words i ≡ word seed stream (first + i)
 
--- what is kept are words of a stream
+-- the stored words are words of the stream
 abbrev pub IsKept : List ℕ → ℕ → Kept → Type 0
 IsKept seed stream kept = AreWords seed stream kept.first kept.words.items
 
--- of each stream words of its own are kept
+-- the words stored for each stream are its own
 pub record AreKept (seed : List ℕ) (kept : List Kept) : Type 0 where
   pub all : length kept ≡ 34
   pub own : (s : ℕ) (k : Kept) → s < 34 → k ≡ slice_index_or kept s k → IsKept seed s k

@@ -11,16 +11,15 @@ word seed stream place = word_at 10 (key_of seed) stream place
 abbrev pub network : ℕ
 network = 0
 
--- stream 1 is that of the writes that a crash tears
+-- stream 1 is that of torn writes
 abbrev pub torn : ℕ
 torn = 1
 
--- and each host has a stream of its own
+-- and each host has its own stream
 abbrev pub stream_of : ℕ → ℕ
 stream_of host = 2 + host
 
--- the streams of one seed: how many words have been drawn of each, which is where its next word
--- stands
+-- the streams of one seed: the number of words drawn from each, which is the place of its next word
 pub record Places : Type 0 where
   pub seed : List ℕ
   pub places : List ℕ

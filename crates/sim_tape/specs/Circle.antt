@@ -1,4 +1,4 @@
--- Records in a circle of slots, and what one more or one fewer of them says.
+-- Records in a circle of slots, and what it means to add or remove one.
 use Rattle.std.specs.Prelude.{◌≡◌, ℕ, ◌-◌, List, [], ◌∷◌, ◌++◌, length, take, drop, Some}
 use Rattle.std.specs.Prelude.{if◌then◌else◌}
 use Rattle.std.specs.List.{count_by}
@@ -24,8 +24,8 @@ module _ {U : Type 0} where
 
 module _ {State Msg Undo : Type 0} (told : State → Setup) (records : NodeRecords State Undo)
     (r : Rules State Msg) where
-  -- An event led from one world to the next, and its record is kept as the newest of at most so
-  -- many.
+  -- An event led from one world to the next, and its record is kept as the newest of at most
+  -- `capacity`.
   pub record IsKept (capacity : ℕ) (old : List (Kept State Msg Undo)) (was : World State Msg)
       (e : Event) (new : List (Kept State Msg Undo))
       (now : InHand State Msg) : Type 0 where
@@ -35,8 +35,8 @@ module _ {State Msg Undo : Type 0} (told : State → Setup) (records : NodeRecor
     pub leads : LeadsBack told records undo now
     pub acted : count_by is_reaction undo.changes ≡ (if acts was e then 1 else 0)
 
--- The newest record was taken out, and led back to the world before its event; the work was that of
--- taking it back.
+-- The newest record was removed, and led back to the world before its event. The work was that of
+-- undoing it.
 pub record IsTakenBack {State Msg Undo : Type 0} (records : NodeRecords State Undo)
     (old : List (Kept State Msg Undo)) (now : InHand State Msg)
     (new : List (Kept State Msg Undo)) (was : InHand State Msg) (before after : Work) : Type 0 where

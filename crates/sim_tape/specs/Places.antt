@@ -1,4 +1,4 @@
--- The worlds along a list of events, and the records of events, which lead back.
+-- The worlds along a list of events, and the records by which events are undone.
 use Rattle.std.specs.Prelude.{◌≡◌, ℕ, zero, suc, ◌+◌, ◌-◌, ◌*◌, ◌/◌, ◌≤◌, if◌then◌else◌, List}
 use Rattle.std.specs.Prelude.{length, take, map, Some, slice_get, slice_index_or}
 use Rattle.std.specs.List.{count_by}
@@ -32,7 +32,7 @@ module _ {State Msg : Type 0} (r : Rules State Msg) where
   abbrev pub acts_at : ℕ → List Event → ℕ
   acts_at p events = if acts (world_at p events) (slice_index_or events p event.Step) then 1 else 0
 
-  -- how many of the n events from the place p on act
+  -- the number of the n events from the place p on that act
   abbrev pub acting : ℕ → ℕ → List Event → ℕ
   acting p zero events = 0
   acting p (suc n) events = acts_at p events + acting (p + 1) n events
@@ -43,13 +43,13 @@ module _ {State Msg : Type 0} (r : Rules State Msg) where
     pub scenario : now.scenario ≡ r.scenario
     pub age : now.age ≡ p
 
-  -- beside each event stands the clock after it, which is at most that of 65,536 steps of 60,000 ms
+  -- each event has the clock after it, which is at most that of 65,536 steps of 60,000 ms
   pub record AreClocks (entries : List Entry) : Type 0 where
     pub clock : (i : ℕ) (e : Entry) → slice_get entries i ≡ Some e → e.clock
         ≡ (world_at (i + 1) (events_of entries)).clock
     pub small : (i : ℕ) (e : Entry) → slice_get entries i ≡ Some e → e.clock ≤ 60000 * 65536
 
-  -- a checkpoint stands at the start and after each so many events
+  -- there is a checkpoint at the start and after each interval of events
   pub record AreCheckpoints (events : List Event) (checkpoints : List (InHand State Msg)) : Type 0
     where
       pub count : length checkpoints ≡ length events / r.scenario.interval + 1
@@ -63,7 +63,7 @@ module _ {State Msg Undo : Type 0} (told : State → Setup) (records : NodeRecor
   before u w =
       record { world = back records u.changes w.world; scenario = w.scenario; age = w.age - 1 }
 
-  -- a record answers for the event at the place p: from the world after it, it leads back to the
+  -- a record is that of the event at the place p: from the world after it, it leads back to the
   -- world before it
   pub record Answers (events : List Event) (p : ℕ) (u : Kept State Msg Undo) : Type 0 where
     pub leads : (now : InHand State Msg) → IsAt r events (p + 1) now → LeadsBack told records u now

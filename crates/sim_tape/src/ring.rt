@@ -15,14 +15,13 @@ use sim_world::{Event, Undo, World};
 use std::alloc::Global;
 use std::marker::Model;
 
-/// The records of the last events. They stand in a circle of slots, of which there is one more than
-/// records are kept: a record is filled in its slot and never moved, and what it has taken of
-/// memory stays there for the next one.
+/// The records of the last events, in a circle of slots with one slot more than records are kept. A
+/// record is filled in its slot and never moved, and its memory stays there for the next one.
 #[derive(Drop)]
 pub(crate) struct Ring<N: Node> {
-    // Those that were needed so far, with room for all.
+    // The slots needed so far, with room for all.
     slots: Vec<Undo<N>>,
-    // Where the record of the next event is filled; the last records stand before it.
+    // The slot in which the record of the next event is filled; the last records come before it.
     free: usize,
     len: usize,
     capacity: usize,
@@ -47,7 +46,7 @@ impl<N: Node> Model for Ring<N> {
         × (length r.slots.items ≤ r.capacity → r.len ≤ r.free) };
 }
 
-// Makes one more slot, where the circle is not whole yet, else goes on to the first.
+// Adds one more slot until the circle is whole; then goes on to the first.
 #[cold]
 #[inline(never)]
 fn past_the_last<N: Node>(alloc: Global, slots: &mut Vec<Undo<N>>, capacity: usize) -> usize
@@ -72,7 +71,7 @@ fn past_the_last<N: Node>(alloc: Global, slots: &mut Vec<Undo<N>>, capacity: usi
     made
 }
 
-// The slot after one.
+// Returns the slot after one.
 #[inline]
 fn slot_after<N: Node>(
     alloc: Global,
@@ -98,7 +97,7 @@ fn slot_after<N: Node>(
     past_the_last(alloc, slots, capacity)
 }
 
-// The slot before one, of so many in a circle.
+// Returns the slot before one, in a circle of `count` slots.
 fn slot_before(count: usize, slot: usize) -> usize
     requires { slot < count }
     ensures before { (slot ≡ result + 1) ⊎ ((slot ≡ 0) × (result + 1 ≡ count)) }
@@ -108,7 +107,7 @@ fn slot_before(count: usize, slot: usize) -> usize
 }
 
 impl<N: Node> Ring<N> {
-    /// No records, with room for so many. The only error is want of memory.
+    /// Returns no records, with room for `capacity`. Fails only for want of memory.
     pub fn with_capacity(alloc: Global, capacity: usize) -> Result<Ring<N>, NoMemory>
         requires { capacity ≤ 4096 }
         ensures { IfOk result (λ r. r ≡ buffer [] capacity) }
@@ -123,15 +122,15 @@ impl<N: Node> Ring<N> {
         })
     }
 
-    /// How many records there are.
+    /// Returns the number of records.
     pub fn len(&self) -> usize
         ensures value { result ≡ length self.now.items }
     {
         self.len
     }
 
-    /// The world after an event that can happen, whose record is kept as the newest; of a full ring
-    /// the oldest goes. The only error is want of memory; the records are of no use then.
+    /// Returns the world after an event that can happen. Keeps its record as the newest; a full
+    /// ring drops the oldest. Fails only for want of memory; the records are useless then.
     pub fn apply(
         &mut self,
         alloc: Global,
@@ -159,8 +158,8 @@ impl<N: Node> Ring<N> {
         Ok(after)
     }
 
-    /// The world before the event of the newest record, which is taken out. The only error is want
-    /// of memory; the records are of no use then.
+    /// Returns the world before the event of the newest record, and removes that record. Fails only
+    /// for want of memory; the records are useless then.
     pub fn undo(
         &mut self,
         alloc: Global,
@@ -182,7 +181,8 @@ impl<N: Node> Ring<N> {
         Ok(before)
     }
 
-    /// Lets the records go, and takes the memory of a ring for as many records that is done with.
+    /// Drops the records, and takes the memory of a ring that is no longer needed, if it has room
+    /// for as many.
     pub fn take_over(&mut self, spent: Ring<N>)
         ensures { self.new ≡ buffer [] self.old.capacity }
     {
@@ -195,7 +195,7 @@ impl<N: Node> Ring<N> {
         self.clear();
     }
 
-    /// Lets the records go.
+    /// Drops the records.
     pub fn clear(&mut self)
         ensures { self.new ≡ buffer [] self.old.capacity }
     {

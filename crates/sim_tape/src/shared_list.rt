@@ -10,15 +10,15 @@ use std::marker::Model;
 use std::mem;
 use std::sync::Arc;
 
-/// How many values a group has.
+/// The number of values in a group.
 const GROUP: usize = 8;
 
-/// So many shared values, which are shared together.
+/// A group of shared values, shared as a whole.
 type Group<T> = Arc<Vec<Arc<T>>>;
 
-/// At most 65,537 values, each of which is shared and never changed. They stand in groups, each of
-/// which is shared as a whole, and a last part. Of a list that was cut within a group only the
-/// first values count, until it grows again.
+/// At most 65,537 values, each shared and never changed. They are in groups, each shared as a
+/// whole, and in a last part. After a cut within a group only the first values of the list count,
+/// until it grows again.
 #[derive(Drop)]
 pub(crate) struct SharedList<T> {
     groups: Vec<Group<T>>,
@@ -48,7 +48,7 @@ impl<T> Model for SharedList<T> {
         × (length (all_values s.groups.items s.last.items) ≤ 65537) };
 }
 
-// The first values, shared. The only error is want of memory.
+// Returns the first values, shared. Fails only for want of memory.
 fn shared<T: Drop>(alloc: Global, values: &[Arc<T>], n: usize) -> Result<Vec<Arc<T>>, NoMemory>
     requires { n ≤ length values.now }
     ensures { IfOk result (λ shared.
@@ -61,8 +61,8 @@ fn shared<T: Drop>(alloc: Global, values: &[Arc<T>], n: usize) -> Result<Vec<Arc
     Ok(shared)
 }
 
-// Makes the last part that of the group in which a list of so many values was cut. The only error
-// is want of memory; nothing changes then.
+// Makes the last part from the group in which a list was cut to `len` values. Fails only for want
+// of memory; nothing has changed then.
 fn reopen<T: Drop>(
     alloc: Global,
     groups: &mut Vec<Group<T>>,
@@ -84,7 +84,7 @@ fn reopen<T: Drop>(
     Ok(())
 }
 
-// Makes a group of a last part that is full. The only error is want of memory; the values stay.
+// Makes a group of a full last part. Fails only for want of memory; the values are unchanged.
 fn seal<T: Drop>(
     alloc: Global,
     groups: &mut Vec<Group<T>>,
@@ -136,7 +136,7 @@ fn cut<T: Drop>(groups: &mut Vec<Group<T>>, last: &mut Vec<Arc<T>>, count: usize
 }
 
 impl<T: Drop> SharedList<T> {
-    /// No values.
+    /// Returns no values.
     pub fn new(alloc: Global) -> SharedList<T>
         ensures { result.items ≡ [] }
     {
@@ -147,14 +147,14 @@ impl<T: Drop> SharedList<T> {
         }
     }
 
-    /// How many values there are.
+    /// Returns the number of values.
     pub fn len(&self) -> usize
         ensures { result ≡ length self.now.items }
     {
         self.len
     }
 
-    /// The value at a place.
+    /// Returns the value at a place.
     pub fn get(&self, i: usize) -> &T
         requires { i < length self.now.items }
         ensures { slice_get self.now.items i ≡ Some result.now }
@@ -168,7 +168,7 @@ impl<T: Drop> SharedList<T> {
         }
     }
 
-    /// Makes room for one more value. The only error is want of memory.
+    /// Makes room for one more value. Fails only for want of memory.
     pub fn reserve(&mut self, alloc: Global) -> Result<(), NoMemory>
         ensures items { self.new.items ≡ self.old.items }
         ensures room { OnOk result (IsTrue self.new.has_room) }
@@ -182,7 +182,7 @@ impl<T: Drop> SharedList<T> {
         self.last.reserve(1)
     }
 
-    /// Adds a value at the end, for which there is room.
+    /// Adds a value at the end. There must be room for it.
     pub fn push(&mut self, value: Arc<T>)
         requires room { IsTrue self.old.has_room }
         requires few { length self.old.items < 65537 }
@@ -203,7 +203,7 @@ impl<T: Drop> SharedList<T> {
         self.len = count;
     }
 
-    /// The first values, shared. The only error is want of memory.
+    /// Returns the first values, shared. Fails only for want of memory.
     pub fn share(&self, alloc: Global, count: usize) -> Result<SharedList<T>, NoMemory>
         requires { count ≤ length self.now.items }
         ensures { IfOk result (λ s. s.items ≡ take count self.now.items) }

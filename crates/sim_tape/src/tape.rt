@@ -29,9 +29,9 @@ use std::alloc::Global;
 use std::marker::Model;
 use std::sync::Arc;
 
-/// The kept events of a run, a place among them, and where memory allowed it the world there, with
-/// the records of the last events before it. A checkpoint, which is shared and never changed,
-/// stands at the start and after each interval of events.
+/// The kept events of a run, a place among them, and, if memory allowed it, the world there with
+/// the records of the last events before it. A checkpoint, shared and never changed, is kept at the
+/// start and after each interval of events.
 #[derive(Drop)]
 pub struct Tape<N: Node> {
     log: Log,
@@ -67,8 +67,8 @@ impl<N: Node> Model for Tape<N> {
         × (length t.walk.ring.items ≤ t.log.scenario.window) };
 }
 
-// Why an event was not added: the lists can't grow, and nothing has changed; or its world can't be
-// made.
+// Why an event was not added: the lists could not grow, and nothing has changed; or its world could
+// not be made.
 #[derive(Clone, Copy)]
 enum AddError {
     Growth,
@@ -88,7 +88,7 @@ impl From<NoMemory> for AddError {
 }
 
 impl<N: Node> Tape<N> {
-    /// A tape of no events, at the start. The only error is want of memory.
+    /// Returns a tape of no events, at the start. Fails only for want of memory.
     pub fn new(
         alloc: Global,
         scenario: &Scenario,
@@ -114,7 +114,7 @@ impl<N: Node> Tape<N> {
         })
     }
 
-    /// How many of the kept events led to the tape's world.
+    /// Returns the place: the number of kept events that led to the tape's world.
     pub fn place(&self) -> u32
         ensures value { result ≡ self.now.place }
         ensures within { self.now.place ≤ length self.now.events }
@@ -122,7 +122,7 @@ impl<N: Node> Tape<N> {
         self.place
     }
 
-    /// How many events are kept.
+    /// Returns the number of kept events.
     pub fn len(&self) -> u32
         ensures value { result ≡ length self.now.events }
         ensures few { length self.now.events ≤ 65536 }
@@ -131,8 +131,8 @@ impl<N: Node> Tape<N> {
         self.log.len() as u32
     }
 
-    /// The laws of every tape, as clauses: its events can happen one after the other, and its place
-    /// is among them. The call does nothing.
+    /// The invariant, as clauses: the events can happen one after the other, and the place is among
+    /// them. The call does nothing.
     pub fn laws(&self)
         ensures runs { IsRunnable (rules_of N.laws N.PROBES self.now) self.now.events }
         ensures within { self.now.place ≤ length self.now.events }
@@ -140,8 +140,8 @@ impl<N: Node> Tape<N> {
         prove!(self.place as usize <= self.log.len());
     }
 
-    /// Whether the world at the place is there. Where it is not, no event can be taken back by its
-    /// record.
+    /// Returns whether the tape holds the world at the place. If it does not, no record can undo an
+    /// event.
     pub fn warm(&self) -> bool
         ensures value { result ≡ self.now.warm }
         ensures cold { self.now.warm ≡ false → self.now.reach ≡ 0 }
@@ -150,7 +150,7 @@ impl<N: Node> Tape<N> {
         self.walk.world.is_some()
     }
 
-    /// By how many events the tape can go back by their records.
+    /// Returns the number of events that their records can undo now.
     pub fn reach(&self) -> u32
         ensures value { result ≡ self.now.reach }
         ensures within { self.now.reach ≤ self.now.place }
@@ -158,7 +158,7 @@ impl<N: Node> Tape<N> {
         self.walk.ring.len() as u32
     }
 
-    /// How many events lie between two checkpoints.
+    /// Returns the number of events between two checkpoints.
     pub fn interval(&self) -> u32
         ensures value { result ≡ self.now.scenario.interval }
         ensures some { 1 ≤ result }
@@ -166,7 +166,7 @@ impl<N: Node> Tape<N> {
         self.log.interval() as u32
     }
 
-    /// The clock of the world at the place (ms).
+    /// Returns the clock of the world at the place (ms).
     pub fn clock(&self) -> u64
         ensures value { result ≡ (world_of (rules_of N.laws N.PROBES self.now) self.now).clock }
         ensures small { result ≤ 60000 * 65536 }
@@ -177,7 +177,7 @@ impl<N: Node> Tape<N> {
         self.log.entry(self.place as usize - 1).clock
     }
 
-    /// The world at the place, which is there.
+    /// Returns the world at the place. The tape must be warm.
     pub fn here(&self) -> &World<N>
         requires { IsTrue self.now.warm }
         ensures run { run (rules_of N.laws N.PROBES self.now)
@@ -200,10 +200,10 @@ impl<N: Node> Tape<N> {
         self.checkpoints.truncate(place / self.log.interval() + 1);
     }
 
-    /// Goes to a place by the nearest way: it takes events back within the reach, walks on, or
-    /// makes the world anew from the checkpoint at or below the place, with fewer turns than the
-    /// interval. The only error is want of memory; the tape may be cold then. A warm tape that is
-    /// at the place already wants none.
+    /// Goes to a place the nearest way: undoes events within the reach, walks on, or makes the
+    /// world anew from the checkpoint at or below the place, with fewer turns than the interval.
+    /// Fails only for want of memory; the tape may be cold then. A warm tape that is already at the
+    /// place needs none.
     pub fn goto(&mut self, alloc: Global, to: u32, meter: &mut N::Meter) -> Result<(), NoMemory>
         requires { to ≤ length self.old.events }
         ensures ok { OnOk result (IsMoved to self.old self.new) }
@@ -258,8 +258,8 @@ impl<N: Node> Tape<N> {
         Ok(())
     }
 
-    /// Makes sure of the world at the place. The only error is want of memory, on a tape that is
-    /// cold.
+    /// Makes the world at the place, if the tape is cold. Fails only for want of memory, and only
+    /// on a cold tape.
     pub fn make_warm(&mut self, alloc: Global, meter: &mut N::Meter) -> Result<(), NoMemory>
         ensures ok { OnOk result (self.new ≡ with_world true self.new.reach self.old) }
         ensures warm { IsTrue self.old.warm → IsOk result × (self.new ≡ self.old) ×
@@ -282,9 +282,9 @@ impl<N: Node> Tape<N> {
         self.goto(alloc, place, meter)
     }
 
-    /// Goes back by so many events. Within the reach it takes them back by their records; further
-    /// back it makes the world anew from a checkpoint. The only error is want of memory; the tape
-    /// may be cold then. A warm tape wants none to go back by 0 events.
+    /// Goes back by `count` events. Within the reach their records undo them; further back the tape
+    /// makes the world anew from a checkpoint. Fails only for want of memory; the tape may be cold
+    /// then. A warm tape needs none to go back by 0 events.
     pub fn back(&mut self, alloc: Global, count: u32, meter: &mut N::Meter) -> Result<(), NoMemory>
         requires { count ≤ self.old.place }
         ensures ok { OnOk result (IsMoved (self.old.place - count) self.old self.new) }
@@ -309,9 +309,9 @@ impl<N: Node> Tape<N> {
         self.goto(alloc, place - count, meter)
     }
 
-    /// Goes forward by so many events. From a warm tape it walks over each, and keeps the records
-    /// of the last ones; a cold one is made warm there. The only error is want of memory; the tape
-    /// may be cold then. A warm tape wants none to go forward by 0 events.
+    /// Goes forward by `count` events. A warm tape walks over each, and keeps the records of the
+    /// last ones; a cold one is made warm there. Fails only for want of memory; the tape may be
+    /// cold then. A warm tape needs none to go forward by 0 events.
     pub fn forward(
         &mut self,
         alloc: Global,
@@ -348,9 +348,8 @@ impl<N: Node> Tape<N> {
         Ok(())
     }
 
-    /// Goes forward by an event of which no record is kept, nor of those before it: it takes less
-    /// time than `forward`, and the reach is 0 then. The only error is want of memory; the tape is
-    /// cold then.
+    /// Goes forward by one event and drops all records, its own too: faster than `forward`, and the
+    /// reach is 0 then. Fails only for want of memory; the tape is cold then.
     pub fn pass(&mut self, alloc: Global, meter: &mut N::Meter) -> Result<(), NoMemory>
         requires warm { IsTrue self.old.warm }
         requires more { self.old.place < length self.old.events }
@@ -366,9 +365,9 @@ impl<N: Node> Tape<N> {
         Ok(())
     }
 
-    /// Adds an event that can happen, at the end. The clock never goes back. On a tape that is warm
-    /// a refused growth of the lists leaves it so. After another error the tape may be cold. The
-    /// only error is want of memory.
+    /// Adds an event that can happen, at the end. The clock never goes back. Fails only for want of
+    /// memory. If the lists of a warm tape cannot grow, it stays warm; after another error the tape
+    /// may be cold.
     #[inline(always)]
     pub fn add(&mut self, alloc: Global, event: Event, meter: &mut N::Meter) -> Result<(), NoMemory>
         requires end { self.old.place ≡ length self.old.events }
@@ -399,8 +398,8 @@ impl<N: Node> Tape<N> {
         }
     }
 
-    // Adds an event that can happen, at the end of a tape that is warm. The lists grow before the
-    // world moves: after a growth that was refused the tape is as before.
+    // Adds an event that can happen, at the end of a warm tape. The lists grow before the world
+    // moves: if the growth fails, the tape is as before.
     #[inline(always)]
     fn add_warm(
         &mut self,
@@ -432,8 +431,8 @@ impl<N: Node> Tape<N> {
         Ok(())
     }
 
-    /// Sets the place alone; the events stay. The tape is cold then, but where the place was there
-    /// before.
+    /// Sets the place alone; the events are unchanged. The tape is cold then, unless the place was
+    /// `to` already.
     pub fn rest(&mut self, to: u32)
         requires { to ≤ length self.old.events }
         ensures place { self.new ≡ with_world self.new.warm self.new.reach (at to self.old) }
@@ -447,7 +446,7 @@ impl<N: Node> Tape<N> {
     }
 
     /// Drops the events past a place, with their checkpoints, and goes there. The tape is cold
-    /// then, but where the place was there before.
+    /// then, unless the place was `to` already.
     pub fn truncate(&mut self, to: u32)
         requires end { self.old.place ≡ length self.old.events }
         requires within { to ≤ self.old.place }
@@ -461,7 +460,7 @@ impl<N: Node> Tape<N> {
         self.cut();
     }
 
-    // A cold tape of these events and checkpoints.
+    // Returns a cold tape of these events and checkpoints.
     pub(crate) fn cold(
         alloc: Global,
         log: Log,
@@ -490,15 +489,15 @@ impl<N: Node> Tape<N> {
         })
     }
 
-    // Lets the records go.
+    // Drops the records.
     pub(crate) fn forget(&mut self)
         ensures { self.new ≡ with_world self.old.warm 0 self.old }
     {
         self.walk.ring.clear();
     }
 
-    // Lets the records go, and takes over from a tape that is done with: its memory for records,
-    // and where both worlds are there and of one seed the words that were computed for them.
+    // Drops the records, and takes over from a tape that is no longer needed: its memory for
+    // records, and its computed words if both have a world and one seed.
     pub(crate) fn take_over(&mut self, spent: Tape<N>)
         ensures { self.new ≡ with_world self.old.warm 0 self.old }
     {
@@ -506,8 +505,8 @@ impl<N: Node> Tape<N> {
         self.walk.take_over(walk);
     }
 
-    /// A tape of the first events, at their end, which shares the full segments and the
-    /// checkpoints; it is cold. The only error is want of memory.
+    /// Returns a cold tape of the first events, at their end, which shares the full segments and
+    /// the checkpoints. Fails only for want of memory.
     pub fn split(&self, alloc: Global, to: u32) -> Result<Tape<N>, NoMemory>
         requires { to ≤ length self.now.events }
         ensures { IfOk result (λ t. t ≡ with_world false 0 (at to (first_events to self.now))) }
@@ -520,14 +519,14 @@ impl<N: Node> Tape<N> {
         Tape::cold(alloc, log, checkpoints, to)
     }
 
-    /// All kept events, shared. The only error is want of memory.
+    /// Returns all kept events, shared. Fails only for want of memory.
     pub fn events(&self, alloc: Global) -> Result<EventList, NoMemory>
         ensures { IfOk result (λ l. l ≡ self.now.events) }
     {
         self.log.events(alloc)
     }
 
-    /// All kept events and checkpoints, shared: no world is copied. The only error is want of
+    /// Returns all kept events and checkpoints, shared: no world is copied. Fails only for want of
     /// memory.
     pub fn freeze(&self, alloc: Global) -> Result<Frozen<N>, NoMemory>
         ensures { IfOk result (λ f. f ≡
@@ -540,8 +539,8 @@ impl<N: Node> Tape<N> {
     }
 }
 
-// Makes room for one more event, and where it ends an interval, which is answered, for one more
-// world. The only error is want of memory.
+// Makes room for one more event and, if it ends an interval, for one more world. Returns whether it
+// ends one. Fails only for want of memory.
 fn make_room<N: Node>(
     alloc: Global,
     log: &mut Log,
@@ -571,7 +570,7 @@ fn make_room<N: Node>(
     Ok(is_whole)
 }
 
-// Keeps a world, where there is one, as the last.
+// Adds a world, if there is one, as the last.
 fn keep<N: Node>(worlds: &mut SharedList<PackedWorld<N>>, world: Option<Arc<PackedWorld<N>>>)
     requires room { IsSome world → IsTrue worlds.old.has_room }
     requires few { length worlds.old.items < 65537 }

@@ -1,4 +1,4 @@
-//! A world that walks along the events of a log, forwards and back.
+//! A world that walks along the events of a log, forward and back.
 ghost use Rattle.std.specs.Prelude.{◌≡◌, ℕ, ◌+◌, ◌-◌, ◌*◌, ◌<◌, ◌≤◌, [], ◌∷◌, ◌++◌, if◌then◌else◌};
 ghost use Rattle.std.specs.Prelude.{length, min, is_some, true, false, IfOk, OnOk, OnErr, IsSome};
 ghost use Rattle.std.specs.Prelude.{Some, None, IsTrue, MatchOption};
@@ -25,14 +25,14 @@ use std::alloc::Global;
 use std::ops::Range;
 use std::sync::Arc;
 
-/// The world at a place of a log, where it is there, and the records of the last events before it.
+/// The world at a place of a log, if there is one, and the records of the last events before it.
 #[derive(Drop)]
 pub(crate) struct Walk<N: Node> {
     pub world: Option<World<N>>,
     pub ring: Ring<N>,
 }
 
-// A copy of a world that can be shared.
+// Returns a copy of a world that can be shared.
 #[cold]
 #[inline(never)]
 fn shared_copy<N: Node>(
@@ -49,8 +49,8 @@ fn shared_copy<N: Node>(
     Ok(Arc::new(alloc, copy)?)
 }
 
-// The world after an event that can happen, of which no record is needed. What is in the ring is of
-// no use then.
+// Returns the world after an event that can happen, without a record. The records in the ring are
+// useless then.
 #[inline(always)]
 fn passed<N: Node>(
     alloc: Global,
@@ -78,8 +78,8 @@ fn passed<N: Node>(
 }
 
 impl Log {
-    // The world after the events of a range, or those of them in the segment that holds the first.
-    // Their records are kept. It answers the place that it came to, too.
+    // Returns the world after the events of a range, or after those of them in the segment that
+    // holds the first, and the place reached. Keeps their records.
     fn play_stretch<N: Node>(
         &self,
         alloc: Global,
@@ -117,7 +117,7 @@ impl Log {
         Ok((world, way.start + entries.len()))
     }
 
-    // The world after the event at a place, whose record is kept.
+    // Returns the world after the event at a place. Keeps its record.
     fn play_event<N: Node>(
         &self,
         alloc: Global,
@@ -145,7 +145,7 @@ impl Log {
         Ok(after)
     }
 
-    // The world after the events of a range, whose records are kept, segment by segment.
+    // Returns the world after the events of a range, and keeps their records, segment by segment.
     #[inline(never)]
     fn play_stretches<N: Node>(
         &self,
@@ -182,7 +182,7 @@ impl Log {
         Ok(world)
     }
 
-    // The world after the events of a range, whose records are kept.
+    // Returns the world after the events of a range. Keeps their records.
     #[inline]
     fn play<N: Node>(
         &self,
@@ -214,8 +214,8 @@ impl Log {
         self.play_stretches(alloc, way, world, ring, meter)
     }
 
-    // The world before the events of a range, the last of which led to this one. They are taken
-    // back by their records.
+    // Returns the world before the events of a range, the last of which led to this one. Undoes
+    // them by their records.
     fn unwind<N: Node>(
         &self,
         alloc: Global,
@@ -248,7 +248,8 @@ impl Log {
 }
 
 impl<N: Node> Walk<N> {
-    /// No world, with room for so many records. The only error is want of memory.
+    /// Returns a walk without a world, with room for `window` records. Fails only for want of
+    /// memory.
     pub fn cold(alloc: Global, window: usize) -> Result<Walk<N>, NoMemory>
         requires { window ≤ 4096 }
         ensures world { IfOk result (λ w. w.world ≡ None) }
@@ -258,7 +259,7 @@ impl<N: Node> Walk<N> {
         Ok(Walk { world: None, ring })
     }
 
-    /// Lets the world go, and the records.
+    /// Drops the world and the records.
     pub fn leave(&mut self)
         ensures world { self.new.world ≡ None }
         ensures ring { self.new.ring ≡ buffer [] self.old.ring.capacity }
@@ -267,8 +268,7 @@ impl<N: Node> Walk<N> {
         self.ring.clear();
     }
 
-    /// Walks on over the events of a range. After an error, which can only be want of memory, there
-    /// is no world.
+    /// Walks on over the events of a range. Fails only for want of memory; there is no world then.
     pub fn on(
         &mut self,
         alloc: Global,
@@ -310,8 +310,8 @@ impl<N: Node> Walk<N> {
         }
     }
 
-    /// Walks on by an event whose record is not kept, nor are those of the events before it. After
-    /// an error, which can only be want of memory, there is no world.
+    /// Walks on by one event and drops all records, its own too. Fails only for want of memory;
+    /// there is no world then.
     pub fn pass(
         &mut self,
         alloc: Global,
@@ -342,8 +342,8 @@ impl<N: Node> Walk<N> {
         Ok(())
     }
 
-    /// Walks back over the events of a range, of which there are the records. After an error, which
-    /// can only be want of memory, there is no world.
+    /// Walks back over the events of a range, whose records must be there. Fails only for want of
+    /// memory; there is no world then.
     pub fn back(
         &mut self,
         alloc: Global,
@@ -385,8 +385,8 @@ impl<N: Node> Walk<N> {
         }
     }
 
-    // There is no world and no record any more. The next world takes over the words that were
-    // computed for this one.
+    // Drops the world and the records. The next world takes over the words that were computed for
+    // this one.
     fn give_way(&mut self, next: &mut World<N>)
         ensures next { next.new ≡ next.old }
         ensures world { self.new.world ≡ None }
@@ -412,9 +412,8 @@ impl<N: Node> Walk<N> {
         }
     }
 
-    /// Lets the records go, and takes over from a walk that is done with: its memory for as many
-    /// records, and where both worlds are there and of one seed the words that were computed for
-    /// the other.
+    /// Drops the records, and takes over from a walk that is no longer needed: its memory for as
+    /// many records, and its computed words if both have a world and one seed.
     pub fn take_over(&mut self, spent: Walk<N>)
         ensures world { self.new.world ≡ self.old.world }
         ensures ring { self.new.ring ≡ buffer [] self.old.ring.capacity }
@@ -424,9 +423,9 @@ impl<N: Node> Walk<N> {
         self.ring.take_over(ring);
     }
 
-    /// Makes the world at the end of a range anew, from the checkpoint at its start, which is
-    /// copied. The only error is want of memory. Where the copy is refused nothing changes; after
-    /// another error there is no world.
+    /// Makes the world at the end of a range anew, from a copy of the checkpoint at its start.
+    /// Fails only for want of memory. If the copy fails nothing has changed; after another error
+    /// there is no world.
     pub fn anew(
         &mut self,
         alloc: Global,
@@ -471,8 +470,8 @@ impl<N: Node> Walk<N> {
         }
     }
 
-    // A copy of a world that can be shared, where one is asked for. After an error, which can only
-    // be want of memory, there is no record.
+    // Returns a copy of a world that can be shared, if one is wanted. Fails only for want of
+    // memory; there is no record then.
     #[inline(always)]
     fn mark(
         &mut self,
@@ -503,9 +502,9 @@ impl<N: Node> Walk<N> {
         }
     }
 
-    /// Walks on by an event that is about to be added to the log. It answers the clock after it
-    /// (ms), and where it is asked for a copy of the world after it. After an error, which can only
-    /// be want of memory, there is no world.
+    /// Walks on by an event that is about to be added to the log. Returns the clock after it (ms)
+    /// and, if wanted, a copy of the world after it. Fails only for want of memory; there is no
+    /// world then.
     pub fn step(
         &mut self,
         alloc: Global,

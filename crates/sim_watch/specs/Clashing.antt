@@ -1,4 +1,4 @@
--- What no two running hosts may show.
+-- Values that no two running hosts may show.
 use Rattle.std.specs.Prelude.{ℕ, Bool, ◌||◌, nat_le}
 use Rattle.sim_node.specs.Node.{NodeLaws}
 use Rattle.sim_world.specs.declared.host.Host.{Host}
@@ -12,7 +12,7 @@ module _ {State Msg : Type 0} (node : NodeLaws State Msg) where
   clash (Same k n) x y = show_same node k n x y
   clash (Apart k by n) x y = show_apart node k by n x y
 
--- it is about a probe that is not there
+-- it names a probe that does not exist
 abbrev pub is_of_no_probe : ℕ → Clash → Bool
 is_of_no_probe probes (Same k n) = nat_le probes k
 is_of_no_probe probes (Apart k by n) = nat_le probes k || nat_le probes by

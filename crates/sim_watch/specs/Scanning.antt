@@ -1,4 +1,4 @@
--- A scan that goes on: how far it has come.
+-- A scan under way: how far it has come.
 use Rattle.std.specs.Prelude.{◌≡◌, ℕ, ◌<◌, ◌≤◌, true, false, List, replicate}
 use Rattle.sim_node.specs.Node.{NodeLaws}
 use Rattle.sim_world.specs.declared.Event.{Event}
@@ -24,8 +24,7 @@ module _ {State Msg : Type 0} (node : NodeLaws State Msg) (probes : ℕ) where
     }
     pub before : (j : ℕ) → lo ≤ j → j < place → fails_at (rules node probes s) c events j ≡ false
 
-  -- The world is that after so many steps, of which n are wanted, and the condition did not fail
-  -- before.
+  -- The world is that after `place` steps of at most n, and the condition did not fail before.
   pub record IsStepping (c : Cond) (s : Scenario) (n place : ℕ)
       (w : InHand State Msg) : Type 0 where
     pub here : IsAt (rules node probes s) (replicate n event.Step) place w

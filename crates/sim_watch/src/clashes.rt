@@ -1,4 +1,4 @@
-//! What no two running hosts may show.
+//! Values that no two running hosts may show.
 ghost use Rattle.std.specs.Prelude.{◌≡◌, ℕ, ◌<◌, ◌≤◌, drop, ◌+◌, IsFalse};
 ghost use Rattle.std.specs.List.{list_any};
 ghost use Rattle.sim_world.specs.World.{host_at};
@@ -8,17 +8,17 @@ ghost use Rattle.sim_watch.specs.Clashing.{clash, is_of_no_probe};
 use sim_node::Node;
 use sim_world::World;
 
-/// What two running hosts show that no two may show.
+/// What no two running hosts may show together.
 #[derive(Clone, Copy, Debug, PartialEq, Eq)]
 pub(crate) enum Clash {
-    /// The same value of a probe, other than a number.
+    /// The same value of a probe, other than this number.
     Same(u8, u64),
-    /// The same value of the second probe, and other values of the first, of which none is the
-    /// number.
+    /// The same value of the second probe, and different values of the first, neither of which is
+    /// the number.
     Apart(u8, u8, u64),
 }
 
-// Whether two hosts run and show the same value of a probe, other than a number.
+// Returns whether two hosts run and show the same value of a probe, other than `number`.
 fn show_same<N: Node>(world: &World<N>, a: u16, b: u16, probe: u8, number: u64) -> bool
     requires a { a < world.now.scenario.setup.hosts }
     requires b { b < world.now.scenario.setup.hosts }
@@ -32,7 +32,7 @@ fn show_same<N: Node>(world: &World<N>, a: u16, b: u16, probe: u8, number: u64) 
     x == y && x != number
 }
 
-// Whether two hosts run and show the same value of a probe.
+// Returns whether two hosts run and show the same value of a probe.
 fn show_equal<N: Node>(world: &World<N>, a: u16, b: u16, probe: u8) -> bool
     requires a { a < world.now.scenario.setup.hosts }
     requires b { b < world.now.scenario.setup.hosts }
@@ -46,7 +46,7 @@ fn show_equal<N: Node>(world: &World<N>, a: u16, b: u16, probe: u8) -> bool
     x == y
 }
 
-// Whether two hosts run and show other values of a probe, of which none is a number.
+// Returns whether two hosts run and show different values of a probe, neither of which is `number`.
 fn show_other<N: Node>(world: &World<N>, a: u16, b: u16, probe: u8, number: u64) -> bool
     requires a { a < world.now.scenario.setup.hosts }
     requires b { b < world.now.scenario.setup.hosts }
@@ -61,7 +61,7 @@ fn show_other<N: Node>(world: &World<N>, a: u16, b: u16, probe: u8, number: u64)
 }
 
 impl Clash {
-    // Whether it is between two hosts.
+    // Returns whether two hosts clash.
     fn is_between<N: Node>(self, world: &World<N>, a: u16, b: u16) -> bool
         requires a { a < world.now.scenario.setup.hosts }
         requires b { b < world.now.scenario.setup.hosts }
@@ -77,7 +77,7 @@ impl Clash {
         }
     }
 
-    // Whether it is between a host and one of those after it.
+    // Returns whether a host clashes with one of those after it.
     fn is_after<N: Node>(self, world: &World<N>, host: u16) -> bool
         requires host { host < world.now.scenario.setup.hosts }
         requires probes { IsFalse (is_of_no_probe N.PROBES self) }
@@ -93,7 +93,7 @@ impl Clash {
         false
     }
 
-    /// Whether it is between no two hosts.
+    /// Returns whether no two hosts clash.
     pub(crate) fn is_nowhere<N: Node>(self, world: &World<N>) -> bool
         requires { IsFalse (is_of_no_probe N.PROBES self) }
         ensures { result ≡ no_two (clash N.laws self) world.now.world.hosts }

@@ -1,4 +1,4 @@
-//! What is said of all running hosts' values of a probe.
+//! Counts and tests over the values of a probe of all running hosts.
 ghost use Rattle.std.specs.Prelude.{◌≡◌, ℕ, ◌<◌, ◌≤◌};
 ghost use Rattle.sim_watch.specs.Condition.{compares, if_any, if_some, value_of, count_in, all_in};
 ghost use Rattle.sim_world.specs.World.{host_at};
@@ -7,7 +7,7 @@ use crate::Op;
 use sim_node::Node;
 use sim_world::World;
 
-// Whether the host is stopped, or its value of a probe compares so with a number.
+// Returns whether the host is stopped, or its value of a probe compares by `op` with a number.
 fn is_in<N: Node>(world: &World<N>, host: u16, probe: u8, op: Op, number: u64) -> bool
     requires host { host < world.now.scenario.setup.hosts }
     requires probe { probe < N.PROBES }
@@ -20,7 +20,7 @@ fn is_in<N: Node>(world: &World<N>, host: u16, probe: u8, op: Op, number: u64) -
     }
 }
 
-// Whether the host runs, and its value of a probe compares so with a number.
+// Returns whether the host runs, and its value of a probe compares by `op` with a number.
 fn counts<N: Node>(world: &World<N>, host: u16, probe: u8, op: Op, number: u64) -> bool
     requires host { host < world.now.scenario.setup.hosts }
     requires probe { probe < N.PROBES }
@@ -33,7 +33,7 @@ fn counts<N: Node>(world: &World<N>, host: u16, probe: u8, op: Op, number: u64) 
     }
 }
 
-/// The number of running hosts whose value of a probe compares so with a number.
+/// Returns the number of running hosts whose value of a probe compares by `op` with a number.
 pub(crate) fn count_in<N: Node>(world: &World<N>, probe: u8, op: Op, number: u64) -> u64
     requires { probe < N.PROBES }
     ensures { result ≡ count_in N.laws probe op number world.now.world.hosts }
@@ -47,7 +47,7 @@ pub(crate) fn count_in<N: Node>(world: &World<N>, probe: u8, op: Op, number: u64
     u64::from(count)
 }
 
-/// Whether all running hosts' values of a probe compare so with a number.
+/// Returns whether all running hosts' values of a probe compare by `op` with a number.
 pub(crate) fn all_in<N: Node>(world: &World<N>, probe: u8, op: Op, number: u64) -> bool
     requires { probe < N.PROBES }
     ensures { result ≡ all_in N.laws probe op number world.now.world.hosts }

@@ -14,7 +14,7 @@ use sim_tape::{Frozen, Tape};
 use sim_world::{Event, Scenario, World};
 use std::alloc::Global;
 
-// Whether a condition, which was checked, fails at the place of a warm tape.
+// Returns whether a checked condition fails at the place of a warm tape.
 fn fails_here<N: Node>(tape: &Tape<N>, cond: &Cond) -> bool
     requires warm { IsTrue tape.now.warm }
     requires checked { fault_of tape.now.scenario.setup.hosts N.PROBES cond.now ≡ None }
@@ -24,10 +24,10 @@ fn fails_here<N: Node>(tape: &Tape<N>, cond: &Cond) -> bool
     !holds(cond, tape.here())
 }
 
-/// Looks for the least place of a piece of a frozen run at which a condition, which was checked,
-/// fails. The piece lies between two checkpoints. It is walked once, forward, from the checkpoint
-/// below it, with fewer turns than the interval and one copy of a world. The run's events can
-/// happen one after the other. The only error is want of memory.
+/// Returns the least place of a piece of a frozen run at which a checked condition fails. The piece
+/// lies between two checkpoints. One walk, forward from the checkpoint below it, takes fewer turns
+/// than the interval and one copy of a world. The run's events can happen one after the other.
+/// Fails only for want of memory.
 pub fn scan<N: Node>(
     alloc: Global,
     frozen: &Frozen<N>,
@@ -53,9 +53,9 @@ pub fn scan<N: Node>(
     scan_after(alloc, frozen, &mut None, piece, cond, meter)
 }
 
-/// Looks for the least place of a piece of a frozen run at which a condition fails, as `scan` does.
-/// The tape of the last piece, if there is one, is taken over, and that of this one is left for the
-/// next. The only error is want of memory; no tape is left then.
+/// Returns the least place of a piece of a frozen run at which a condition fails, as `scan` does.
+/// Takes over the tape of the last piece, if there is one, and leaves its own for the next. Fails
+/// only for want of memory; no tape is left then.
 pub fn scan_after<N: Node>(
     alloc: Global,
     frozen: &Frozen<N>,
@@ -101,10 +101,9 @@ pub fn scan_after<N: Node>(
     Ok(Finding { piece, place: None })
 }
 
-/// Looks for the least place of a run of steps, at most so many, at which a condition, which was
-/// checked, fails. The run begins at the start of the scenario and goes on until nothing is
-/// pending. Each host is booted once, and no turn is counted past the place that is found. The only
-/// error is want of memory.
+/// Returns the least place of a run of at most `events` steps at which a checked condition fails.
+/// The run begins at the start of the scenario and goes on until nothing is pending. Boots each
+/// host once, and counts no turn past the place found. Fails only for want of memory.
 pub fn scan_seed<N: Node>(
     alloc: Global,
     scenario: &Scenario,

@@ -6,8 +6,7 @@ use std::alloc::Global;
 use std::marker::Model;
 use std::sync::Arc;
 
-/// A condition in memory of its own, which is shared and never changed. Contracts see the
-/// condition.
+/// A condition in its own memory, shared and never changed. Contracts see the condition.
 #[derive(Drop)]
 pub struct SharedCond {
     inner: Arc<Cond>,
@@ -22,7 +21,7 @@ impl Model for SharedCond {
 }
 
 impl SharedCond {
-    /// The condition, in memory of its own. The only error is want of memory.
+    /// Moves the condition to its own memory. Fails only for want of memory.
     pub fn new(alloc: Global, cond: Cond) -> Result<SharedCond, NoMemory>
         ensures { IfOk result (λ shared. shared ≡ cond) }
     {
@@ -31,7 +30,7 @@ impl SharedCond {
         })
     }
 
-    /// An equal condition, in the same memory. The only error is that it can't be shared once more.
+    /// Returns an equal condition, in the same memory. Fails only if it cannot be shared once more.
     pub fn share(&self) -> Result<SharedCond, NoMemory>
         ensures { IfOk result (λ shared. shared ≡ self.now) }
     {
@@ -40,7 +39,7 @@ impl SharedCond {
         })
     }
 
-    /// The condition.
+    /// Returns the condition.
     #[inline]
     pub fn get(&self) -> &Cond
         ensures { result.now ≡ self.now }

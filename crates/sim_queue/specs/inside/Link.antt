@@ -9,7 +9,7 @@ abbrev pub code_of : Option ℕ → ℕ
 code_of None = 0
 code_of (Some n) = suc n
 
--- a number is that of its place
+-- the code of a place gives back the number
 pub same_code : (n : ℕ) → code_of (place_of n) ≡ n
 same_code zero = refl
 same_code (suc n) = refl

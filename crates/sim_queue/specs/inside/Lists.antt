@@ -1,10 +1,10 @@
--- Keys in lists by their days: nodes in rings, of which each begins and ends at one of the first
+-- Keys in lists by their days: nodes in rings, each of which begins and ends at one of the first
 -- 256 nodes.
 use Rattle.std.specs.Prelude.{◌≡◌, ◌≢◌, ◌⊎◌, ◌+◌, ◌*◌, ◌^◌, ◌/◌, ◌%◌, ℕ, ◌<◌, ◌≤◌, List, length}
 use Rattle.std.specs.Prelude.{slice_index_or}
 use Rattle.sim_queue.specs.declared.lists.Node.{Node}
 
--- the node at a place, and past the end one without a key
+-- the node at a place, or one without a key past the end
 abbrev pub no_node : Node
 no_node = record { due = 0; serial = 18446744073709551615; before = 0; after = 0 }
 
@@ -22,24 +22,24 @@ day width due = due / 2 ^ width
 abbrev pub list_of : ℕ → Node → ℕ
 list_of width x = day width x.due % 256
 
--- a number that is the greater the later a key is: by its due, and then by its serial
+-- a number that orders keys: by their dues, then by their serials
 abbrev pub key_order : ℕ → ℕ → ℕ
 key_order due serial = due * 2 ^ 40 + serial
 
 abbrev pub order_of : Node → ℕ
 order_of x = key_order x.due x.serial
 
--- the end of a list, with no key in it
+-- the end of a list: a node without a key
 abbrev pub end_of : ℕ → ℕ → Node
 end_of width i =
     record { due = i * 2 ^ width; serial = 18446744073709551615; before = i; after = i }
 
--- the node i stands in a list: it is the end of one, or has a key
+-- the node i is in a list: it is the end of one, or has a key
 abbrev pub IsLinked : List Node → ℕ → Type 0
 IsLinked nodes i = ((i < 256) × (i < length nodes)) ⊎ HasKey (node nodes i)
 
--- the node before the node i stands in the same list, leads to it, and has a lesser key where both
--- have keys
+-- the node before the node i is in the same list, leads to it, and has a lesser key if both have
+-- keys
 pub record IsBehind (width : ℕ) (nodes : List Node) (i : ℕ) : Type 0 where
   pub linked : IsLinked nodes (node nodes i).before
   pub back : (node nodes (node nodes i).before).after ≡ i
@@ -47,12 +47,12 @@ pub record IsBehind (width : ℕ) (nodes : List Node) (i : ℕ) : Type 0 where
   pub rising : 256 ≤ i → 256 ≤ (node nodes i).before → order_of (node nodes (node nodes i).before)
       < order_of (node nodes i)
 
--- the node after the node i stands in a list, and leads back to it
+-- the node after the node i is in a list, and leads back to it
 pub record IsAhead (nodes : List Node) (i : ℕ) : Type 0 where
   pub linked : IsLinked nodes (node nodes i).after
   pub forth : (node nodes (node nodes i).after).before ≡ i
 
--- the first 256 nodes are the ends of the lists, and each node of a list stands between its
+-- the first 256 nodes are the ends of the lists, and each node of a list is linked to its
 -- neighbours
 pub record IsLists (width : ℕ) (nodes : List Node) : Type 0 where
   pub ends : (i : ℕ) → i < 256 → 2 ^ 40 ≤ (node nodes i).serial
@@ -60,17 +60,17 @@ pub record IsLists (width : ℕ) (nodes : List Node) : Type 0 where
   pub behind : (i : ℕ) → IsLinked nodes i → IsBehind width nodes i
   pub ahead : (i : ℕ) → IsLinked nodes i → IsAhead nodes i
 
--- a node without a key is there, which is no end
+-- the place p holds a node without a key that is no end of a list
 pub record IsFree (p : ℕ) (nodes : List Node) : Type 0 where
   pub from : 256 ≤ p
   pub within : p < length nodes
   pub free : 2 ^ 40 ≤ (node nodes p).serial
 
--- but for the ends the nodes are the same
+-- the nodes other than the ends are the same
 abbrev pub IsSame : List Node → List Node → Type 0
 IsSame old new = (i : ℕ) → 256 ≤ i → node new i ≡ node old i
 
--- a key comes behind the node b
+-- a key belongs right after the node b
 pub record IsSpot (width due serial b : ℕ) (nodes : List Node) : Type 0 where
   pub linked : IsLinked nodes b
   pub list : list_of width (node nodes b) ≡ day width due % 256
@@ -78,12 +78,12 @@ pub record IsSpot (width due serial b : ℕ) (nodes : List Node) : Type 0 where
   pub below : 256 ≤ (node nodes b).after → key_order due serial
       < order_of (node nodes (node nodes b).after)
 
--- the keys of all other nodes stay
+-- all other nodes keep their keys
 abbrev pub KeepsOthers : ℕ → List Node → List Node → Type 0
 KeepsOthers p old new =
     (i : ℕ) → i ≢ p → ((node new i).due ≡ (node old i).due)
     × ((node new i).serial ≡ (node old i).serial)
 
--- no key is in a list
+-- the list has no key
 abbrev pub IsEmptyList : ℕ → ℕ → List Node → Type 0
 IsEmptyList width list nodes = (i : ℕ) → HasKey (node nodes i) → list_of width (node nodes i) ≢ list

@@ -1,8 +1,8 @@
--- Marks on days, one for all that are equal modulo 256: the bits of four words.
+-- Marks on days, one for all days that are equal modulo 256: the bits of four words.
 use Rattle.std.specs.Prelude.{◌≡◌, ℕ, ◌/◌, ◌%◌, List, slice_index_or}
 use Rattle.std.specs.Int.{bit_at}
 
--- 1 where a day is marked, and else 0
+-- 1 if a day is marked, else 0
 abbrev pub mark_of : List ℕ → ℕ → ℕ
 mark_of words day = bit_at (slice_index_or words (day % 256 / 64) 0) (day % 64)
 

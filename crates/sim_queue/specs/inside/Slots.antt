@@ -1,4 +1,4 @@
--- How a queue's items stand in slots by their serials.
+-- The items of a queue in slots by their serials.
 use Rattle.std.specs.Prelude.{◌≡◌, ℕ, ◌<◌, ◌≤◌, Bool, true, false, List, length, Option, None, Some}
 use Rattle.std.specs.Prelude.{MatchOption, slice_index_or}
 use Rattle.sim_queue.specs.inside.Wheel.{NotAfter}
@@ -7,7 +7,7 @@ use Rattle.sim_queue.specs.inside.Wheel.{NotAfter}
 abbrev pub at : {B : Type 0} → List (Option (ℕ × B)) → ℕ → Option (ℕ × B)
 at slots i = slice_index_or slots i None
 
--- the item in slot i is not after any
+-- the item in slot i is the first: no other is before it
 pub record IsFirstSlot {B : Type 0} (i : ℕ) (slots : List (Option (ℕ × B))) : Type 0 where
   pub entry : ℕ × B
   pub there : at slots i ≡ Some entry
@@ -16,21 +16,20 @@ pub record IsFirstSlot {B : Type 0} (i : ℕ) (slots : List (Option (ℕ × B)))
 abbrev pub HasNoItem : {B : Type 0} → List (Option (ℕ × B)) → Type 0
 HasNoItem slots = (i : ℕ) → at slots i ≡ None
 
--- whether an entry is there whose body p takes
+-- whether the slot has an entry whose body p accepts
 abbrev pub takes : {B : Type 0} → (B → Bool) → Option (ℕ × B) → Bool
 takes p None = false
 takes p (Some e) = p e.1
 
--- p takes no body between two places
+-- p accepts no body between two places
 abbrev pub Skips : {B : Type 0} → (B → Bool) → List (Option (ℕ × B)) → ℕ → ℕ → Type 0
 Skips p slots from to = (j : ℕ) → from ≤ j → j < to → takes p (at slots j) ≡ false
 
--- i is the first place from one on whose body p takes
+-- i is the first place not below `from` whose body p accepts
 abbrev pub IsFound : {B : Type 0} → (B → Bool) → List (Option (ℕ × B)) → ℕ → ℕ → Type 0
 IsFound p slots from i = (from ≤ i) × (takes p (at slots i) ≡ true) × Skips p slots from i
 
--- what a search from one place on answers: the first place whose body p takes, or that there is
--- none
+-- the result of a search from a place on: the first place whose body p accepts, or none
 abbrev pub IsFirstTaken : {B : Type 0} → (B → Bool) → List (Option (ℕ × B)) → ℕ → Option ℕ → Type 0
 IsFirstTaken p slots from result =
     MatchOption result (Skips p slots from (length slots)) (λ i. IsFound p slots from i)

@@ -1,4 +1,4 @@
--- Keys in lists, of which the first is at hand.
+-- Keys in lists; the first key is at hand.
 use Rattle.std.specs.Prelude.{◌≡◌, ◌≢◌, ◌⊎◌, ◌+◌, ◌^◌, ℕ, ◌<◌, ◌≤◌, nat_lt, if◌then◌else◌, List}
 use Rattle.std.specs.Prelude.{Option, None, Some, map, length, slice_index_or}
 use Rattle.sim_queue.specs.declared.lists.Node.{Node}
@@ -13,7 +13,7 @@ key_of x = if nat_lt x.serial (2 ^ 40) then Some (x.due, x.serial) else None
 abbrev pub keys_of : List Node → List (Option (ℕ × ℕ))
 keys_of nodes = map key_of nodes
 
--- the key at a place, none past the end: the first place is behind the ends of the lists
+-- the key at a place, none past the end: the ends of the lists come before the first place
 abbrev pub key_at : List (Option (ℕ × ℕ)) → ℕ → Option (ℕ × ℕ)
 key_at keys k = slice_index_or keys (k + 256) None
 
@@ -26,16 +26,16 @@ HasSame old new = (k : ℕ) → key_at new k ≡ key_at old k
 abbrev pub HasSameBut : ℕ → List (Option (ℕ × ℕ)) → List (Option (ℕ × ℕ)) → Type 0
 HasSameBut p old new = (k : ℕ) → k ≢ p → key_at new k ≡ key_at old k
 
--- a place without a key is there
+-- the place p exists and has no key
 pub record IsPlace (p : ℕ) (keys : List (Option (ℕ × ℕ))) : Type 0 where
   pub within : p + 256 < length keys
   pub free : key_at keys p ≡ None
 
--- the first due and serial is not after the second
+-- the first due and serial are not after the second
 abbrev pub NotAfter : ℕ → ℕ → ℕ → ℕ → Type 0
 NotAfter d s e t = (d < e) ⊎ ((d ≡ e) × (s ≤ t))
 
--- the key at this place is not after any
+-- the key at this place is the first: no other is before it
 pub record IsFirst (p : ℕ) (keys : List (Option (ℕ × ℕ))) : Type 0 where
   pub due : ℕ
   pub serial : ℕ
@@ -52,7 +52,7 @@ pub record IsDue (floor : ℕ) (nodes : List Node) : Type 0 where
 abbrev pub IsFrom : ℕ → List Node → Type 0
 IsFrom floor nodes = (i : ℕ) → HasKey (node nodes i) → floor ≤ (node nodes i).due
 
--- no key is due before the floor, and one is due at it, or it is the greatest of all times
+-- no key is due before the floor, and one is due at it, or it is the greatest time
 pub record IsFloor (floor : ℕ) (nodes : List Node) : Type 0 where
   pub from : IsFrom floor nodes
   pub settled : (2 ^ 64 ≤ floor + 1) ⊎ IsDue floor nodes
@@ -62,7 +62,7 @@ abbrev pub HasMarks : ℕ → List ℕ → List Node → Type 0
 HasMarks width words nodes =
     (i : ℕ) → HasKey (node nodes i) → IsMarked words (day width (node nodes i).due)
 
--- all dues are in range
+-- all dues are below 2 ^ 64
 abbrev pub Fits64 : List Node → Type 0
 Fits64 nodes = (i : ℕ) → HasKey (node nodes i) → (node nodes i).due < 2 ^ 64
 
