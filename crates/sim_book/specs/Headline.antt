@@ -1,7 +1,8 @@
 -- The headline. A branch keeps its events and a place among them, and no world: its world is the
 -- run of these events, from the start of the scenario up to the place. However the place was
 -- reached, forwards, back or by a jump, the world that a book lends of a branch is that one.
-use Rattle.std.specs.Prelude.{◌≡◌, ℕ, ◌≤◌, Bool, true, false, List, ◌++◌, length, take, Option, Some, None, slice_get, IsTrue}
+use Rattle.std.specs.Prelude.{◌≡◌, ℕ, ◌≤◌, Bool, true, false, List, ◌++◌, length, take, Option}
+use Rattle.std.specs.Prelude.{Some, None, slice_get, IsTrue}
 use Rattle.std.specs.Option.{unwrap_or, option_map}
 use Rattle.std.specs.List.{All}
 use Rattle.sim_world.specs.World.{Scenario, World}

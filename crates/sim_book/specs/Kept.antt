@@ -24,10 +24,10 @@ shown k = branch_with k.watches k.tape
 abbrev pub all_shown : List Kept → Book
 all_shown ks = map shown ks
 
---     scenario   what its runs are set up with
---     kept       its branches
---     history    the entries, in order
---     work       what its meter has counted
+-- scenario   what its runs are set up with
+-- kept       its branches
+-- history    the entries, in order
+-- work       what its meter has counted
 pub record BookView : Type 0 where
   pub scenario : Scenario
   pub kept : List Kept

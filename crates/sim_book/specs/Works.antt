@@ -1,5 +1,6 @@
 -- How much work a command takes: the turns, copies and undos of nodes that the book's meter counts.
-use Rattle.std.specs.Prelude.{◌≡◌, ℕ, zero, suc, ◌+◌, ◌-◌, ◌*◌, ◌/◌, ◌<◌, ◌≤◌, nat_lt, false, List, length, slice_index_or, IsTrue, if◌then◌else◌}
+use Rattle.std.specs.Prelude.{◌≡◌, ℕ, zero, suc, ◌+◌, ◌-◌, ◌*◌, ◌/◌, ◌<◌, ◌≤◌, nat_lt, false, List}
+use Rattle.std.specs.Prelude.{length, slice_index_or, IsTrue, if◌then◌else◌}
 use Rattle.sim_node.specs.Node.{NodeLaws}
 use Rattle.sim_node.specs.Work.{Work}
 use Rattle.sim_world.specs.declared.Event.{Event}
@@ -8,7 +9,8 @@ use Rattle.sim_world.specs.Acts.{running}
 use Rattle.sim_world.specs.Events.{Rules, rules}
 use Rattle.sim_tape.specs.Tape.{Tape, is_within_reach, is_near_ahead, reach_here}
 use Rattle.sim_tape.specs.Places.{acting, world_at}
-use Rattle.sim_tape.specs.Works.{undone_by, OnlyTurns, Plays, TakesAtMost, nodes_below, nodes_at_end, nodes_made}
+use Rattle.sim_tape.specs.Works.{undone_by, OnlyTurns, Plays, TakesAtMost, nodes_below}
+use Rattle.sim_tape.specs.Works.{nodes_at_end, nodes_made}
 use Rattle.sim_book.specs.declared.Command.{Command}
 use Rattle.sim_book.specs.declared.Command.TheVariants as command
 use Rattle.sim_book.specs.declared.Refusal.{Refusal}
