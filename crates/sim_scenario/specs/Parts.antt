@@ -19,7 +19,7 @@ use Rattle.sim_scenario.specs.Scenario.{is_name, is_within, wrong_type, out_of_r
 use Rattle.sim_scenario.specs.Scenario.{Protocol, place_named, protocol_of, least_servers, whole}
 use Rattle.sim_scenario.specs.Scenario.{text_at, server_names, clients, repeated_from, first_32}
 
--- a value, where there is no fault
+-- a value, if there is no fault
 abbrev pub checked : {A : Type 0} → Option Fault → A → Result A Fault
 checked None value = Ok value
 checked (Some fault) value = Err fault
@@ -42,7 +42,7 @@ seed_of doc =
     checked (at_key (codes "seed") doc (string_fault is_seed 6))
     (unwrap_or (result_ok (decode_of (text_at (codes "seed") doc))) [])
 
--- a number at a key, whose faults are written with another
+-- the number at a key, whose faults are written with another key
 unfoldable pub number_of : List ℕ → List ℕ → ℕ → ℕ → Members → Result ℕ Fault
 number_of name key low high doc =
     checked (keyed key (whole_fault (is_within low high) out_of_range (get_member name doc)))
@@ -69,7 +69,7 @@ client_of client = do
   operations ← number_of (codes "ops") (codes "client") 1 1000 client
   Ok (name, operations)
 
--- some clients after those whose names and operations are there
+-- some clients after those with these names and operations
 unfoldable pub listed : List (List ℕ) → List ℕ → List Members → Result
     (List (List ℕ) × List ℕ) Fault
 listed names operations [] = Ok (names, operations)
@@ -77,7 +77,7 @@ listed names operations (client ∷ more) = do
   first ← client_of client
   listed (names ++ first.0 ∷ []) (operations ++ first.1 ∷ []) more
 
--- the names, with those of the clients after them, and the operations of the clients
+-- the names, followed by those of the clients, and the operations of the clients
 unfoldable pub clients_of : List (List ℕ) → Members → Result (List (List ℕ) × List ℕ) Fault
 clients_of names doc =
     checked (at_key (codes "client") doc (list_fault clients_fault as_table)) (
@@ -85,7 +85,7 @@ clients_of names doc =
       map (whole (codes "ops")) (clients doc),
     )
 
--- how long a sync takes, which only format 2 says
+-- the latency of a sync, which only format 2 gives
 unfoldable pub disk_latency_of : Members → Result ℕ Fault
 disk_latency_of doc =
     if is_format_2 doc then number_of (codes "disk_latency") (codes "disk_latency") 0 60000 doc
@@ -119,14 +119,14 @@ link_of link = do
   way ← link_way_of link
   Ok (record { source = source; target = target; way = way })
 
--- some links after those that are there
+-- some links after those read so far
 unfoldable pub linked : List LinkText → List Members → Result (List LinkText) Fault
 linked done [] = Ok done
 linked done (link ∷ more) = do
   first ← link_of link
   linked (done ++ first ∷ []) more
 
--- the links, which only format 2 has
+-- the links, which only format 2 gives
 unfoldable pub links_in : Members → Result (List LinkText) Fault
 links_in doc =
     checked (if is_format_2 doc then at_key (codes "link") doc links_fault else None) (links doc)
@@ -136,7 +136,7 @@ unfoldable pub placed : List (List ℕ) → List LinkText → Result (List Link)
 placed names links =
     checked (host_fault (links_between names links)) (unwrap_or (links_between names links) [])
 
--- no two links are those of one pair
+-- no two links are of the same pair
 unfoldable pub linked_ways : Way → List Link → Result Ways Fault
 linked_ways way links = checked (pair_fault links) (with_links links (all way))
 
@@ -161,13 +161,13 @@ module _ (protocols : List Protocol) where
       checked (at_key (codes "protocol") doc (string_fault (λ s. is_some (place_named protocols s))
       7)) (protocol_of protocols doc)
 
-  -- there are as many hosts, and servers, as may be
+  -- the numbers of hosts and of servers are within the limits
   unfoldable pub count_of : ℕ → ℕ → ℕ → Result (Unit {0}) Fault
   count_of protocol servers hosts =
       checked (if nat_lt 32 hosts || nat_lt servers (least_servers protocols protocol) then Some
       (record { number = 11; key = codes "servers" }) else None) tt
 
-  -- how many hosts there are, their names, and the links between them
+  -- the number of hosts, their names, and the links between them
   unfoldable pub joined_in : Opening → ℕ → List (List ℕ) → List ℕ → Rest → List LinkText
       → Result ScenarioText Fault
   joined_in opening servers hosts operations rest links = do
@@ -188,7 +188,7 @@ module _ (protocols : List Protocol) where
       window = rest.window;
     })
 
-  -- the hosts and the links, and what comes between them
+  -- the hosts and the links, and the parts between them
   unfoldable pub hosts_in : Opening → Members → Result ScenarioText Fault
   hosts_in opening doc = do
     servers ← servers_of doc
@@ -203,7 +203,7 @@ module _ (protocols : List Protocol) where
       disk_latency = disk_latency;
     }) links
 
-  -- what a document says, part by part
+  -- the scenario of a document, part by part
   unfoldable pub scenario_in : Members → Result ScenarioText Fault
   scenario_in doc = do
     known ← keys_of doc
