@@ -127,7 +127,7 @@ bare = record {
   subs = [];
 }
 
--- the program, with its version, which wants a subcommand; clap adds one named `help`
+-- the program, with its version, which requires a subcommand; clap adds one named `help`
 abbrev pub program : App
 program = record {
   top = record (new_shape (codes "simback")) {
@@ -138,19 +138,20 @@ program = record {
   subs = play ∷ search ∷ sweep ∷ script ∷ shrink ∷ log ∷ page ∷ [];
 }
 
--- a value of clap's is this argument, which is its own command's alone
+-- a value of clap's is this argument, owned by its command alone
 pub record IsArgument (rule : Rule) (arg : Arg) : Type 0 where
   pub is : rule_of arg ≡ rule
   pub own : arg.global ≡ false
 
--- a value of clap's is this subcommand, and each argument is its own
+-- a value of clap's is this subcommand, which owns its arguments
 pub record IsCommand (shape : Shape) (made : Command) : Type 0 where
   pub is : shape_of made ≡ shape
   pub own : (fields_of made).has_globals ≡ false
 
 -- ---- the job
 
--- a value is there, and is read as the number: decimal digits, a plus sign before them or none, below 2^64
+-- a value is read as the number: decimal digits, with or without a plus sign before them, below
+-- 2^64
 abbrev pub IsRead : Text → ℕ → Type 0
 IsRead text n = (IsNumeral 10 (without_leading_plus text) × (digits_value 10 (without_leading_plus text) < 2 ^ 64))
     × (n ≡ digits_value 10 (without_leading_plus text))
@@ -170,13 +171,13 @@ HasWord id rows text = first_of id rows ≡ Some text
 abbrev pub HasOptionalWord : Text → List Row → Option (Bor (List ℕ)) → Type 0
 HasOptionalWord id rows text = option_map (λ s. s.now) text ≡ first_of id rows
 
--- a flag is set where its value is `true`, and not where it is `false` or there is none
+-- a flag is set if its value is `true`, and not if it is `false` or missing
 pub record HasFlag (id : Text) (rows : List Row) (is_set : Bool) : Type 0 where
   pub yes : one_of id rows ≡ Some (codes "true") → is_set ≡ true
   pub no : one_of id rows ≡ Some (codes "false") → is_set ≡ false
   pub none : one_of id rows ≡ None → is_set ≡ false
 
--- so many workers, which are 1 to 16
+-- there are n workers, 1 to 16
 abbrev pub HasWorkers : List Row → ℕ → Type 0
 HasWorkers rows n = HasNumber (codes "workers") rows n × (1 ≤ n) × (n ≤ 16)
 
@@ -217,7 +218,7 @@ HasFewWorkers (job.Log _ _ _) = ⊤
 HasFewWorkers (job.Page _ _) = ⊤
 
 -- The words make the request: clap finds no fault in them, its matches are the job's, and the file
--- is clap's value of the argument, or none where it has no value.
+-- is clap's value of the argument, or none if it has no value.
 pub record IsRequestOf (words : List Text) (asked : Request) : Type 0 where
   pub sound : fault_of program words ≡ []
   pub name : Text
@@ -228,7 +229,7 @@ pub record IsRequestOf (words : List Text) (asked : Request) : Type 0 where
 
 -- ---- the faults
 
--- help or the version is asked for
+-- the words ask for help or the version
 abbrev pub AsksText : Kinds → Type 0
 AsksText kinds = IsAmong kind.DisplayHelp kinds ⊎ IsAmong kind.DisplayVersion kinds
 
@@ -236,7 +237,8 @@ AsksText kinds = IsAmong kind.DisplayHelp kinds ⊎ IsAmong kind.DisplayVersion 
 abbrev pub HasMistake : Kinds → Type 0
 HasMistake kinds = (k : ErrorKind) × IsAmong k kinds × (k ≢ kind.DisplayHelp) × (k ≢ kind.DisplayVersion)
 
--- Help is told where it is asked for, and usage where clap finds a mistake, or finds none and a value is missing.
+-- Help is returned if it is asked for; usage, if clap finds a mistake, or finds none and a value is
+-- missing.
 abbrev pub IsFault : List Text → LineError → Type 0
 IsFault words (line_fault.Help text) = AsksText (fault_of program words)
 IsFault words (line_fault.Usage text) = HasMistake (fault_of program words)

@@ -1,4 +1,4 @@
--- The exit status of a command line that asks for no job.
+-- The exit status of a command line that makes no request.
 use Rattle.std.specs.Prelude.{ℕ}
 use Rattle.sim_job.specs.declared.line.LineError.{LineError}
 use Rattle.sim_job.specs.declared.line.LineError.TheVariants as line_fault

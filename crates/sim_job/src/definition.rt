@@ -11,7 +11,7 @@ const SWEEP_EXAMPLES: &str = "\
 Example: simback sweep --progress 0 1000 500 \"a.first != 2\" examples/torn-commit.play
 Example: simback sweep --faults 8 0 1500 120 \"agree first unless 0\" examples/torn-commit.play";
 
-/// `--workers N`.
+/// Returns `--workers N`.
 fn workers<'a>(alloc: Global) -> Arg<'a>
     ensures { IsArgument line.workers result }
 {
@@ -23,7 +23,7 @@ fn workers<'a>(alloc: Global) -> Arg<'a>
         .help("How many workers share the work, 1 to 16")
 }
 
-/// A flag, whose long name is its id.
+/// Returns a flag, whose long name is its id.
 fn flag<'a>(alloc: Global, id: &'a str, help: &'a str) -> Arg<'a>
     ensures { IsArgument (line.flag id.entry.now) result }
 {
@@ -33,7 +33,7 @@ fn flag<'a>(alloc: Global, id: &'a str, help: &'a str) -> Arg<'a>
         .help(help)
 }
 
-/// `--progress`.
+/// Returns `--progress`.
 fn progress<'a>(alloc: Global) -> Arg<'a>
     ensures { IsArgument line.progress result }
 {
@@ -44,7 +44,7 @@ fn progress<'a>(alloc: Global) -> Arg<'a>
     )
 }
 
-/// `--faults F`.
+/// Returns `--faults F`.
 fn faults<'a>(alloc: Global) -> Arg<'a>
     ensures { IsArgument line.faults result }
 {
@@ -56,7 +56,7 @@ fn faults<'a>(alloc: Global) -> Arg<'a>
     )
 }
 
-/// An option with a number, whose long name is its id.
+/// Returns an option with a number, whose long name is its id.
 fn optional_number<'a>(alloc: Global, id: &'a str, name: &'a str, help: &'a str) -> Arg<'a>
     ensures { IsArgument (line.optional_number id.entry.now) result }
 {
@@ -67,14 +67,14 @@ fn optional_number<'a>(alloc: Global, id: &'a str, name: &'a str, help: &'a str)
         .help(help)
 }
 
-/// An option with a word, whose long name is its id.
+/// Returns an option with a word, whose long name is its id.
 fn optional_word<'a>(alloc: Global, id: &'a str, name: &'a str, help: &'a str) -> Arg<'a>
     ensures { IsArgument (line.optional_word id.entry.now) result }
 {
     Arg::new(alloc, id).long(id).value_name(name).help(help)
 }
 
-/// `--quiet Q`.
+/// Returns `--quiet Q`.
 fn quiet<'a>(alloc: Global) -> Arg<'a>
     ensures { IsArgument line.quiet result }
 {
@@ -86,14 +86,14 @@ fn quiet<'a>(alloc: Global) -> Arg<'a>
         .help("End each run with its healings and Q steps")
 }
 
-/// `--at-end`.
+/// Returns `--at-end`.
 fn at_end<'a>(alloc: Global) -> Arg<'a>
     ensures { IsArgument line.at_end result }
 {
     flag(alloc, "at-end", "Look at the last place of each run alone")
 }
 
-/// `--script`.
+/// Returns `--script`.
 fn with_script<'a>(alloc: Global) -> Arg<'a>
     ensures { IsArgument line.with_script result }
 {
@@ -104,7 +104,7 @@ fn with_script<'a>(alloc: Global) -> Arg<'a>
     )
 }
 
-/// `--strict`.
+/// Returns `--strict`.
 fn strict<'a>(alloc: Global) -> Arg<'a>
     ensures { IsArgument line.strict result }
 {
@@ -115,7 +115,7 @@ fn strict<'a>(alloc: Global) -> Arg<'a>
     )
 }
 
-/// A number that has to be given.
+/// Returns a required number.
 fn number<'a>(alloc: Global, id: &'a str, name: &'a str, help: &'a str) -> Arg<'a>
     ensures { IsArgument (line.number id.entry.now) result }
 {
@@ -126,7 +126,7 @@ fn number<'a>(alloc: Global, id: &'a str, name: &'a str, help: &'a str) -> Arg<'
         .help(help)
 }
 
-/// The condition, which has to be given.
+/// Returns the condition, which is required.
 fn cond<'a>(alloc: Global) -> Arg<'a>
     ensures { IsArgument (line.word (codes "cond")) result }
 {
@@ -136,7 +136,7 @@ fn cond<'a>(alloc: Global) -> Arg<'a>
         .help("The condition, as one word, such as \"w.next <= 3\"")
 }
 
-/// `FILE`, the last word of each command, which may be left out.
+/// Returns `FILE`, the last word of each command, which may be left out.
 fn input<'a>(alloc: Global) -> Arg<'a>
     ensures { IsArgument line.input result }
 {
@@ -255,7 +255,7 @@ fn page<'a>(alloc: Global) -> Result<Command<'a>, AllocError>
         .arg(input(alloc))
 }
 
-/// The program, before it has its subcommands.
+/// Returns the program without its subcommands.
 fn bare<'a>(alloc: Global) -> Command<'a>
     ensures { app_of result ≡ line.bare }
 {
@@ -265,7 +265,7 @@ fn bare<'a>(alloc: Global) -> Command<'a>
         .subcommand_required(true)
 }
 
-/// The command line of the program.
+/// Returns the command line of the program.
 pub(crate) fn program<'a>(alloc: Global) -> Result<Command<'a>, AllocError>
     ensures { IfOk result (λ c. app_of c ≡ line.program) }
 {

@@ -14,9 +14,9 @@ use std::convert::AsStr;
 /// Why a command line makes no request.
 #[derive(Debug, Drop)]
 pub enum LineError {
-    /// Help or the version was asked for: its text.
+    /// The words ask for help or the version: its text.
     Help(String),
-    /// The words are wrong: what is wrong, and how the program is called.
+    /// The words are wrong: the mistake, and how to call the program.
     Usage(String),
     NoMemory,
 }
@@ -24,7 +24,7 @@ pub enum LineError {
 impl LineError {
     ghost use Rattle.sim_job.specs.Status.{status_of};
 
-    /// The exit status of the program: 0 for help, 2 for a mistake, and 4 where there was not enough memory.
+    /// Returns the exit status of the program: 0 for help, 2 for a mistake, 4 for want of memory.
     pub fn status(&self) -> u8
         ensures { result ≡ status_of self.now }
     {
@@ -36,7 +36,7 @@ impl LineError {
     }
 }
 
-/// The number that an argument has, or none.
+/// Returns the number of an argument, or `None`.
 fn number_of(matches: &ArgMatches<'_>, id: &str) -> Option<u64>
     ensures { MatchOption result ((n : ℕ) → ¬ HasNumber id.now (rows_of (found_of matches.now)) n)
         (HasNumber id.now (rows_of (found_of matches.now))) }
@@ -44,7 +44,7 @@ fn number_of(matches: &ArgMatches<'_>, id: &str) -> Option<u64>
     matches.get_one::<u64>(id)
 }
 
-/// The number that an option has, or that it was not given; none where its value is no number.
+/// Returns the number of an option, if it was given, or `None` if its value is no number.
 fn option_of(matches: &ArgMatches<'_>, id: &str) -> Option<Option<u64>>
     ensures { MatchOption result ((n : Option ℕ) → ¬ HasOption id.now (rows_of (found_of matches.now)) n)
         (HasOption id.now (rows_of (found_of matches.now))) }
@@ -52,21 +52,21 @@ fn option_of(matches: &ArgMatches<'_>, id: &str) -> Option<Option<u64>>
     matches.try_get_one::<u64>(id).ok()
 }
 
-/// The word that an argument has, or none.
+/// Returns the word of an argument, or `None`.
 fn word_of<'a>(matches: &ArgMatches<'a>, id: &str) -> Option<&'a str>
     ensures { option_map (λ s. s.now) result ≡ first_of id.now (rows_of (found_of matches.now)) }
 {
     matches.get_str(id)
 }
 
-/// Whether a flag is set.
+/// Returns whether a flag is set.
 fn flag_of(matches: &ArgMatches<'_>, id: &str) -> bool
     ensures { HasFlag id.now (rows_of (found_of matches.now)) result }
 {
     matches.get_flag(id)
 }
 
-/// How many workers there are to be, from 1 to 16, or none.
+/// Returns the number of workers, 1 to 16, or `None`.
 fn workers_of(matches: &ArgMatches<'_>) -> Option<u64>
     ensures { MatchOption result ((n : ℕ) → ¬ HasWorkers (rows_of (found_of matches.now)) n)
         (HasWorkers (rows_of (found_of matches.now))) }
@@ -79,7 +79,7 @@ fn workers_of(matches: &ArgMatches<'_>) -> Option<u64>
     }
 }
 
-/// The workers that are asked for, or none where their number is missing.
+/// Returns the workers, or `None` if their number is missing.
 fn team_of(matches: &ArgMatches<'_>) -> Option<Team>
     ensures { MatchOption result ((team : Team) → ¬ HasTeam (rows_of (found_of matches.now)) team)
         (HasTeam (rows_of (found_of matches.now))) }
@@ -90,7 +90,7 @@ fn team_of(matches: &ArgMatches<'_>) -> Option<Team>
     })
 }
 
-/// The faults that are asked for, or none where a value is missing.
+/// Returns the plan of the faults, or `None` if a value is missing.
 fn fault_plan_of(matches: &ArgMatches<'_>) -> Option<FaultPlan>
     ensures { MatchOption result ((plan : FaultPlan) → ¬ HasFaultPlan (rows_of (found_of matches.now)) plan)
         (HasFaultPlan (rows_of (found_of matches.now))) }
@@ -101,7 +101,7 @@ fn fault_plan_of(matches: &ArgMatches<'_>) -> Option<FaultPlan>
     })
 }
 
-/// The play that is asked for.
+/// Returns the play that the words ask for.
 fn play_of<'a>(matches: &ArgMatches<'a>) -> Job<'a>
     ensures { Asks (codes "play") (rows_of (found_of matches.now)) result }
 {
@@ -110,7 +110,7 @@ fn play_of<'a>(matches: &ArgMatches<'a>) -> Job<'a>
     }
 }
 
-/// The search that is asked for, or none where a value is missing.
+/// Returns the search that the words ask for, or `None` if a value is missing.
 fn search_of<'a>(matches: &ArgMatches<'a>) -> Option<Job<'a>>
     ensures { MatchOption result ((asked : Job) → ¬ Asks (codes "search") (rows_of (found_of matches.now)) asked)
         (Asks (codes "search") (rows_of (found_of matches.now))) }
@@ -124,7 +124,7 @@ fn search_of<'a>(matches: &ArgMatches<'a>) -> Option<Job<'a>>
     })
 }
 
-/// The sweep that is asked for, or none where a value is missing.
+/// Returns the sweep that the words ask for, or `None` if a value is missing.
 fn sweep_of<'a>(matches: &ArgMatches<'a>) -> Option<Job<'a>>
     ensures { MatchOption result ((asked : Job) → ¬ Asks (codes "sweep") (rows_of (found_of matches.now)) asked)
         (Asks (codes "sweep") (rows_of (found_of matches.now))) }
@@ -143,7 +143,7 @@ fn sweep_of<'a>(matches: &ArgMatches<'a>) -> Option<Job<'a>>
     })
 }
 
-/// The script that is asked for, or none where a value is missing.
+/// Returns the script that the words ask for, or `None` if a value is missing.
 fn script_of<'a>(matches: &ArgMatches<'a>) -> Option<Job<'a>>
     ensures { MatchOption result ((asked : Job) → ¬ Asks (codes "script") (rows_of (found_of matches.now)) asked)
         (Asks (codes "script") (rows_of (found_of matches.now))) }
@@ -155,7 +155,7 @@ fn script_of<'a>(matches: &ArgMatches<'a>) -> Option<Job<'a>>
     })
 }
 
-/// The shrinking that is asked for, or none where a value is missing.
+/// Returns the shrinking that the words ask for, or `None` if a value is missing.
 fn shrink_of<'a>(matches: &ArgMatches<'a>) -> Option<Job<'a>>
     ensures { MatchOption result ((asked : Job) → ¬ Asks (codes "shrink") (rows_of (found_of matches.now)) asked)
         (Asks (codes "shrink") (rows_of (found_of matches.now))) }
@@ -166,7 +166,7 @@ fn shrink_of<'a>(matches: &ArgMatches<'a>) -> Option<Job<'a>>
     })
 }
 
-/// The log that is asked for, or none where a value is missing.
+/// Returns the log that the words ask for, or `None` if a value is missing.
 fn log_of<'a>(matches: &ArgMatches<'a>) -> Option<Job<'a>>
     ensures { MatchOption result ((asked : Job) → ¬ Asks (codes "log") (rows_of (found_of matches.now)) asked)
         (Asks (codes "log") (rows_of (found_of matches.now))) }
@@ -178,7 +178,7 @@ fn log_of<'a>(matches: &ArgMatches<'a>) -> Option<Job<'a>>
     })
 }
 
-/// The page that is asked for.
+/// Returns the page that the words ask for.
 fn page_of<'a>(matches: &ArgMatches<'a>) -> Job<'a>
     ensures { Asks (codes "page") (rows_of (found_of matches.now)) result }
 {
@@ -188,7 +188,7 @@ fn page_of<'a>(matches: &ArgMatches<'a>) -> Job<'a>
     }
 }
 
-/// The job of a subcommand, or none where a value is missing.
+/// Returns the job of a subcommand, or `None` if a value is missing.
 fn asked_by<'a>(name: &str, matches: &ArgMatches<'a>) -> Option<Job<'a>>
     ensures { MatchOption result ((asked : Job) → ¬ Asks name.now (rows_of (found_of matches.now)) asked)
         (Asks name.now (rows_of (found_of matches.now))) }
@@ -205,7 +205,7 @@ fn asked_by<'a>(name: &str, matches: &ArgMatches<'a>) -> Option<Job<'a>>
     }
 }
 
-/// The request of the matches, or none where a value is missing.
+/// Returns the request of the matches, or `None` if a value is missing.
 fn asked_in<'a>(matches: &ArgMatches<'a>) -> Option<Request<'a>>
     ensures { MatchOption result
         ((name : _) (rows : _) (asked : Job) → subcommand_rows_of matches.now ≡ Some (name, rows) → ¬ Asks name rows asked)
@@ -219,7 +219,7 @@ fn asked_in<'a>(matches: &ArgMatches<'a>) -> Option<Request<'a>>
     })
 }
 
-/// What a fault of clap's is here.
+/// Returns the line error of an error of clap's.
 fn line_fault(alloc: Global, error: &Error) -> LineError
     ensures help { IsHelp result → (kind_of error.now ≡ ErrorKind.DisplayHelp) ⊎ (kind_of error.now ≡ ErrorKind.DisplayVersion) }
     ensures usage { IsUsage result → (kind_of error.now ≢ ErrorKind.OutOfMemory) × (kind_of error.now ≢ ErrorKind.DisplayHelp)
@@ -240,7 +240,7 @@ fn line_fault(alloc: Global, error: &Error) -> LineError
     }
 }
 
-/// What is told where clap takes the words and yet a value is missing.
+/// Returns the error if clap accepts the words and yet a value is missing.
 fn missing_value(alloc: Global) -> LineError
     ensures { ¬ IsHelp result }
 {
@@ -250,7 +250,7 @@ fn missing_value(alloc: Global) -> LineError
     }
 }
 
-/// The request that the words of a command line make, the first of which names the program.
+/// Returns the request that the words of a command line make. The first word names the program.
 pub fn request<'a, S: AsStr>(alloc: Global, words: &'a [S]) -> Result<Request<'a>, LineError>
     ensures answer { MatchResult result (IsRequestOf (map S.text words.entry.now)) (IsFault (map S.text words.entry.now)) }
     ensures workers { IfOk result (λ asked. HasFewWorkers asked.job) }

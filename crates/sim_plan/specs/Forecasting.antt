@@ -1,4 +1,4 @@
--- What a forecast has yet to give.
+-- The events that a forecast has yet to give.
 use Rattle.std.specs.Prelude.{◌+◌, ◌^◌, ◌<◌, ◌≤◌, List}
 use Rattle.std.specs.Option.{ForSome}
 use Rattle.rand_chacha.specs.ChaCha.{word_at}
@@ -11,7 +11,7 @@ abbrev pub yet_planned : Forecast → List Event
 yet_planned f =
     planned_from (word_at 10 f.rng.key f.rng.stream) f.servers f.hosts f.spacing f.quiet f.rng.word_pos f.left (healings f.owed)
 
--- its numbers are within the limits, and the generator does not come to its end
+-- the numbers of a forecast are within the limits, and its generator does not reach its end
 pub record IsForecast (f : Forecast) : Type 0 where
   pub servers : (1 ≤ f.servers) × (f.servers ≤ f.hosts)
   pub hosts : (2 ≤ f.hosts) × (f.hosts ≤ 32)

@@ -1,4 +1,4 @@
--- The planned events of a numbered run: steps, and at random places faults and what heals them.
+-- The planned events of a numbered run: steps and, at random places, faults and their healings.
 use Rattle.std.specs.Prelude.{◌≡◌, ℕ, zero, suc, ◌+◌, ◌-◌, ◌/◌, ◌%◌, ◌==◌, Bool, ◌&&◌, ◌||◌, Option, None, Some, List, [], ◌∷◌, ◌++◌, length, map, replicate, if◌then◌else◌}
 use Rattle.sim_streams.specs.Word.{word}
 use Rattle.sim_world.specs.declared.Event.{Event}
@@ -12,17 +12,17 @@ use Rattle.sim_plan.specs.declared.plan.Plan.{Plan}
 abbrev pub planning : ℕ
 planning = 34
 
--- A wound is healed where two are open, or where one is and the number is odd.
+-- A wound is healed if two are open, or if one is and the number is odd.
 abbrev pub heals : ℕ → List Fault → Bool
 heals v owed = (length owed == 2) || ((v % 2 == 1) && (length owed == 1))
 
--- Of two wounds an even number heals the older, which stands first, and an odd one the other.
+-- Of two wounds an even number heals the older, which comes first; an odd one heals the other.
 abbrev pub healing : ℕ → List Fault → Event × List Fault
 healing k [] = (event.Step, [])
 healing k (f ∷ []) = (event.Fault f, [])
 healing k (f ∷ g ∷ more) = if k % 2 == 0 then (event.Fault f, g ∷ more) else (event.Fault g, f ∷ more)
 
--- the fault of a kind, and what heals it, if it is a wound
+-- the fault of a kind, and its healing, if it is a wound
 abbrev pub fault_of_kind : ℕ → ℕ → ℕ → ℕ → Fault × List Fault
 fault_of_kind kind server a b =
     if kind == 1 then (fault.Crash server, fault.Bounce server ∷ [])
@@ -31,7 +31,7 @@ fault_of_kind kind server a b =
     else if kind == 4 then (fault.CutOneway a b, fault.RepairOneway a b ∷ [])
     else (fault.Bounce server, [])
 
--- The least digit of a number, by 6, says the kind; the rest says the server, and the two hosts, which differ.
+-- The number modulo 6 is the kind; the rest gives the server, and the two hosts, which differ.
 abbrev pub new_fault : ℕ → ℕ → ℕ → Fault × List Fault
 new_fault servers hosts u =
     let x = u / 6 in
@@ -44,18 +44,19 @@ struck servers hosts v owed =
     if heals v owed then healing (v / 2) owed
     else (event.Fault (new_fault servers hosts (v / 2)).0, owed ++ (new_fault servers hosts (v / 2)).1)
 
--- What a word plans: a step, but for each word that the spacing divides. Without a spacing each plans a step.
+-- What a word plans: a step, unless the spacing divides the word. Without a spacing, always a step.
 abbrev pub planned_by : ℕ → ℕ → Option ℕ → ℕ → List Fault → Event × List Fault
 planned_by servers hosts None w owed = (event.Step, owed)
 planned_by servers hosts (Some spacing) w owed =
     if w % spacing == 0 then struck servers hosts (w / spacing) owed else (event.Step, owed)
 
--- A quiet end begins with the healings that are owed, oldest first. Without one they are not made.
+-- A quiet end begins with the healings that are owed, oldest first. Without a quiet end they are
+-- left out.
 abbrev pub quiet_end : ℕ → List Fault → List Event
 quiet_end zero owed = []
 quiet_end (suc q) owed = map event.Fault owed ++ replicate (suc q) event.Step
 
--- n planned events from a place of the stream on, and the quiet end
+-- n planned events, with the words from a place of the stream on, and then the quiet end
 module _ (words : ℕ → ℕ) (servers hosts : ℕ) (spacing : Option ℕ) (quiet : ℕ) where
   abbrev pub planned_from : ℕ → ℕ → List Fault → List Event
   planned_from place zero owed = quiet_end quiet owed
@@ -63,18 +64,18 @@ module _ (words : ℕ → ℕ) (servers hosts : ℕ) (spacing : Option ℕ) (qui
       (planned_by servers hosts spacing (words place) owed).0
       ∷ planned_from (place + 1) n (planned_by servers hosts spacing (words place) owed).1
 
--- The planned events: by the seed, the numbers of servers and hosts, the spacing if there is one, the number of events and the
--- quiet end alone.
+-- The planned events depend on the seed, the numbers of servers and hosts, the spacing if there is
+-- one, the number of events and the quiet end alone.
 unfoldable pub planned_events : List ℕ → ℕ → ℕ → Plan → List Event
 planned_events seed servers hosts plan =
     planned_from (word seed planning) servers hosts plan.spacing plan.quiet 0 plan.events []
 
--- those of a scenario
+-- the planned events of a scenario
 abbrev pub planned : Scenario → Plan → List Event
 planned s plan = planned_events s.seed s.setup.servers s.setup.hosts plan
 
--- The law of planning: one seed, equally many servers and hosts, one spacing or none in both, and the same numbers of events and
--- quiet steps give the same events.
+-- The law of planning: with equal seeds, numbers of servers and hosts, spacings, numbers of events
+-- and quiet steps, the planned events are equal.
 abbrev pub PlansAlike : Scenario → Plan → Type 0
 PlansAlike s plan =
     (t : Scenario) (other : Plan) → t.seed ≡ s.seed → t.setup.servers ≡ s.setup.servers → t.setup.hosts ≡ s.setup.hosts

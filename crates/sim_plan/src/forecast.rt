@@ -9,22 +9,22 @@ use rand_chacha::ChaCha20Rng;
 use rand_core::utils::NextWord;
 use sim_world::Event;
 
-/// What is planned yet.
+/// The events still to plan.
 #[derive(Drop)]
 pub struct Forecast {
-    // What gives the words, and stands at the next one.
+    // The generator of the words, at the next one.
     pub rng: ChaCha20Rng,
     pub servers: u32,
     pub hosts: u32,
-    // One event in so many is a fault or a healing. With none, no word is drawn.
+    // One event in this many is a fault or a healing. With `None`, no word is drawn.
     pub spacing: Option<u32>,
-    // How many events are planned by words yet, and how many quiet steps follow.
+    // The numbers of events still to plan by words, and of quiet steps after them.
     pub left: u32,
     pub quiet: u32,
     pub owed: Owed,
 }
 
-// A fault or a healing, and the healings that are owed then.
+// Returns a fault or a healing, and the healings owed after it.
 fn struck(servers: u32, hosts: u32, v: u32, owed: Owed) -> (Event, Owed)
     requires servers { (1 ≤ servers) × (servers ≤ hosts) }
     requires hosts { (2 ≤ hosts) × (hosts ≤ 32) }
@@ -38,7 +38,7 @@ fn struck(servers: u32, hosts: u32, v: u32, owed: Owed) -> (Event, Owed)
     (Event::Fault(fault), owed.then(healing))
 }
 
-// What a word plans with a spacing, and the healings that are owed then.
+// Returns the event that a word plans with a spacing, and the healings owed after it.
 fn planned_by(servers: u32, hosts: u32, spacing: u32, word: u32, owed: Owed) -> (Event, Owed)
     requires servers { (1 ≤ servers) × (servers ≤ hosts) }
     requires hosts { (2 ≤ hosts) × (hosts ≤ 32) }
@@ -54,7 +54,7 @@ fn planned_by(servers: u32, hosts: u32, spacing: u32, word: u32, owed: Owed) -> 
 }
 
 impl Forecast {
-    // The next event before the quiet end.
+    // Returns the next event before the quiet end.
     fn next_planned(&mut self) -> Event
         requires fine { IsForecast self.old }
         requires some { 0 < self.old.left }
@@ -71,7 +71,7 @@ impl Forecast {
         event
     }
 
-    // The next event of the quiet end.
+    // Returns the next event of the quiet end.
     fn next_quiet(&mut self) -> Option<Event>
         requires fine { IsForecast self.old }
         requires none { self.old.left ≡ 0 }
@@ -98,7 +98,7 @@ impl Forecast {
         }
     }
 
-    /// The next event.
+    /// Returns the next event.
     pub fn next(&mut self) -> Option<Event>
         requires fine { IsForecast self.old }
         ensures fine { IsForecast self.new }

@@ -1,4 +1,4 @@
-//! What heals the faults that are in place: at most two.
+//! The healings of the faults in place: at most two.
 ghost use Rattle.std.specs.Prelude.{◌≡◌, ◌+◌, ◌≤◌, ◌++◌, length};
 ghost use Rattle.sim_plan.specs.Planned.{heals, healing, new_fault};
 ghost use Rattle.sim_plan.specs.Owing.{healings};
@@ -14,7 +14,7 @@ pub enum Owed {
 }
 
 impl Owed {
-    /// Whether a number heals one of them.
+    /// Returns whether a number heals one of them.
     pub fn heals(self, v: u32) -> bool
         ensures value { result ≡ heals v (healings self) }
     {
@@ -25,7 +25,7 @@ impl Owed {
         }
     }
 
-    /// The one that a number takes out, and the others. Where none is owed it is a step.
+    /// Returns the healing that a number picks, or a step if none is owed, and the other healings.
     pub fn taken_out(self, k: u32) -> (Event, Owed)
         ensures event { result.0 ≡ (healing k (healings self)).0 }
         ensures others { healings result.1 ≡ (healing k (healings self)).1 }
@@ -43,7 +43,7 @@ impl Owed {
         }
     }
 
-    /// These, and then what is owed later.
+    /// Returns these, followed by `later`.
     pub fn then(self, later: Owed) -> Owed
         requires { length (healings self) + length (healings later) ≤ 2 }
         ensures { healings result ≡ healings self ++ healings later }
@@ -57,7 +57,7 @@ impl Owed {
     }
 }
 
-/// The fault that a number plans, and what heals it.
+/// Returns the fault that a number plans, and its healing.
 pub fn new_fault(servers: u32, hosts: u32, u: u32) -> (Fault, Owed)
     requires servers { 1 ≤ servers }
     requires hosts { (2 ≤ hosts) × (hosts ≤ 32) }

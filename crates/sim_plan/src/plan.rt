@@ -3,7 +3,7 @@ ghost use Rattle.std.specs.Prelude.{◌≡◌, ◌↔◌, ◌≤◌, IsTrue};
 ghost use Rattle.std.specs.Option.{ForSome};
 ghost use Rattle.sim_plan.specs.Happening.{IsPlan};
 
-/// The widest spacing of a plan; the closest is 2.
+/// The widest spacing of a plan; the narrowest is 2.
 pub const MAX_SPACING: u32 = 65_536;
 
 /// The most given events, planned events and quiet steps of a run together.
@@ -12,21 +12,21 @@ pub const MAX_PLANNED: u64 = 65_534;
 /// How a run is planned.
 #[derive(Clone, Copy, Debug, PartialEq, Eq)]
 pub struct Plan {
-    /// One event in so many is a fault or a healing, on average: 2 to 65,536. With none, each planned
-    /// event is a step.
+    /// One event in this many is a fault or a healing, on average: 2 to 65,536. With `None`, each
+    /// planned event is a step.
     pub spacing: Option<u32>,
-    /// How many events are planned before the quiet end.
+    /// The number of events planned before the quiet end.
     pub events: u32,
-    /// How many steps the quiet end has. With none, the faults that are left are not healed.
+    /// The number of steps of the quiet end. With 0, the faults that are left are not healed.
     pub quiet: u32,
-    /// Whether a condition is looked at after the last event alone.
+    /// Whether the condition is tested only after the last event.
     pub at_end: bool,
 }
 
 impl Plan {
-    /// Whether the plan, after so many given events, is within the limits: the spacing, if there is
-    /// one, is 2 to 65,536, and given events, planned events and quiet steps are at most 65,534
-    /// together.
+    /// Returns whether the plan, after `given` given events, is within the limits: the spacing, if
+    /// there is one, is 2 to 65,536, and given events, planned events and quiet steps are at most
+    /// 65,534 together.
     pub fn is_within(&self, given: usize) -> bool
         ensures { IsTrue result ↔ IsPlan given self.now }
     {
@@ -34,7 +34,7 @@ impl Plan {
         self.is_spaced() && steps <= MAX_PLANNED && given as u64 <= MAX_PLANNED - steps
     }
 
-    // Whether the spacing, if there is one, is within the limits.
+    // Returns whether the spacing, if there is one, is within the limits.
     fn is_spaced(&self) -> bool
         ensures { IsTrue result ↔ ForSome self.now.spacing (λ f. (2 ≤ f) × (f ≤ 65536)) }
     {

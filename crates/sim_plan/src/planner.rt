@@ -13,7 +13,7 @@ use rand_core::SeedableRng;
 use sim_world::{Event, Scenario};
 use std::marker::Model;
 
-// The stream of the words that plan faults, the first that no world has.
+// The stream of the words that plan faults: the first that no world has.
 const PLANNING: u64 = 34;
 
 /// The given events and then the planned events of a scenario, one by one. It takes no memory.
@@ -37,7 +37,7 @@ impl<'a> Model for Planner<'a> {
     ghost invariant = { λ p. IsForecast p.forecast };
 }
 
-// What a scenario of this seed plans.
+// Returns the forecast of a scenario with this seed.
 fn forecast(scenario: &Scenario, seed: [u8; 32], plan: Plan) -> Forecast
     requires seed { seed ≡ scenario.now.seed }
     requires plan { IsPlan 0 plan }
@@ -58,7 +58,7 @@ fn forecast(scenario: &Scenario, seed: [u8; 32], plan: Plan) -> Forecast
     }
 }
 
-// A forecast that plans nothing.
+// Returns a forecast that plans nothing.
 fn nothing() -> Forecast
     ensures fine { IsForecast result }
     ensures events { yet_planned result ≡ [] }
@@ -75,7 +75,7 @@ fn nothing() -> Forecast
 }
 
 impl<'a> Planner<'a> {
-    /// The given events, and then the planned events of a scenario of this seed.
+    /// Returns the given events, followed by the planned events of a scenario with this seed.
     pub fn new(scenario: &Scenario, seed: [u8; 32], given: &'a [Event], plan: Plan) -> Planner<'a>
         requires seed { seed ≡ scenario.now.seed }
         requires plan { IsPlan (length given.now) plan }
@@ -87,7 +87,7 @@ impl<'a> Planner<'a> {
         Planner { given, forecast }
     }
 
-    /// These events alone.
+    /// Returns a planner of these events alone.
     pub fn of_events(events: &'a [Event]) -> Planner<'a>
         ensures { result ≡ events.now }
     {

@@ -8,8 +8,8 @@ use sim_node::Node;
 use sim_world::{Event, Scenario, Undo, World};
 use std::alloc::Global;
 
-/// The run of a scenario: of the given events and then of the planned ones, those that can happen, one after the other. The seed
-/// is the scenario's. The only error is want of memory.
+/// Returns the run of a scenario: those of the given events, and then of the planned ones, that can
+/// happen, in order. The seed must be the scenario's. Fails only for want of memory.
 pub fn run_of<N: Node>(
     alloc: Global,
     scenario: &Scenario,
@@ -26,7 +26,8 @@ pub fn run_of<N: Node>(
     run_of_planner::<N>(alloc, scenario, planner, meter)
 }
 
-/// The run that the events of a planner make: those that can happen, one after the other. The only error is want of memory.
+/// Returns the run of a planner's events: those that can happen, in order. Fails only for want of
+/// memory.
 pub fn run_of_planner<N: Node>(
     alloc: Global,
     scenario: &Scenario,

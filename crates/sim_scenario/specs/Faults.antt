@@ -1,4 +1,4 @@
--- The faults that the reader answers, as the faults of the format.
+-- The faults that the reader returns, as the faults of the format.
 use Rattle.std.specs.Prelude.{◌≡◌, ◌≢◌, ℕ, List, codes, Result, Ok, Err, string_bytes}
 use Rattle.sim_scenario.specs.declared.fault.Key.{Key}
 use Rattle.sim_scenario.specs.declared.fault.Key.TheVariants.{Format, Seed, Protocol, Tick, LatencyMin, LatencyMax, Loss, Servers, Checkpoint, Window, Client, DiskLatency, Link}
@@ -6,7 +6,7 @@ use Rattle.sim_scenario.specs.declared.fault.ScenarioFault.{ScenarioFault}
 use Rattle.sim_scenario.specs.declared.fault.ScenarioFault.TheVariants as reader
 use Rattle.sim_scenario.specs.Scenario.{Fault, text_fault}
 
--- a key as it stands in a text
+-- a key as written in a text
 abbrev pub key_text : Key → List ℕ
 key_text Format = codes "format"
 key_text Seed = codes "seed"
@@ -22,7 +22,8 @@ key_text Client = codes "client"
 key_text DiskLatency = codes "disk_latency"
 key_text Link = codes "link"
 
--- The number of a fault and the key that is written with it. Want of memory is no fault of the text, and has the number 0.
+-- The number of a fault and the key written with it. Want of memory is no fault of the text, and
+-- has number 0.
 abbrev pub fault_of : ScenarioFault → Fault
 fault_of reader.TooLong = text_fault 1
 fault_of reader.NotToml = text_fault 2
@@ -42,7 +43,7 @@ fault_of reader.BadLink = record { number = 13; key = codes "link" }
 fault_of reader.RepeatedLink = record { number = 14; key = codes "link" }
 fault_of reader.NoMemory = record { number = 0; key = codes "memory" }
 
--- What a step of the reader answers is what the format says, unless memory was refused.
+-- The result of a step of the reader is that of the format, unless memory was refused.
 abbrev pub Gives : {X Y : Type 0} → (X → Y) → Result X ScenarioFault → Result Y Fault → Type 0
 Gives view (Ok x) said = said ≡ Ok (view x)
 Gives view (Err e) said = e ≢ reader.NoMemory → said ≡ Err (fault_of e)

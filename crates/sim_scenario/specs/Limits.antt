@@ -1,9 +1,9 @@
--- The limits of a run, within which every scenario that is read stays.
+-- The limits of a run. Every scenario that is read is within them.
 use Rattle.std.specs.Prelude.{ℕ, ◌<◌, ◌≤◌, length, slice_index}
 use Rattle.sim_links.specs.Ways.{way, IsWay}
 use Rattle.sim_scenario.specs.Scenario.{ScenarioText}
 
--- There are at least one server and one client, at most 32 hosts, and 1 to 1000 operations for each client.
+-- At least one server and one client, at most 32 hosts, and 1 to 1000 operations for each client.
 pub record IsWithinLimits (s : ScenarioText) : Type 0 where
   pub tick : (1 ≤ s.tick) × (s.tick ≤ 60000)
   pub ways : (a b : ℕ) → a < 32 → b < 32 → IsWay (way a b s.ways)

@@ -10,6 +10,6 @@ link_said link = record { source = link.source.now; target = link.target.now; wa
 abbrev pub link_seen : ReadLink → Link
 link_seen link = record { source = link.source; target = link.target; way = link.way }
 
--- both hosts stand in the table of ways
+-- both hosts are in the table of ways
 abbrev pub IsInTable : ReadLink → Type 0
 IsInTable link = (link.source < 32) × (link.target < 32)

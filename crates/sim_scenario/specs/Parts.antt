@@ -10,7 +10,7 @@ use Rattle.sim_scenario.specs.declared.reading.Opening.{Opening}
 use Rattle.sim_scenario.specs.declared.reading.Rest.{Rest}
 use Rattle.sim_scenario.specs.Scenario.{Fault, ScenarioText, LinkText, Link, known_keys, client_keys, link_keys, is_format_2, links_fault, link_text, link_tables, links, links_between, host_fault, pair_fault, with_links, unknown_key, keyed, at_key, whole_fault, string_fault, list_fault, names_fault, clients_fault, is_name, is_within, wrong_type, out_of_range, is_seed, Protocol, place_named, protocol_of, least_servers, whole, text_at, server_names, clients, repeated_from, first_32}
 
--- a value, where there is no fault
+-- a value, if there is no fault
 abbrev pub checked : {A : Type 0} → Option Fault → A → Result A Fault
 checked None value = Ok value
 checked (Some fault) value = Err fault
@@ -29,7 +29,7 @@ format_of doc = checked (at_key (codes "format") doc (whole_fault (is_within 1 2
 unfoldable pub seed_of : Members → Result (List ℕ) Fault
 seed_of doc = checked (at_key (codes "seed") doc (string_fault is_seed 6)) (unwrap_or (result_ok (decode_of (text_at (codes "seed") doc))) [])
 
--- a number at a key, whose faults are written with another
+-- the number at a key, whose faults are written with another key
 unfoldable pub number_of : List ℕ → List ℕ → ℕ → ℕ → Members → Result ℕ Fault
 number_of name key low high doc = checked (keyed key (whole_fault (is_within low high) out_of_range (get_member name doc))) (whole name doc)
 
@@ -50,19 +50,19 @@ client_of client = do
   operations ← number_of (codes "ops") (codes "client") 1 1000 client
   Ok (name, operations)
 
--- some clients after those whose names and operations are there
+-- some clients after those with these names and operations
 unfoldable pub listed : List (List ℕ) → List ℕ → List Members → Result (List (List ℕ) × List ℕ) Fault
 listed names operations [] = Ok (names, operations)
 listed names operations (client ∷ more) = do
   first ← client_of client
   listed (names ++ first.0 ∷ []) (operations ++ first.1 ∷ []) more
 
--- the names, with those of the clients after them, and the operations of the clients
+-- the names, followed by those of the clients, and the operations of the clients
 unfoldable pub clients_of : List (List ℕ) → Members → Result (List (List ℕ) × List ℕ) Fault
 clients_of names doc =
     checked (at_key (codes "client") doc (list_fault clients_fault as_table)) (names ++ map (text_at (codes "name")) (clients doc), map (whole (codes "ops")) (clients doc))
 
--- how long a sync takes, which only format 2 says
+-- the latency of a sync, which only format 2 gives
 unfoldable pub disk_latency_of : Members → Result ℕ Fault
 disk_latency_of doc = if is_format_2 doc then number_of (codes "disk_latency") (codes "disk_latency") 0 60000 doc else Ok 0
 
@@ -91,14 +91,14 @@ link_of link = do
   way ← link_way_of link
   Ok (record { source = source; target = target; way = way })
 
--- some links after those that are there
+-- some links after those read so far
 unfoldable pub linked : List LinkText → List Members → Result (List LinkText) Fault
 linked done [] = Ok done
 linked done (link ∷ more) = do
   first ← link_of link
   linked (done ++ first ∷ []) more
 
--- the links, which only format 2 has
+-- the links, which only format 2 gives
 unfoldable pub links_in : Members → Result (List LinkText) Fault
 links_in doc = checked (if is_format_2 doc then at_key (codes "link") doc links_fault else None) (links doc)
 
@@ -106,7 +106,7 @@ links_in doc = checked (if is_format_2 doc then at_key (codes "link") doc links_
 unfoldable pub placed : List (List ℕ) → List LinkText → Result (List Link) Fault
 placed names links = checked (host_fault (links_between names links)) (unwrap_or (links_between names links) [])
 
--- no two links are those of one pair
+-- no two links are of the same pair
 unfoldable pub linked_ways : Way → List Link → Result Ways Fault
 linked_ways way links = checked (pair_fault links) (with_links links (all way))
 
@@ -126,11 +126,11 @@ module _ (protocols : List Protocol) where
   unfoldable pub protocol_in : Members → Result ℕ Fault
   protocol_in doc = checked (at_key (codes "protocol") doc (string_fault (λ s. is_some (place_named protocols s)) 7)) (protocol_of protocols doc)
 
-  -- there are as many hosts, and servers, as may be
+  -- the numbers of hosts and of servers are within the limits
   unfoldable pub count_of : ℕ → ℕ → ℕ → Result (Unit {0}) Fault
   count_of protocol servers hosts = checked (if nat_lt 32 hosts || nat_lt servers (least_servers protocols protocol) then Some (record { number = 11; key = codes "servers" }) else None) tt
 
-  -- how many hosts there are, their names, and the links between them
+  -- the number of hosts, their names, and the links between them
   unfoldable pub joined_in : Opening → ℕ → List (List ℕ) → List ℕ → Rest → List LinkText → Result ScenarioText Fault
   joined_in opening servers hosts operations rest links = do
     fitting ← count_of opening.protocol servers (length hosts)
@@ -150,7 +150,7 @@ module _ (protocols : List Protocol) where
       window = rest.window;
     })
 
-  -- the hosts and the links, and what comes between them
+  -- the hosts and the links, and the parts between them
   unfoldable pub hosts_in : Opening → Members → Result ScenarioText Fault
   hosts_in opening doc = do
     servers ← servers_of doc
@@ -161,7 +161,7 @@ module _ (protocols : List Protocol) where
     links ← links_in doc
     joined_in opening (length servers) hosts.0 hosts.1 (record { checkpoint = checkpoint; window = window; disk_latency = disk_latency }) links
 
-  -- what a document says, part by part
+  -- the scenario of a document, part by part
   unfoldable pub scenario_in : Members → Result ScenarioText Fault
   scenario_in doc = do
     known ← keys_of doc

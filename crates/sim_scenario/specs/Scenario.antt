@@ -1,4 +1,5 @@
--- The text of a scenario: a TOML document with these keys and no others, and the faults of other texts in the order in which they are looked for.
+-- The text of a scenario: a TOML document with these keys and no others, and the faults of other
+-- texts in the order in which they are checked.
 use Rattle.std.specs.Prelude.{ℕ, zero, suc, ◌+◌, ◌==◌, nat_lt, nat_le, Bool, true, false, ◌&&◌, ◌||◌, ℤ, pos, negsuc, codes, List, [], ◌∷◌, ◌++◌, length, map, take, replicate, Option, Some, None, is_some, Result, Ok, Err, if◌then◌else◌}
 use Rattle.std.specs.Option.{unwrap_or, option_map, option_and_then}
 use Rattle.std.specs.Result.{result_ok}
@@ -10,17 +11,17 @@ use Rattle.toml.specs.Parse.{parse_document}
 use Rattle.sim_links.specs.declared.Way.{Way}
 use Rattle.sim_links.specs.Ways.{Ways, all, with_way}
 
--- what a scenario says
+-- the contents of a scenario
 --     names            the hosts in the order of their numbers, the servers first
 --     protocol         its place in the list of the protocols
 --     seed             32 bytes
---     tick             how long a tick is (ms)
---     ways             the latencies (ms) and the loss (in a thousand) of each ordered pair of hosts
---     disk_latency     how long a sync takes (ms)
---     servers          how many there are
---     ops              each host's operations, of which a server has none
---     checkpoint       how many events lie between two checkpoints
---     window           how many events can be undone by their records
+--     tick             the length of a tick (ms)
+--     ways             the latencies (ms) and the loss per thousand of each ordered pair
+--     disk_latency     the latency of a sync (ms)
+--     servers          the number of servers
+--     ops              each host's operations; a server has none
+--     checkpoint       the number of events between two checkpoints
+--     window           the number of events that their records can undo
 pub record ScenarioText : Type 0 where
   pub names : List (List ℕ)
   pub protocol : ℕ
@@ -33,14 +34,14 @@ pub record ScenarioText : Type 0 where
   pub checkpoint : ℕ
   pub window : ℕ
 
--- why a text is no scenario: a number, and the key that is written with it
+-- why a text is no scenario: a number, and the key written with it
 pub record Fault : Type 0 where
   pub number : ℕ
   pub key : List ℕ
 
 -- a protocol that a scenario may name
---     name              as it stands in the text
---     least_servers     how many servers it needs
+--     name              its name in the text
+--     least_servers     the number of servers that it needs
 pub record Protocol : Type 0 where
   pub name : List ℕ
   pub least_servers : ℕ
@@ -51,7 +52,7 @@ place_named [] name = None
 place_named (p ∷ ps) name =
     if bytes_eq name p.name then Some 0 else option_map (λ place. place + 1) (place_named ps name)
 
--- how many servers the protocol at a place needs
+-- the number of servers that the protocol at a place needs
 abbrev pub least_servers : List Protocol → ℕ → ℕ
 least_servers [] place = 0
 least_servers (p ∷ ps) zero = p.least_servers
@@ -71,7 +72,7 @@ begins_with_letter (c ∷ cs) = is_letter c
 abbrev pub is_name : List ℕ → Bool
 is_name name = (nat_le (length name) 16 && begins_with_letter name) && list_all (λ c. is_letter c || is_digit c) name
 
--- the keys, in the order in which their faults are looked for
+-- the keys, in the order in which their faults are checked
 abbrev pub top_keys : List (List ℕ)
 top_keys =
     codes "format" ∷ codes "seed" ∷ codes "protocol" ∷ codes "tick" ∷ codes "latency_min" ∷ codes "latency_max" ∷ codes "loss"
@@ -90,7 +91,7 @@ client_keys = codes "name" ∷ codes "ops" ∷ []
 abbrev pub is_known : List (List ℕ) → List ℕ → Bool
 is_known known key = list_any (same_key key) known
 
--- A document has its keys in byte order, so the first that is not known is the least.
+-- A document has its keys in byte order, so the first unknown key is the least.
 abbrev pub unknown_key : List (List ℕ) → Members → Option (List ℕ)
 unknown_key known no_members = None
 unknown_key known (member key value rest) = if is_known known key then unknown_key known rest else Some key
@@ -113,7 +114,7 @@ abbrev pub is_within : ℕ → ℕ → ℤ → Bool
 is_within lo hi (pos n) = nat_le lo n && nat_le n hi
 is_within lo hi (negsuc n) = false
 
--- a whole number that must pass a test, and the number of the fault where it does not
+-- a whole number that must pass a test, and the number of the fault if it does not
 abbrev pub whole_fault : (ℤ → Bool) → ℕ → Option Data → Option ℕ
 whole_fault test own None = Some missing
 whole_fault test own (Some (integer z)) = if test z then None else Some own
@@ -125,7 +126,7 @@ string_fault test own None = Some missing
 string_fault test own (Some (string s)) = if test s then None else Some own
 string_fault test own (Some _) = Some wrong_type
 
--- the list of an array whose elements all are of one kind, or the number of a fault
+-- the list of an array whose elements are all of one kind, or the number of a fault
 abbrev pub all_some : {A B : Type 0} → (A → Option B) → List A → Option (List B)
 all_some f [] = Some []
 all_some f (x ∷ xs) = option_and_then (λ y. option_map (λ ys. y ∷ ys) (all_some f xs)) (f x)
@@ -147,7 +148,7 @@ abbrev pub list_fault : {B : Type 0} → (List B → Option ℕ) → (Data → O
 list_fault own f None = Some missing
 list_fault own f (Some d) = elim (list_of f d) [ None ↦ Some wrong_type | Some xs ↦ if is_empty xs then Some out_of_range else own xs ]
 
--- names: 10 where one is bad
+-- names: 10 if one is bad
 abbrev pub names_fault : List (List ℕ) → Option ℕ
 names_fault names = if list_all is_name names then None else Some 10
 
@@ -162,7 +163,7 @@ client_fault client = first_some
 abbrev pub clients_fault : List Members → Option ℕ
 clients_fault clients = first_some (map client_fault clients)
 
--- What a document says, where a key may be missing or wrong.
+-- The values of a document, in which a key may be missing or wrong.
 abbrev pub whole : List ℕ → Members → ℕ
 whole key doc = elim (option_and_then as_integer (get_member key doc)) [ None ↦ 0 | Some z ↦ elim z [ pos n ↦ n | negsuc n ↦ 0 ] ]
 
@@ -182,7 +183,7 @@ host_names doc = server_names doc ++ map (text_at (codes "name")) (clients doc)
 abbrev pub protocol_of : List Protocol → Members → ℕ
 protocol_of protocols doc = unwrap_or (place_named protocols (text_at (codes "protocol") doc)) 0
 
--- the way that a table says: the latencies and the loss
+-- the way that a table gives: the latencies and the loss
 abbrev pub way_of : Members → Way
 way_of members = record { latency_min = whole (codes "latency_min") members; latency_max = whole (codes "latency_max") members; loss = whole (codes "loss") members }
 
@@ -209,7 +210,7 @@ abbrev pub links_fault : Option Data → Option ℕ
 links_fault None = None
 links_fault (Some d) = elim (list_of as_table d) [ None ↦ Some wrong_type | Some tables ↦ first_some (map link_fault tables) ]
 
--- a link by the names of its hosts, and how messages go from the source to the target
+-- a link by the names of its hosts, and how messages cross it from the source to the target
 pub record LinkText : Type 0 where
   pub source : List ℕ
   pub target : List ℕ
@@ -230,13 +231,14 @@ pub record Link : Type 0 where
   pub target : ℕ
   pub way : Way
 
--- between two hosts, of which neither is the other
+-- a link between two different hosts
 abbrev pub between : Way → Option ℕ → Option ℕ → Option Link
 between way None target = None
 between way (Some a) None = None
 between way (Some a) (Some b) = if a == b then None else Some (record { source = a; target = b; way = way })
 
--- the link among hosts with these names, or none where its source or its target is no host, or both are one
+-- the link among hosts with these names, or none if its source or its target is no host, or both
+-- are one
 abbrev pub link_between : List (List ℕ) → LinkText → Option Link
 link_between names link = between link.way (position (same_key link.source) names) (position (same_key link.target) names)
 
@@ -247,7 +249,7 @@ abbrev pub host_fault : Option (List Link) → Option Fault
 host_fault None = Some (record { number = 13; key = codes "link" })
 host_fault (Some links) = None
 
--- two links go from one host to one other
+-- two links have the same source and the same target
 abbrev pub is_same_pair : Link → Link → Bool
 is_same_pair x y = (x.source == y.source) && (x.target == y.target)
 
@@ -258,7 +260,7 @@ is_repeated (link ∷ more) = list_any (is_same_pair link) more || is_repeated m
 abbrev pub pair_fault : List Link → Option Fault
 pair_fault links = if is_repeated links then Some (record { number = 14; key = codes "link" }) else None
 
--- the ways with those of some links in place of theirs
+-- the ways, with those of some links replaced
 abbrev pub with_links : List Link → Ways → Ways
 with_links [] ways = ways
 with_links (link ∷ more) ways = with_links more (with_way link.source link.target link.way ways)
@@ -266,7 +268,7 @@ with_links (link ∷ more) ways = with_links more (with_way link.source link.tar
 abbrev pub links_of : Members → Option (List Link)
 links_of doc = links_between (host_names doc) (links doc)
 
--- the way of each ordered pair of hosts: what its link says, and where it has none what the text says for all
+-- the way of each ordered pair of hosts: that of its link, or if it has none, the one for all
 abbrev pub ways_of : Members → Ways
 ways_of doc = with_links (unwrap_or (links_of doc) []) (all (way_of doc))
 
@@ -279,7 +281,7 @@ keyed key fault = option_map (λ number. record { number = number; key = key }) 
 abbrev pub at_key : List ℕ → Members → (Option Data → Option ℕ) → Option Fault
 at_key key doc fault = keyed key (fault (get_member key doc))
 
--- the first name, in the order of the hosts, that an earlier host has: its place
+-- the place of the first name, in the order of the hosts, that an earlier host has
 abbrev pub repeated_from : ℕ → List (List ℕ) → List (List ℕ) → Option ℕ
 repeated_from k earlier [] = None
 repeated_from k earlier (name ∷ names) = if list_any (same_key name) earlier then Some k else repeated_from (k + 1) (name ∷ earlier) names
@@ -347,6 +349,6 @@ module _ (protocols : List Protocol) where
   read_document None = Err (text_fault 2)
   read_document (Some doc) = elim (document_fault doc) [ Some fault ↦ Err fault | None ↦ Ok (scenario_of doc) ]
 
-  -- what a text is read as, by its bytes
+  -- the result of reading a text, by its bytes
   abbrev pub read : List ℕ → Result ScenarioText Fault
   read text = if nat_lt 65536 (length text) then Err (text_fault 1) else read_document (parse_document text)

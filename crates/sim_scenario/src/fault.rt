@@ -1,4 +1,4 @@
-//! What is wrong with the text of a scenario.
+//! The faults of the text of a scenario.
 ghost use Rattle.std.specs.Prelude.{◌≡◌, Some};
 ghost use Rattle.sim_scenario.specs.Faults.{key_text, fault_of};
 
@@ -6,7 +6,7 @@ use std::alloc::{AllocError, AllocFailed};
 use std::fmt;
 use thiserror::Error;
 
-/// The keys of a scenario, in the order in which their faults are looked for.
+/// The keys of a scenario, in the order in which their faults are checked.
 #[derive(Clone, Copy, Debug, PartialEq, Eq)]
 pub enum Key {
     Format,
@@ -25,7 +25,7 @@ pub enum Key {
 }
 
 impl Key {
-    /// The key as it stands in a text.
+    /// Returns the key as written in a text.
     pub fn text(self) -> &'static str
         ensures { result.now ≡ key_text self }
     {
@@ -55,7 +55,7 @@ impl fmt::Display for Key {
     }
 }
 
-/// The first thing that is wrong with the text of a scenario, or that memory was wanted and not there.
+/// The first fault of the text of a scenario, or want of memory.
 #[derive(Debug, Drop, Error)]
 pub enum ScenarioFault {
     #[error("the text is longer than 65,536 bytes")]
@@ -115,7 +115,8 @@ impl<T: Drop> From<AllocFailed<T>> for ScenarioFault {
 }
 
 impl ScenarioFault {
-    /// The number of the fault, 1 to 14. Want of memory, which is no fault of the text, has the number 0.
+    /// Returns the number of the fault, 1 to 14, or 0 for want of memory, which is no fault of the
+    /// text.
     pub fn number(&self) -> u8
         ensures { result ≡ (fault_of self.now).number }
     {
@@ -140,8 +141,8 @@ impl ScenarioFault {
         }
     }
 
-    /// The key that is written with the number: the key at fault, `text` for a text that is too long or not TOML, and
-    /// `memory` for want of memory. An unknown key is written as it is, whatever its characters.
+    /// Returns the key that is written with the number: the key at fault, `text` for a text that is
+    /// too long or not TOML, or `memory` for want of memory. An unknown key is returned unchanged.
     pub fn key(&self) -> &str
         ensures { result.now ≡ (fault_of self.now).key }
     {

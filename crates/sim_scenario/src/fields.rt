@@ -14,14 +14,14 @@ use crate::fault::{Key, ScenarioFault};
 use std::alloc::Global;
 use toml::{Table, Value};
 
-/// The value at a key.
+/// Returns the value at a key.
 pub fn field<'a>(table: &'a Table, name: &str) -> Option<&'a Value>
     ensures { option_map (λ v. view v.now) result ≡ get_member name.now (table_view table.now) }
 {
     table.get(name)
 }
 
-/// The first key of a table that is not among the known ones.
+/// Returns the first key of a table that is not among the known ones.
 pub fn unknown_key<'a>(table: &'a Table, known: &[&str]) -> Option<&'a str>
     ensures { option_copied result ≡ scenario.unknown_key (map (λ k. k.now) known.now) (table_view table.now) }
 {
@@ -39,8 +39,8 @@ fn is_among(key: &str, known: &[&str]) -> bool
     known.iter().any(|k| key == *k)
 }
 
-/// The text at a key. Its faults, that the value is missing or of another type, are written with `key`, whatever is asked
-/// of the text.
+/// Returns the text at a key. If the value is missing or of another type, fails with a fault that
+/// is written with `key`, whatever else the format requires of the text.
 pub fn text_at<'a>(table: &'a Table, name: &str, key: Key) -> Result<&'a str, ScenarioFault>
     ensures text { IfOk result (λ text. get_member name.now (table_view table.now) ≡ Some (string text.now)) }
     ensures fault { IfErr result (λ e. (test : List ℕ → Bool) (own : ℕ) →
@@ -55,7 +55,7 @@ pub fn text_at<'a>(table: &'a Table, name: &str, key: Key) -> Result<&'a str, Sc
     }
 }
 
-/// The whole number at a key. Its faults are as those of `text_at`.
+/// Returns the whole number at a key. Its faults are as those of `text_at`.
 pub fn integer_at(table: &Table, name: &str, key: Key) -> Result<i64, ScenarioFault>
     ensures number { IfOk result (λ z. get_member name.now (table_view table.now) ≡ Some (integer z)) }
     ensures fault { IfErr result (λ e. (test : ℤ → Bool) (own : ℕ) →
@@ -70,7 +70,7 @@ pub fn integer_at(table: &Table, name: &str, key: Key) -> Result<i64, ScenarioFa
     }
 }
 
-/// The number at a key, from `low` to `high`. Its faults are written with `key`.
+/// Returns the number at a key, from `low` to `high`. Its faults are written with `key`.
 #[tactic(auto, unfolding(crate::specs::Parts::number_of))]
 pub fn number_at(
     table: &Table,
@@ -89,14 +89,14 @@ pub fn number_at(
     Ok(number as u32)
 }
 
-/// The number at a key of a scenario, from `low` to `high`.
+/// Returns the number at a key of a scenario, from `low` to `high`.
 pub fn number(table: &Table, key: Key, low: u32, high: u32) -> Result<u32, ScenarioFault>
     ensures { faults.Gives (λ n. n) result (parts.number_of (faults.key_text key) (faults.key_text key) low high (table_view table.now)) }
 {
     number_at(table, key.text(), key, low, high)
 }
 
-/// Whether the format is the whole number 2.
+/// Returns whether the format is the whole number 2.
 pub fn is_format_2(table: &Table) -> bool
     ensures { result ≡ scenario.is_format_2 (table_view table.now) }
 {
@@ -106,7 +106,7 @@ pub fn is_format_2(table: &Table) -> bool
     }
 }
 
-/// The format, which is 1 or 2.
+/// Checks that the format is 1 or 2.
 #[tactic(auto, unfolding(crate::specs::Parts::format_of))]
 pub fn format(table: &Table) -> Result<(), ScenarioFault>
     ensures { faults.Gives (λ n. n) result (parts.format_of (table_view table.now)) }
@@ -117,7 +117,7 @@ pub fn format(table: &Table) -> Result<(), ScenarioFault>
     }
 }
 
-/// How long a sync takes, which only format 2 says.
+/// Returns the latency of a sync, which only format 2 gives.
 #[tactic(auto, unfolding(crate::specs::Parts::disk_latency_of))]
 pub fn disk_latency(table: &Table) -> Result<u32, ScenarioFault>
     ensures { faults.Gives (λ n. n) result (parts.disk_latency_of (table_view table.now)) }
@@ -129,7 +129,7 @@ pub fn disk_latency(table: &Table) -> Result<u32, ScenarioFault>
     }
 }
 
-/// The seed, 64 hexadecimal digits.
+/// Returns the seed, 64 hexadecimal digits.
 #[tactic(auto, unfolding(crate::specs::Parts::seed_of))]
 pub fn seed(table: &Table) -> Result<[u8; 32], ScenarioFault>
     ensures { faults.Gives (λ seed. seed) result (parts.seed_of (table_view table.now)) }
@@ -141,7 +141,7 @@ pub fn seed(table: &Table) -> Result<[u8; 32], ScenarioFault>
     }
 }
 
-/// The place of the protocol among those that may be named.
+/// Returns the place of the protocol among those that may be named.
 #[tactic(auto, unfolding(crate::specs::Parts::protocol_in))]
 pub fn protocol<P: Protocols>(table: &Table) -> Result<usize, ScenarioFault>
     requires few { length P.listed ≤ 255 }
@@ -153,7 +153,7 @@ pub fn protocol<P: Protocols>(table: &Table) -> Result<usize, ScenarioFault>
     }
 }
 
-/// The keys that a scenario may have, and last the two that only format 2 has.
+/// The keys that a scenario may have; the last two are for format 2 only.
 static KEYS: [&str; 13] = [
     "format",
     "seed",
@@ -180,7 +180,7 @@ fn keys(table: &Table) -> &'static [&'static str]
     }
 }
 
-/// Each key of a scenario is one that it may have, or else the fault names the first that is not.
+/// Checks that each key of a scenario is a known one. The fault names the first that is not.
 #[tactic(auto, unfolding(crate::specs::Parts::keys_of))]
 pub fn known_keys(alloc: Global, table: &Table) -> Result<(), ScenarioFault>
     ensures { faults.Gives (λ n. n) result (parts.keys_of (table_view table.now)) }

@@ -16,7 +16,7 @@ use indexmap::IndexMap;
 use std::alloc::Global;
 use toml::{Table, Value};
 
-/// Whether a text is a name: 1 to 16 small letters and digits, the first a letter.
+/// Returns whether a text is a name: 1 to 16 small letters and digits, the first a letter.
 pub fn is_name(text: &str) -> bool
     ensures { result ≡ scenario.is_name text.now }
 {
@@ -41,7 +41,7 @@ fn are_name_bytes(bytes: &[u8]) -> bool
         .all(|b| b.is_ascii_lowercase() || b.is_ascii_digit())
 }
 
-/// The texts of an array of texts, or none where the value is anything else.
+/// Returns the texts of an array of texts, or `None` if the value is anything else.
 fn texts(alloc: Global, value: &Value) -> Result<Option<Vec<String>>, NoMemory>
     ensures { IfOk result (λ found. option_map (λ texts. map string_bytes texts.items) found ≡ scenario.list_of as_str (view value.now)) }
 {
@@ -64,7 +64,7 @@ fn item_texts(alloc: Global, items: &[Value]) -> Result<Option<Vec<String>>, NoM
     Ok(Some(texts))
 }
 
-/// The tables of an array of tables, or none where the value is anything else.
+/// Returns the tables of an array of tables, or `None` if the value is anything else.
 pub fn tables(alloc: Global, value: &Value) -> Result<Option<Vec<&Table>>, NoMemory>
     ensures { IfOk result (λ found. option_map (λ tables. map (λ t. table_view t.now) tables.items) found ≡ scenario.list_of as_table (view value.now)) }
 {
@@ -88,7 +88,7 @@ fn item_tables(alloc: Global, items: &[Value]) -> Result<Option<Vec<&Table>>, No
     Ok(Some(tables))
 }
 
-/// The names of the servers, one or more.
+/// Returns the names of the servers, one or more.
 #[tactic(auto, unfolding(crate::specs::Parts::servers_of))]
 pub fn server_names(alloc: Global, table: &Table) -> Result<Vec<String>, ScenarioFault>
     ensures { faults.Gives (λ names. map string_bytes names.items) result (parts.servers_of (table_view table.now)) }
@@ -120,7 +120,7 @@ struct ClientText<'a> {
     operations: u16,
 }
 
-/// A client has no key but its name and its operations.
+/// Checks that a client has no key but its name and its operations.
 #[tactic(auto, unfolding(crate::specs::Parts::client_keys_of))]
 fn known_client_keys(table: &Table) -> Result<(), ScenarioFault>
     ensures { faults.Gives (λ n. n) result (parts.client_keys_of (table_view table.now)) }
@@ -131,7 +131,7 @@ fn known_client_keys(table: &Table) -> Result<(), ScenarioFault>
     }
 }
 
-/// A client's name.
+/// Returns a client's name.
 #[tactic(auto, unfolding(crate::specs::Parts::client_name_of))]
 fn client_name(table: &Table) -> Result<&str, ScenarioFault>
     ensures { faults.Gives (λ name. name.now) result (parts.client_name_of (table_view table.now)) }
@@ -144,7 +144,7 @@ fn client_name(table: &Table) -> Result<&str, ScenarioFault>
     }
 }
 
-/// A client's name and its operations.
+/// Returns a client's name and its operations.
 #[tactic(auto, unfolding(crate::specs::Parts::client_of))]
 fn client(table: &Table) -> Result<ClientText<'_>, ScenarioFault>
     ensures { faults.Gives (λ client. (client.name.now, client.operations)) result (parts.client_of (table_view table.now)) }
@@ -165,7 +165,7 @@ pub struct Hosts {
     pub operations: Vec<u16>,
 }
 
-/// The servers with the clients of a text, one or more.
+/// Returns the servers with the clients of a text, one or more.
 pub fn all_hosts(alloc: Global, table: &Table, servers: Vec<String>) -> Result<Hosts, ScenarioFault>
     ensures said { faults.Gives (λ hosts. (map string_bytes hosts.names.items, hosts.operations.items)) result
         (parts.clients_of (map string_bytes servers.items) (table_view table.now)) }
@@ -202,7 +202,7 @@ fn with_clients(
     Ok(Hosts { names, operations })
 }
 
-/// The number of each host, by its name, in the order of the names.
+/// Returns the number of each host, by its name, in the order of the names.
 pub fn number_hosts(
     alloc: Global,
     names: Vec<String>,
@@ -227,7 +227,7 @@ pub fn number_hosts(
     Ok(hosts)
 }
 
-/// The operations of each host: none for a server, then those of the clients.
+/// Returns the operations of each host: none for a server, then those of the clients.
 pub fn host_operations(servers: usize, clients: &[u16]) -> [u16; 32]
     requires { servers + length clients.now ≤ 32 }
     ensures { result ≡ scenario.first_32 (replicate servers 0 ++ clients.now) }
@@ -239,7 +239,7 @@ pub fn host_operations(servers: usize, clients: &[u16]) -> [u16; 32]
     operations
 }
 
-/// There are at most 32 hosts, and as many servers as the protocol needs.
+/// Checks that there are at most 32 hosts, and as many servers as the protocol needs.
 #[tactic(auto, unfolding(crate::specs::Parts::count_of))]
 pub fn fitting<P: Protocols>(
     protocol: usize,
@@ -255,7 +255,7 @@ pub fn fitting<P: Protocols>(
     Ok(())
 }
 
-/// The number of the host with a name, or none where no host has it.
+/// Returns the number of the host with a name, or `None` if no host has it.
 pub fn host_number(hosts: &IndexMap<String, u16>, name: &str) -> Option<u16>
     requires { IsNumbered hosts.now }
     ensures { result ≡ position (same_key name.now) (names_in hosts.now) }
@@ -263,7 +263,7 @@ pub fn host_number(hosts: &IndexMap<String, u16>, name: &str) -> Option<u16>
     hosts.get(name).copied()
 }
 
-/// The name of the host with a number, or none where there are no more hosts.
+/// Returns the name of the host with a number, or `None` if there are not as many hosts.
 pub fn host_name(hosts: &IndexMap<String, u16>, number: u16) -> Option<&str>
     ensures { option_copied result ≡ slice_get (names_in hosts.now) number }
 {

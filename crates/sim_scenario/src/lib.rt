@@ -18,15 +18,16 @@
 //!
 //! Why it is built this way:
 //!
-//! - The definition is a list of checks in the order of the documentation's table. The reader has a
-//!   shape of its own, three functions that each end in the next, and lemmas join the two. A long
-//!   function costs the prover more than its pieces, since each early return has all earlier parts
-//!   in hand.
+//! - The definition is a list of checks in the order of the documentation's table. The reader has
+//!   its own shape, three functions that each end in the next, and lemmas join the two. A long
+//!   function costs the prover more than its pieces, since each early return carries all earlier
+//!   parts.
 //! - A link's `source` and `target` may be any string. A string that is no name is no host, so it
 //!   is fault 13 and not fault 10.
 //! - The crate knows no protocol. Its caller gives a list of them, a type that implements
-//!   [`Protocols`]: each has a name and a least number of servers. So a program with protocols of
-//!   its own reads the same texts with the same faults. The crate depends on no node and no world.
+//!   [`Protocols`]: each has a name and a least number of servers. So a program with its own
+//!   protocols reads the same texts with the same faults. The crate depends on no node and no
+//!   world.
 #![tactic(auto)]
 
 mod fault;
@@ -48,40 +49,41 @@ pub use std::alloc::AllocError as NoMemory;
 
 /// The protocols that a scenario may name: a list, in which each has a place.
 pub trait Protocols {
-    /// The name of each protocol, and how many servers it needs.
+    /// The name of each protocol, and the number of servers that it needs.
     ghost listed: { List Protocol };
 
-    /// The place of the first protocol with this name, or none.
+    /// Returns the place of the first protocol with this name, or `None`.
     fn named(name: &str) -> Option<usize>
         requires few { length listed ≤ 255 }
         ensures is { result ≡ scenario.place_named listed name.now }
         ensures within { IfSome result (λ place. place < length listed) };
 
-    /// How many servers the protocol at a place needs.
+    /// Returns the number of servers that the protocol at a place needs.
     fn least_servers(place: usize) -> usize
         ensures { result ≡ scenario.least_servers listed place };
 }
 
-/// What a scenario says.
+/// The contents of a scenario.
 #[derive(Drop)]
 pub struct ScenarioText {
-    /// The number of each host, by its name. The hosts stand in the order of their numbers, the servers first.
+    /// The number of each host, by its name. The hosts are in the order of their numbers, servers
+    /// first.
     pub names: IndexMap<String, u16>,
     /// The place of the protocol in the list of those that may be named.
     pub protocol: usize,
     pub seed: [u8; 32],
-    /// How long a tick is, 1 to 60,000 ms.
+    /// The length of a tick, 1 to 60,000 ms.
     pub tick: u32,
     /// The latencies and the loss of each ordered pair of hosts.
     pub ways: Ways,
-    /// How long a sync takes, 0 to 60,000 ms.
+    /// The latency of a sync, 0 to 60,000 ms.
     pub disk_latency: u32,
-    /// How many servers there are.
+    /// The number of servers.
     pub servers: u16,
     /// The operations of each host, 1 to 1,000 for a client and 0 for a server or no host.
     pub ops: [u16; 32],
-    /// How many events lie between two checkpoints, 1 to 1,024.
+    /// The number of events between two checkpoints, 1 to 1,024.
     pub checkpoint: u32,
-    /// How many events can be undone by their records, 1 to 4,096.
+    /// The number of events that their records can undo, 1 to 4,096.
     pub window: u32,
 }

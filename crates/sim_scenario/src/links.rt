@@ -1,4 +1,4 @@
-//! The links of a scenario: the ways of their own that some ordered pairs of hosts have.
+//! The links of a scenario: ordered pairs of hosts with their own ways.
 ghost use Rattle.std.specs.Prelude.{◌≡◌, ◌≤◌, [], All, length, map};
 ghost use Rattle.std.specs.Option.{option_map};
 ghost use Rattle.std.specs.List.{list_any};
@@ -17,7 +17,7 @@ use sim_links::{Way, Ways};
 use std::alloc::Global;
 use toml::Table;
 
-/// A link by the names of its hosts, and how messages go from the source to the target.
+/// A link by the names of its hosts, and how messages cross it from the source to the target.
 #[derive(Clone, Copy)]
 pub struct LinkText<'a> {
     pub source: &'a str,
@@ -33,7 +33,7 @@ pub struct Link {
     pub way: Way,
 }
 
-/// A link has no key but its hosts and its way.
+/// Checks that a link has no key but its hosts and its way.
 #[tactic(auto, unfolding(crate::specs::Parts::link_keys_of))]
 fn known_link_keys(table: &Table) -> Result<(), ScenarioFault>
     ensures { faults.Gives (λ n. n) result (parts.link_keys_of (table_view table.now)) }
@@ -47,7 +47,7 @@ fn known_link_keys(table: &Table) -> Result<(), ScenarioFault>
     }
 }
 
-/// The name of one of a link's hosts.
+/// Returns the name of one of a link's hosts.
 #[tactic(auto, unfolding(crate::specs::Parts::link_host_of))]
 fn link_host<'a>(table: &'a Table, name: &str) -> Result<&'a str, ScenarioFault>
     ensures { faults.Gives (λ host. host.now) result (parts.link_host_of name.now (table_view table.now)) }
@@ -55,7 +55,7 @@ fn link_host<'a>(table: &'a Table, name: &str) -> Result<&'a str, ScenarioFault>
     text_at(table, name, Key::Link)
 }
 
-/// A number of a link, from `low` to `high`.
+/// Returns a number of a link, from `low` to `high`.
 #[tactic(auto, unfolding(crate::specs::Parts::link_number_of))]
 fn link_number(table: &Table, name: &str, low: u32, high: u32) -> Result<u32, ScenarioFault>
     ensures { faults.Gives (λ n. n) result (parts.link_number_of name.now low high (table_view table.now)) }
@@ -63,7 +63,7 @@ fn link_number(table: &Table, name: &str, low: u32, high: u32) -> Result<u32, Sc
     number_at(table, name, Key::Link, low, high)
 }
 
-/// A link's way.
+/// Returns a link's way.
 #[tactic(auto, unfolding(crate::specs::Parts::link_way_of))]
 fn link_way(table: &Table) -> Result<Way, ScenarioFault>
     ensures { faults.Gives (λ way. way) result (parts.link_way_of (table_view table.now)) }
@@ -78,7 +78,7 @@ fn link_way(table: &Table) -> Result<Way, ScenarioFault>
     })
 }
 
-/// A link's hosts and its way.
+/// Returns a link's hosts and its way.
 #[tactic(auto, unfolding(crate::specs::Parts::link_of))]
 fn read_link(table: &Table) -> Result<LinkText<'_>, ScenarioFault>
     ensures { faults.Gives link_said result (parts.link_of (table_view table.now)) }
@@ -94,7 +94,7 @@ fn read_link(table: &Table) -> Result<LinkText<'_>, ScenarioFault>
     })
 }
 
-/// The links of a text, which only format 2 has.
+/// Returns the links of a text, which only format 2 has.
 pub fn links(alloc: Global, table: &Table) -> Result<Vec<LinkText<'_>>, ScenarioFault>
     ensures { faults.Gives (λ links. map link_said links.items) result (parts.links_in (table_view table.now)) }
 {
@@ -120,7 +120,8 @@ fn linked<'a>(alloc: Global, tables: &[&'a Table]) -> Result<Vec<LinkText<'a>>, 
     Ok(links)
 }
 
-/// A link by the numbers of its hosts, or none where its source or its target is no host, or both are one.
+/// Returns a link by the numbers of its hosts, or `None` if its source or its target is no host, or
+/// both are one.
 fn link_between(names: &IndexMap<String, u16>, link: &LinkText) -> Option<Link>
     requires { IsNumbered names.now }
     ensures { option_map link_seen result ≡ scenario.link_between (names_in names.now) (link_said link.now) }
@@ -137,7 +138,7 @@ fn link_between(names: &IndexMap<String, u16>, link: &LinkText) -> Option<Link>
     })
 }
 
-/// The links by the numbers of their hosts, each from one host to another.
+/// Returns the links by the numbers of their hosts, each from one host to another.
 fn placed(
     alloc: Global,
     names: &IndexMap<String, u16>,
@@ -162,14 +163,14 @@ fn is_same_pair(x: &Link, y: &Link) -> bool
     x.source == y.source && x.target == y.target
 }
 
-/// Whether one of the links goes from and to the hosts of another.
+/// Returns whether one of the links has the source and the target of another.
 fn has_pair_of(link: &Link, links: &[Link]) -> bool
     ensures { result ≡ list_any (λ other. scenario.is_same_pair (link_seen link.now) (link_seen other)) links.now }
 {
     links.iter().any(|other| is_same_pair(link, other))
 }
 
-/// Whether two of the links go from one host to one other.
+/// Returns whether two of the links have the same source and the same target.
 fn is_repeated(links: &[Link]) -> bool
     ensures { result ≡ scenario.is_repeated (map link_seen links.now) }
 {
@@ -181,7 +182,7 @@ fn is_repeated(links: &[Link]) -> bool
     false
 }
 
-/// The ways, where each link has its own and all other pairs have one.
+/// Returns the ways: each link has its own, and all other pairs have `way`.
 fn linked_ways(way: Way, links: &[Link]) -> Result<Ways, ScenarioFault>
     requires { All IsInTable links.now }
     ensures { faults.Gives (λ ways. ways) result (parts.linked_ways way (map link_seen links.now)) }
@@ -196,7 +197,8 @@ fn linked_ways(way: Way, links: &[Link]) -> Result<Ways, ScenarioFault>
     Ok(ways)
 }
 
-/// The ways of some hosts: the links between them have their own, and all other pairs have one.
+/// Returns the ways of some hosts: the links between them have their own, and all other pairs have
+/// `way`.
 #[tactic(auto, unfolding(crate::specs::Parts::ways_in))]
 pub fn ways(
     alloc: Global,

@@ -1,4 +1,4 @@
-//! The whole text of a scenario.
+//! Reads the whole text of a scenario.
 ghost use Rattle.std.specs.Prelude.{◌≡◌, ◌≢◌, ◌≤◌, ◌<◌, ◌+◌, length, IfOk, IfErr, Ok, Err, map, string_bytes, vec_len};
 ghost use Rattle.toml.specs.View.{table_view};
 ghost use Rattle.sim_scenario.specs.Faults as faults;
@@ -21,9 +21,9 @@ use toml::Table;
 /// The longest text of a scenario, in bytes.
 const MAX_TEXT: usize = 65_536;
 
-/// Reads the text of a scenario. An error is the first fault of the text, in the order of the format's description, or
-/// `NoMemory` where memory was refused before the text was read to its first fault or its end. What is read is within the
-/// limits of a run.
+/// Reads the text of a scenario. Fails with the first fault of the text, in the order of the
+/// format's description, or with `NoMemory` if memory was refused before that fault or the end of
+/// the text was reached. The scenario is within the limits of a run.
 pub fn read<P: Protocols>(alloc: Global, text: &str) -> Result<ScenarioText, ScenarioFault>
     requires few { length P.listed ≤ 255 }
     ensures accepted { IfOk result (λ s. scenario.read P.listed text.now ≡ Ok (seen s)) }
@@ -47,7 +47,8 @@ pub fn read<P: Protocols>(alloc: Global, text: &str) -> Result<ScenarioText, Sce
     }
 }
 
-/// What a text says first: the seed, the protocol, the tick in milliseconds, and the way of each pair without a link.
+/// The first part of a text: the seed, the protocol, the tick (ms), and the way of each pair
+/// without a link.
 #[derive(Drop)]
 struct Opening {
     seed: [u8; 32],
@@ -56,7 +57,7 @@ struct Opening {
     way: Way,
 }
 
-/// The numbers that come after the servers: two in events, one in milliseconds.
+/// The numbers after the servers: two in events, one in milliseconds.
 #[derive(Drop)]
 struct Rest {
     checkpoint: u32,
@@ -64,7 +65,7 @@ struct Rest {
     disk_latency: u32,
 }
 
-// Reads what comes first, and then the hosts.
+// Reads the first part, and then the hosts.
 #[tactic(auto, unfolding(crate::specs::Parts::scenario_in))]
 fn read_table<P: Protocols>(alloc: Global, table: &Table) -> Result<ScenarioText, ScenarioFault>
     requires few { length P.listed ≤ 255 }

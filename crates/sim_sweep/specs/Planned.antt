@@ -12,12 +12,12 @@ use Rattle.sim_watch.specs.Search.{first_failing}
 use Rattle.sim_plan.specs.declared.plan.Plan.{Plan}
 use Rattle.sim_plan.specs.Happening.{planned_run}
 
--- Every place of a run is looked at, or the last one alone.
+-- Every place of a run is tested, or the last one alone.
 abbrev pub failing_of_run : {State Msg : Type 0} → Rules State Msg → Bool → Cond → List Event → Option ℕ
 failing_of_run r at_end c run = first_failing r c run (if at_end then length run else 0) (length run)
 
 module _ {State Msg : Type 0} (node : NodeLaws State Msg) (probes : ℕ) (s : Scenario) (given : List Event) (plan : Plan) where
-  -- of the run of seed number i
+  -- the first failing place of the run of seed number i
   abbrev pub failing_of_planned_seed : Cond → ℕ → Option ℕ
   failing_of_planned_seed c i = failing_of_run (rules node probes (numbered i s)) plan.at_end c (planned_run node probes (numbered i s) given plan)
 

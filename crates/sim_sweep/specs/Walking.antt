@@ -8,7 +8,8 @@ use Rattle.sim_watch.specs.Condition.{Cond}
 use Rattle.sim_watch.specs.Search.{fails_at}
 use Rattle.sim_plan.specs.Happening.{happening}
 
--- The world is that of a place of the run, of which the events in `rest` make what follows. The condition did not fail before.
+-- The world is at a place of the run, and the events in `rest` make the remainder of the run. The
+-- condition did not fail before.
 module _ {State Msg : Type 0} (r : Rules State Msg) where
   pub record IsWalking (c : Cond) (at_end : Bool) (run : List Event) (place : ℕ) (w : InHand State Msg) (rest : List Event) : Type 0 where
     pub here : IsAt r run place w

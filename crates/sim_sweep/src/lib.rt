@@ -5,18 +5,18 @@
 //!   failing place and the first such place of that run.
 //! - [`scan_planned`] does it for one run.
 //!
-//! A place is a number of events that happened: an event of the plan that can't happen is left out
-//! of the run. With [`Plan::at_end`](sim_plan::Plan) the last place of each run is looked at alone.
+//! A place is a number of events that happened: an event of the plan that cannot happen is left out
+//! of the run. With [`Plan::at_end`](sim_plan::Plan) only the last place of each run is tested.
 //!
-//! The contract gives the same answer for every number of workers and every order in which their
+//! The contract gives the same result for every number of workers and every order in which their
 //! threads run. A bad range is reported before a bad condition, and both before any work. No
 //! contract says that more than one worker runs, or that a call returns.
 //!
 //! Why it is built this way:
 //!
-//! - A run is walked once, forward. Its steps keep no record, its faults share one record, and the
-//!   planner gives the events without a list of them. So no event of a sweep copies a node.
-//! - A step changes one host alone, so the condition is looked at only after a step of a concerned
+//! - Each run is walked once, forward. Its steps keep no record, its faults share one record, and
+//!   the planner gives the events without a list. So no event of a sweep copies a node.
+//! - A step changes one host alone, so the condition is tested only after a step of a concerned
 //!   host, and after each fault.
 #![tactic(auto)]
 

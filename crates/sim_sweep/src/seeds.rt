@@ -19,13 +19,13 @@ use std::marker::PhantomData;
 use std::sync::Wait;
 use std::thread::Threads;
 
-/// A scenario with its seed, the events that begin each run, and the plan for what follows.
+/// A scenario with its seed, the events that begin each run, and the plan of the events after them.
 #[derive(Drop)]
 pub struct Course<'a> {
     pub scenario: &'a Scenario,
-    /// The scenario's own seed, which a scenario does not show.
+    /// The scenario's own seed, since a scenario does not show it.
     pub seed: [u8; 32],
-    /// Of these the events that can't happen are left out.
+    /// The given events. Those that cannot happen are left out.
     pub given: &'a [Event],
     pub plan: Plan,
 }
@@ -36,7 +36,7 @@ struct Seed {
     bytes: [u8; 32],
 }
 
-/// The seed of run number `i` of a sweep: bytes 24 to 31 are those of `i`, low byte first.
+/// Returns the seed of run number `i` of a sweep: bytes 24 to 31 are those of `i`, low byte first.
 pub fn numbered_seed(seed: [u8; 32], i: u64) -> [u8; 32]
     ensures { result ≡ take 24 seed ++ to_le_bytes w64 i }
 {
@@ -45,7 +45,8 @@ pub fn numbered_seed(seed: [u8; 32], i: u64) -> [u8; 32]
     numbered.bytes
 }
 
-// The numbered runs of a course, each a piece of its own, and a condition that was checked for them.
+// The numbered runs of a course, each a piece of its own, and a condition that was checked for
+// them.
 #[derive(Drop)]
 struct Runs<'a, N: Node> {
     alloc: Global,
@@ -85,7 +86,7 @@ impl<'a, N: Node> Pieces<N::Meter> for Runs<'a, N> {
     }
 }
 
-// Whether there are too many seeds, none, or a seed number is past the greatest.
+// Returns whether there are no seeds or too many, or a seed number is too great.
 fn are_bad(first: u64, count: u64) -> bool
     ensures value { result ≡ are_bad_seeds first count }
     ensures fine { result ≡ false → (0 < count) × (first + count ≤ 2 ^ 64) × (count ≤ 2 ^ 32) }
@@ -93,7 +94,7 @@ fn are_bad(first: u64, count: u64) -> bool
     count == 0 || MAX_SEEDS < count || first > u64::MAX - (count - 1)
 }
 
-// Whether a plan is not within the limits.
+// Returns whether a plan is outside the limits.
 fn is_bad(plan: Plan, given: usize) -> bool
     ensures value { result ≡ is_bad_plan given plan }
     ensures fine { result ≡ false → IsPlan given plan }
@@ -101,7 +102,7 @@ fn is_bad(plan: Plan, given: usize) -> bool
     !plan.is_within(given)
 }
 
-// Whether a sweep of these seeds under this plan is not within the limits.
+// Returns whether a sweep of these seeds under this plan is outside the limits.
 fn is_refused(first: u64, count: u64, plan: Plan, given: usize) -> bool
     ensures value { result ≡ (are_bad_seeds first count || is_bad_plan given plan) }
     ensures some { result ≡ false → (0 < count) × (first + count ≤ 2 ^ 64) × (count ≤ 2 ^ 32) }
@@ -110,13 +111,14 @@ fn is_refused(first: u64, count: u64, plan: Plan, given: usize) -> bool
     are_bad(first, count) || is_bad(plan, given)
 }
 
-/// The first of `count` seeds, from number `first` on, whose run has a place at which a condition fails, and its first such place,
-/// by as many workers as there are meters. The run of a seed has the given events and then the planned ones, without those that
-/// can't happen. With a plan's `at_end` the last place of each run is looked at alone.
+/// Returns the first of `count` seeds, from number `first` on, with a failing place, and the first
+/// such place of its run. There are as many workers as meters. The run of a seed has the given
+/// events and then the planned ones, without those that cannot happen. With the plan's `at_end`
+/// only the last place of each run is tested.
 ///
-/// Each seed is one worker's, and the gate is told of each by its number from 0. `BadRange` where there is no seed, more than
-/// 2^32, a seed number past 2^64 - 1 or a plan that is not within the limits, else `BadCondition` where the condition can't be
-/// asked of this run.
+/// One worker runs each seed, and calls the gate with the seed's number from 0. Fails with
+/// `BadRange` if there is no seed, more than 2^32, a seed number past 2^64 - 1 or a plan outside
+/// the limits, and with `BadCondition` if the condition cannot be used on this run.
 pub fn sweep_planned<N: Node + Send + Sync, G: Gate + Sync, R: Threads + Wait + Sync>(
     rt: &R,
     alloc: Global,

@@ -15,7 +15,7 @@ use sim_watch::{Cond, holds};
 use sim_world::{Event, Scenario, Undo, World};
 use std::alloc::Global;
 
-// A condition, which hosts it is about, and a record to be used again.
+// A condition, the hosts that it is about, and a record to reuse.
 #[derive(Drop)]
 struct Watcher<'a, N: Node> {
     cond: &'a Cond,
@@ -35,7 +35,8 @@ impl<'a, N: Node> Watcher<'a, N> {
         }
     }
 
-    // The world after an event that can happen, and whether the condition can hold otherwise there than before.
+    // Returns the world after an event that can happen, and whether the event may have changed the
+    // condition.
     fn moved(
         &mut self,
         alloc: Global,
@@ -74,7 +75,7 @@ struct Spot<N: Node> {
 }
 
 impl<N: Node> Spot<N> {
-    // The start of a run.
+    // Returns the start of a run.
     fn start(
         alloc: Global,
         scenario: &Scenario,
@@ -96,7 +97,7 @@ impl<N: Node> Spot<N> {
         })
     }
 
-    // The spot after an event, or this one where the event can't happen.
+    // Returns the spot after an event, or this one if the event cannot happen.
     fn passed(
         self,
         alloc: Global,
@@ -137,7 +138,7 @@ impl<N: Node> Spot<N> {
         })
     }
 
-    // Whether the condition fails there, and not the last place alone is looked at.
+    // Returns whether the condition fails there, unless only the last place is tested.
     fn is_found(&self, at_end: bool) -> bool
         ensures yes { result ≡ true → (self.now.fails ≡ true) × (at_end ≡ false) }
         ensures no { result ≡ false → at_end ≡ false → self.now.fails ≡ false }
@@ -145,7 +146,7 @@ impl<N: Node> Spot<N> {
         self.fails && !at_end
     }
 
-    // The place where the condition fails there.
+    // Returns the place if the condition fails there.
     fn finding(&self) -> Option<u32>
         ensures { result ≡ (if self.now.fails then Some self.now.place else None) }
     {
@@ -153,10 +154,10 @@ impl<N: Node> Spot<N> {
     }
 }
 
-/// Looks for the least place of a run at which a condition, which was checked, fails. The run begins at the start of the scenario
-/// and has the events of the planner that can happen, one after the other. With `at_end` its last place is looked at alone. Each
-/// host is booted once, and at most one turn is counted for each event up to the place that is found. The only error is want of
-/// memory.
+/// Returns the least place of a run at which a checked condition fails. The run begins at the start
+/// of the scenario and has the events of the planner that can happen, in order. With `at_end` only
+/// its last place is tested. Boots each host once, and counts at most one turn for each event up to
+/// the place found. Fails only for want of memory.
 pub fn scan_planned<N: Node>(
     alloc: Global,
     scenario: &Scenario,
