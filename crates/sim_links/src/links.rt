@@ -49,7 +49,7 @@ impl<M> Links<M> {
         Ok(Links { table })
     }
 
-    /// The invariant: there is a direction from each of 32 hosts to each.
+    /// States the invariant: there is a direction from each of 32 hosts to each.
     pub fn laws(&self)
         ensures { length self.now ≡ 1024 }
     {

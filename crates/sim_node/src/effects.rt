@@ -70,7 +70,7 @@ impl<M> Effects<M> {
         })
     }
 
-    /// The invariant: there are at most 40 effects, and each is within the limits.
+    /// States the invariant: there are at most 40 effects, and each is within the limits.
     pub fn laws(&self)
         ensures { IsLimited self.now }
     {

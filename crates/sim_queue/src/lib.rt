@@ -102,8 +102,8 @@ impl<B> Queue<B> {
         }
     }
 
-    /// The invariant: its items are listed by rising serials, which differ and are below the next
-    /// serial.
+    /// States the invariant: its items are listed by rising serials, which differ and are below the
+    /// next serial.
     pub fn laws(&self)
         ensures { IsQueue self.now }
     {

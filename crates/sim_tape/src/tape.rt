@@ -131,7 +131,7 @@ impl<N: Node> Tape<N> {
         self.log.len() as u32
     }
 
-    /// The invariant, as clauses: the events can happen one after the other, and the place is among
+    /// States the invariant: the events can happen one after the other, and the place is among
     /// them. The call does nothing.
     pub fn laws(&self)
         ensures runs { IsRunnable (rules_of N.laws N.PROBES self.now) self.now.events }

@@ -1,5 +1,5 @@
--- What is told of the next step before it happens: the word that is drawn, the state after the
--- reaction, and what becomes of each effect.
+-- The account of the next step before it happens: the word drawn, the state after the reaction, and
+-- the fate of each effect.
 use Rattle.std.specs.Prelude.{ℕ, ◌+◌, ◌==◌, nat_le, Bool, true, List, [], ◌∷◌, length, map, Option}
 use Rattle.std.specs.Prelude.{Some, None, if◌then◌else◌}
 use Rattle.sim_streams.specs.Word.{network, torn, stream_of}
@@ -20,20 +20,20 @@ use Rattle.sim_world.specs.World.{is_full, held_back, made_stable}
 use Rattle.sim_world.specs.Events.{Rules, is_lost, latency, next_word, words_from, effect, reaction}
 use Rattle.sim_world.specs.Events.{begun}
 
--- an effect, and what becomes of it
+-- an effect, and its fate
 pub record ToldEffect (Msg : Type 0) : Type 0 where
   pub effect : Effect Msg
   pub fate : Fate
 
--- word       the word that is drawn for the host
+-- word       the word drawn for the host
 -- state      the state of its node after the reaction
--- effects    what the node asks for, in order, each with what becomes of it
+-- effects    the effects that the node asks for, in order, each with its fate
 pub record Reaction (State Msg : Type 0) : Type 0 where
   pub word : ℕ
   pub state : State
   pub effects : List (ToldEffect Msg)
 
--- to tell of a reaction takes a copy of the node, which reacts
+-- an account takes a copy of the node, which reacts
 abbrev pub told_if : Bool → Work → Work
 told_if test w = if test then turned (copied w) else w
 
@@ -57,7 +57,7 @@ module _ {State Msg : Type 0} (r : Rules State Msg) where
       else if from == to then fate.Pending w.clock w.queue.next_serial
       else fate_over (link from to w.links).state from to w
 
-  -- what becomes of an effect
+  -- the fate of an effect
   abbrev pub fate_of : ℕ → Effect Msg → World State Msg → Fate
   fate_of h (Effect.Send to m) w = sent_fate h to w
   fate_of h (Effect.Timer delay) w = fate.Pending (w.clock + delay) w.queue.next_serial
@@ -68,13 +68,13 @@ module _ {State Msg : Type 0} (r : Rules State Msg) where
       (disk.not_asked (host_at h w).disk)
   fate_of h Effect.Done w = fate.Done
 
-  -- the effects in order, each with what becomes of it in the world that those before it leave
+  -- the effects in order, each with its fate in the world that those before it leave
   abbrev pub all_told : ℕ → List (Effect Msg) → World State Msg → List (ToldEffect Msg)
   all_told h [] w = []
   all_told h (e ∷ es) w =
       record { effect = e; fate = fate_of h e w } ∷ all_told h es (effect r h e w)
 
-  -- what is told of a reaction of a host
+  -- the account of a reaction of a host
   abbrev pub told_of : ℕ → State × List (Effect Msg) → World State Msg → Reaction State Msg
   told_of h reaction w = record {
     word = next_word r (stream_of h) w;
@@ -82,7 +82,7 @@ module _ {State Msg : Type 0} (r : Rules State Msg) where
     effects = all_told h reaction.1 (with_node h (Some reaction.0) (drawn 1 (stream_of h) w));
   }
 
-  -- at a stopped host there is no reaction
+  -- a stopped host has no reaction
   abbrev pub reaction_to : ℕ → Body Msg → Option State → World State Msg
       → Option (Reaction State Msg)
   reaction_to h body None w = None
@@ -96,11 +96,11 @@ module _ {State Msg : Type 0} (r : Rules State Msg) where
   reaction_by (Some x) w =
       reaction_to x.body.host x.body.body (host_at x.body.host w).node (begun x w)
 
-  -- what is told of the next step
+  -- the account of the next step
   abbrev pub next_reaction : World State Msg → Option (Reaction State Msg)
   next_reaction w = reaction_by (first w.queue.items) w
 
-  -- how many bytes of each write that is not stable a crash of the host keeps
+  -- the number of bytes that a crash of the host keeps of each write that is not stable
   abbrev pub tears : ℕ → World State Msg → List ℕ
   tears h w =
       let writes = (host_at h w).disk.writes in
@@ -108,8 +108,8 @@ module _ {State Msg : Type 0} (r : Rules State Msg) where
       (length writes)) writes)
 
 module _ {State Msg : Type 0} where
-  -- What the effect of a host makes of a world is known from what becomes of it: a message that
-  -- another host gets, and one that is lost, took two words of the network's stream.
+  -- The fate of a host's effect determines the world after it. A message to another host that is
+  -- pending, and one that is lost, took two words of the network's stream.
   abbrev pub paid : Fate → ℕ → Effect Msg → World State Msg → World State Msg
   paid fate.Lost h e w = drawn 2 network w
   paid (fate.Pending due serial) h (Effect.Send to m) w = if h == to then w else drawn 2 network w
@@ -131,7 +131,7 @@ module _ {State Msg : Type 0} where
   all_carried h [] w = w
   all_carried h (t ∷ ts) w = all_carried h ts (carried t.fate h t.effect (paid t.fate h t.effect w))
 
-  -- the world after a step, by what was told of its reaction
+  -- the world after a step, given the account of its reaction
   abbrev pub after_reaction : Option (Reaction State Msg) → Item (Occurrence Msg) → World State Msg
       → World State Msg
   after_reaction None x w = begun x w

@@ -1,4 +1,4 @@
--- What takes no memory, so that no want of it can be the answer.
+-- The events and effects that take no memory, and so cannot fail for want of it.
 use Rattle.std.specs.Prelude.{ℕ, ◌+◌, ◌==◌, nat_lt, Bool, true, false, not, ◌&&◌, ◌||◌, length}
 use Rattle.sim_links.specs.declared.LinkState.{LinkState}
 use Rattle.sim_links.specs.declared.LinkState.TheVariants as state
@@ -15,8 +15,8 @@ is_cut state.Cut = true
 is_cut _ = false
 
 module _ {State Msg : Type 0} where
-  -- A message is dropped as it is sent where 4096 are in flight and held, and to another host where
-  -- the direction is cut.
+  -- A sent message is dropped if 4096 are in flight and held and, to another host, if the direction
+  -- is cut.
   abbrev pub is_dropped : ℕ → ℕ → World State Msg → Bool
   is_dropped from to w = is_full w || (not (from == to) && is_cut (link from to w.links).state)
 
@@ -29,8 +29,8 @@ module _ {State Msg : Type 0} where
   is_vain h Effect.Sync w = false
   is_vain h Effect.Done w = (host_at h w).done
 
-  -- An event is for a stopped host where it is a step at which no node reacts, or the crash of a
-  -- host that doesn't run.
+  -- An event is for a stopped host if it is a step at which no node reacts, or the crash of a
+  -- stopped host.
   abbrev pub is_for_stopped : Event → World State Msg → Bool
   is_for_stopped event.Step w = not (acts w event.Step)
   is_for_stopped (event.Advance to) w = false

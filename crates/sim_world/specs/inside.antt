@@ -1,4 +1,4 @@
--- What serves the private functions alone: no crate above cites these files.
+-- Definitions for the private functions alone: no crate above cites these files.
 pub mod Index
 pub mod Ledger
 pub mod Sound

@@ -1,4 +1,4 @@
-//! What the next step will do, told before it happens.
+//! The account of the next step, before it happens.
 ghost use Rattle.std.specs.Prelude.{◌≡◌, ℕ, ◌+◌, ◌<◌, ◌≤◌, ◌^◌, nat_le, length, option_copied};
 ghost use Rattle.std.specs.Prelude.{IfOk, OnOk, IsSome, Some, if◌then◌else◌};
 ghost use Rattle.sim_streams.specs.Word.{stream_of, word};
@@ -30,7 +30,7 @@ use sim_node::{Effect, Effects, Input, MAX_LOSS, MAX_MESSAGES, Node, Setup};
 use std::alloc::Global;
 use std::marker::Model;
 
-/// What becomes of an effect.
+/// The fate of an effect.
 #[derive(Clone, Copy, Debug, PartialEq, Eq)]
 pub enum Fate {
     /// The message or the timer is pending, due at this time (ms).
@@ -43,7 +43,7 @@ pub enum Fate {
     Cut,
     /// 4,096 messages are in flight and held, so the message is dropped.
     Full,
-    /// The write is one more that is not stable yet.
+    /// The write is added to those that are not stable yet.
     Added,
     /// The write would end past the disk's 4,096 bytes, so it is skipped.
     Skipped,
@@ -53,7 +53,7 @@ pub enum Fate {
     Done,
 }
 
-/// An effect, and what becomes of it.
+/// An effect, and its fate.
 #[derive(Drop)]
 pub struct ToldEffect<M> {
     effect: Effect<M>,
@@ -70,14 +70,14 @@ impl<M> Model for ToldEffect<M> {
 }
 
 impl<M> ToldEffect<M> {
-    /// What the node asks for.
+    /// Returns the effect that the node asks for.
     pub fn effect(&self) -> &Effect<M>
         ensures { seen result.now ≡ self.now.effect }
     {
         &self.effect
     }
 
-    /// What becomes of it.
+    /// Returns the fate of the effect.
     pub fn fate(&self) -> Fate
         ensures { result ≡ self.now.fate }
     {
@@ -85,8 +85,8 @@ impl<M> ToldEffect<M> {
     }
 }
 
-/// What a reaction will be: the word that is drawn for it, the node after it, and its effects in
-/// order, each with what becomes of it.
+/// The account of a reaction: the word drawn for it, the node after it, and its effects in order,
+/// each with its fate.
 #[derive(Drop)]
 pub struct Reaction<N: Node> {
     word: u32,
@@ -103,21 +103,21 @@ impl<N: Node> Model for Reaction<N> {
 }
 
 impl<N: Node> Reaction<N> {
-    /// The word that is drawn.
+    /// Returns the word drawn for the reaction.
     pub fn word(&self) -> u32
         ensures { result ≡ self.now.word }
     {
         self.word
     }
 
-    /// The node after the reaction.
+    /// Returns the node after the reaction.
     pub fn node(&self) -> &N
         ensures { result.now ≡ self.now.state }
     {
         &self.node
     }
 
-    /// The effects in order, each with what becomes of it.
+    /// Returns the effects in order, each with its fate.
     pub fn effects(&self) -> &[ToldEffect<N::Msg>]
         ensures { result.now ≡ self.now.effects }
     {
@@ -125,23 +125,23 @@ impl<N: Node> Reaction<N> {
     }
 }
 
-/// What decides the fates of the effects that are left, after some were told.
+/// The numbers that decide the fates of the effects still to come in a reaction.
 #[derive(Clone, Copy)]
 pub struct Ledger {
     // The time of the reaction (ms).
     clock: u64,
-    // How many words of the network's stream the messages so far take.
+    // The number of words of the network's stream that the messages so far take.
     words: u64,
     // The serial of the next occurrence.
     serial: u64,
-    // How many messages are in flight and held.
+    // The number of messages in flight and held.
     messages: u32,
-    // How many writes of the host no sync covers.
+    // The number of the host's writes that no sync covers.
     unasked: u32,
 }
 
 impl Ledger {
-    // Something is pending after a delay in milliseconds, and takes the next serial.
+    // Returns that something is pending after a delay in milliseconds. It takes the next serial.
     fn pending(&mut self, delay: u64) -> Fate
         requires clock { self.old.clock + delay < 2 ^ 64 }
         requires serial { self.old.serial < 2 ^ 40 }
@@ -156,7 +156,7 @@ impl Ledger {
         }
     }
 
-    // A message is pending after a delay in milliseconds.
+    // Returns that a message is pending after a delay in milliseconds.
     fn in_flight(&mut self, delay: u64) -> Fate
         requires clock { self.old.clock + delay < 2 ^ 64 }
         requires serial { self.old.serial < 2 ^ 40 }
@@ -171,7 +171,7 @@ impl Ledger {
         self.pending(delay)
     }
 
-    // A write of so many bytes.
+    // Returns the fate of a write of `len` bytes.
     fn write(&mut self, offset: u32, len: u32) -> Fate
         requires room { self.old.unasked < 2 ^ 24 }
         requires len { len ≤ 64 }
@@ -186,7 +186,8 @@ impl Ledger {
         Fate::Added
     }
 
-    // A sync that takes so long (ms) covers all writes that none covers yet.
+    // Returns the fate of a sync of this latency (ms), which covers all writes that none covers
+    // yet.
     fn sync(&mut self, latency: u32) -> Fate
         requires clock { self.old.clock < 2 ^ 40 }
         requires serial { self.old.serial < 2 ^ 40 }
@@ -206,7 +207,7 @@ impl Ledger {
 }
 
 impl<N: Node> Parts<N> {
-    // What becomes of a message over an open link.
+    // Returns the fate of a message over an open link.
     fn open_fate(&self, sc: &Scenario, ledger: &mut Ledger, from: u16, to: u16) -> Fate
         requires seed { self.now.seed ≡ sc.now.seed }
         requires from { from < 32 }
@@ -231,7 +232,7 @@ impl<N: Node> Parts<N> {
         ledger.in_flight(latency(way, late))
     }
 
-    // What becomes of a message.
+    // Returns the fate of a message.
     fn sent_fate(&self, sc: &Scenario, ledger: &mut Ledger, from: u16, to: u16) -> Fate
         requires seed { self.now.seed ≡ sc.now.seed }
         requires from { from < 32 }
@@ -261,7 +262,7 @@ impl<N: Node> Parts<N> {
         }
     }
 
-    // What becomes of an effect of a host.
+    // Returns the fate of an effect of a host.
     fn fate(&self, sc: &Scenario, ledger: &mut Ledger, h: u16, effect: &Effect<N::Msg>) -> Fate
         requires seed { self.now.seed ≡ sc.now.seed }
         requires host { h < length self.now.world.hosts }
@@ -288,7 +289,7 @@ impl<N: Node> Parts<N> {
         }
     }
 
-    // The effects of a host, each with what becomes of it.
+    // Returns the effects of a host, each with its fate.
     fn told(
         &self,
         alloc: Global,
@@ -316,7 +317,7 @@ impl<N: Node> Parts<N> {
     }
 }
 
-// What a node is given to react to: the time (ms), the input, and the word that is drawn.
+// What a node reacts to: the time (ms), the input, and the word drawn.
 #[derive(Drop)]
 pub(crate) struct Cue<'a, M> {
     pub(crate) clock: u64,
@@ -324,7 +325,7 @@ pub(crate) struct Cue<'a, M> {
     pub(crate) word: u32,
 }
 
-// A copy of a node that has reacted, with the effects that it asks for.
+// Returns a copy of a node after a reaction, with the effects that it asks for.
 fn reacted_copy<N: Node>(
     alloc: Global,
     setup: &Setup,
@@ -349,7 +350,7 @@ fn reacted_copy<N: Node>(
 }
 
 impl<N: Node> Parts<N> {
-    // The node of a host, or none where the host is stopped.
+    // Returns the node of a host, or `None` if the host is stopped.
     pub(crate) fn node(&self, h: u16) -> Option<&N>
         requires { h < length self.now.world.hosts }
         ensures { option_copied result ≡ (host_at h self.now.world).node }
@@ -357,7 +358,7 @@ impl<N: Node> Parts<N> {
         self.hosts[h as usize].node.as_ref()
     }
 
-    // The next word of the stream of a host.
+    // Returns the next word of the stream of a host.
     fn own_word(&self, h: u16) -> u32
         requires few { h < 32 }
         requires places { length self.now.world.places ≡ 34 }
@@ -367,7 +368,7 @@ impl<N: Node> Parts<N> {
         self.streams.peek(2 + h, 0)
     }
 
-    // The ledger at the beginning of the reaction to the first occurrence.
+    // Returns the ledger at the start of the reaction to the first occurrence.
     fn ledger(&self, index: &Index, due: u64, occurrence: &Occurrence<N::Msg>) -> Ledger
         requires host { occurrence.now.host < length self.now.world.hosts }
         requires small { self.now.world.queue.next_serial ≤ 2 ^ 40 }
@@ -389,7 +390,7 @@ impl<N: Node> Parts<N> {
         }
     }
 
-    // What the next step will do, where its host runs.
+    // Returns the account of the next step, if its host runs.
     fn next_reaction(
         &self,
         alloc: Global,
@@ -428,7 +429,7 @@ impl<N: Node> Parts<N> {
     }
 }
 
-// How many bytes a crash keeps of a write of so many bytes, by a word.
+// Returns the number of bytes that a crash keeps of a write of `len` bytes, by a word.
 fn kept_len(word: u32, len: usize) -> u32
     requires some { 0 < len }
     requires few { len ≤ 64 }
@@ -442,9 +443,9 @@ fn kept_len(word: u32, len: usize) -> u32
 }
 
 impl<N: Node> World<N> {
-    /// How many bytes a crash of the host keeps of each of its writes that are not stable, the
-    /// oldest first: 0 for a write that is dropped, all for one that is kept whole. The only error
-    /// is want of memory.
+    /// Returns the number of bytes that a crash of the host keeps of each of its writes that are
+    /// not stable, the oldest first: 0 for a write that is dropped, all for one that is kept whole.
+    /// Fails only for want of memory.
     pub fn tears(&self, alloc: Global, host: u16) -> Result<Vec<u32>, NoMemory>
         requires { host < self.now.scenario.setup.hosts }
         ensures { IfOk result (λ kept.
@@ -459,11 +460,11 @@ impl<N: Node> World<N> {
         Ok(kept)
     }
 
-    /// What the next step will do: nothing if nothing is pending, or if the host for which the
-    /// first occurrence is pending is stopped. The world stays as it is. The word, the state after
-    /// the reaction and the fate of each effect are those of the step: they alone determine the
-    /// world after it. The age is below 65,536, as for a step. One copy of a node and one turn are
-    /// counted where there is a reaction. The only error is want of memory.
+    /// Returns the account of the next step, or `None` if nothing is pending or the host of the
+    /// first occurrence is stopped. The world is unchanged. The word, the state after the reaction
+    /// and the fate of each effect are those of the step: they alone determine the world after it.
+    /// The age must be below 65,536, as for a step. Counts one copy of a node and one turn if there
+    /// is a reaction. Fails only for want of memory.
     pub fn next_reaction(
         &self,
         alloc: Global,

@@ -1,4 +1,4 @@
-//! The changes of the parts of a world, of which each is kept in a trail that leads back.
+//! The primitive changes of the parts of a world. Each adds to a trail that leads back.
 ghost use Rattle.std.specs.Prelude.{◌≡◌, ℕ, ◌+◌, ◌-◌, ◌*◌, ◌^◌, ◌<◌, ◌≤◌, true, List, [], ◌∷◌};
 ghost use Rattle.std.specs.Prelude.{◌++◌, length, IfOk, OnOk, IsOk, IfSome, IsSome, IsFalse};
 ghost use Rattle.std.specs.Prelude.{IsTrue, Some, None, slice_index_or, slice_index};
@@ -33,8 +33,8 @@ pub(crate) struct Letter<M> {
 }
 
 impl<N: Node> Parts<N> {
-    // Queues what is pending for a host, and answers its serial. A sync covers so many writes. What
-    // led back before does so with this at its end.
+    // Queues an occurrence for a host, and returns its serial. A sync covers `covered` writes. The
+    // trail leads back as before, with this change at its end.
     #[inline(always)]
     fn enqueue(
         &mut self,
@@ -61,7 +61,7 @@ impl<N: Node> Parts<N> {
         self.queue.insert(due, occurrence)
     }
 
-    // Queues what is pending for a host. A sync covers so many writes.
+    // Queues an occurrence for a host. A sync covers `covered` writes.
     #[inline(always)]
     pub(crate) fn queue_up(
         &mut self,
@@ -108,7 +108,7 @@ impl<N: Node> Parts<N> {
         self.queue_up(trail, due, to, 0, input)
     }
 
-    // Queues a message for which two words were drawn, and which is then in flight.
+    // Queues a message, for which two words were drawn, and which is then in flight.
     pub(crate) fn post_drawn(
         &mut self,
         index: &mut Index,
@@ -213,7 +213,7 @@ impl<N: Node> Parts<N> {
         }
     }
 
-    // Sets the timer of a host, in place of the one that is pending.
+    // Sets the timer of a host, which replaces the pending one.
     #[inline(never)]
     pub(crate) fn set_timer(
         &mut self,
@@ -237,7 +237,7 @@ impl<N: Node> Parts<N> {
         self.queue_timer(index, trail, h, delay)
     }
 
-    // Queues the coming of a sync of a host, which covers so many writes.
+    // Queues the sync of a host, which covers `count` writes.
     fn queue_sync(
         &mut self,
         sc: &Scenario,
@@ -256,7 +256,8 @@ impl<N: Node> Parts<N> {
         self.queue_up(trail, due, h, count, Input::Synced)
     }
 
-    // Draws two words of the network's stream. What led back before does so with this at its end.
+    // Draws two words of the network's stream. The trail leads back as before, with this change at
+    // its end.
     pub(crate) fn draw_two(&mut self) -> (u32, u32)
         requires places { length self.old.world.places ≡ 34 }
         requires room { place network self.old.world + 2 ≤ 2 ^ 40 }
@@ -269,7 +270,7 @@ impl<N: Node> Parts<N> {
         self.streams.draw_two(0)
     }
 
-    // Keeps a message back, which the direction then holds.
+    // Holds a message back in a direction.
     #[inline(never)]
     pub(crate) fn keep_back(
         &mut self,
@@ -345,7 +346,8 @@ impl<N: Node> Parts<N> {
         trail.push_stored(h, undo)
     }
 
-    // The disk of a host asks for a sync of the writes that none covers: how many these are.
+    // Starts a sync on the disk of a host. Returns the number of writes that no earlier sync
+    // covers.
     fn ask(&mut self, trail: &mut Trail<N>, h: u16) -> Result<u32, NoMemory>
         requires { h < length self.old.world.hosts }
         ensures count { IfOk result (λ n. n ≡ disk.not_asked (host_at h self.old.world).disk) }
@@ -362,7 +364,7 @@ impl<N: Node> Parts<N> {
         Ok(count)
     }
 
-    // A host asks for a sync of its disk.
+    // Starts a sync of a host's disk, and queues its coming.
     #[inline(never)]
     pub(crate) fn ask_sync(
         &mut self,

@@ -1,4 +1,4 @@
-//! The parts of a world, lent to be read.
+//! The parts of a world, lent for reading.
 ghost use Rattle.std.specs.Prelude.{◌≡◌, ◌+◌, ◌<◌, true, option_map, option_copied};
 ghost use Rattle.sim_queue.specs.Items.{item_of};
 ghost use Rattle.sim_queue.specs.Pending.{first, next_taken, with_serial};
@@ -15,21 +15,22 @@ use sim_links::LinkState;
 use sim_node::{Input, Node};
 
 impl<M> Occurrence<M> {
-    /// The host for which it is pending.
+    /// Returns the host of the occurrence.
     pub fn host(&self) -> u16
         ensures { result ≡ self.now.host }
     {
         self.host
     }
 
-    /// The input that the host will be given.
+    /// Returns the input that the host will get.
     pub fn input(&self) -> &Input<M>
         ensures { result.now ≡ input_of self.now.body }
     {
         &self.input
     }
 
-    /// Of a sync, how many writes it covers, the oldest ones; of anything else, none.
+    /// Returns the number of writes that a sync covers, the oldest ones, or `None` if it is no
+    /// sync.
     pub fn sync_count(&self) -> Option<u32>
         ensures { result ≡ sync_count self.now.body }
     {
@@ -41,14 +42,14 @@ impl<M> Occurrence<M> {
 }
 
 impl<N: Node> World<N> {
-    /// The scenario of its run.
+    /// Returns the scenario of the world's run.
     pub fn scenario(&self) -> &Scenario
         ensures { result.now ≡ self.now.scenario }
     {
         &self.cluster.scenario
     }
 
-    /// The first pending occurrence, with its due (ms) and its serial.
+    /// Returns the first pending occurrence, with its due (ms) and its serial.
     pub fn first(&self) -> Option<(u64, u64, &Occurrence<N::Msg>)>
         ensures { option_map (λ r. item_of r.1 (r.0, r.2.now)) result
             ≡ first self.now.world.queue.items }
@@ -56,8 +57,9 @@ impl<N: Node> World<N> {
         self.cluster.parts.queue.first()
     }
 
-    /// The least serial, not below `serial`, of a pending occurrence. From 0 on, and then from one
-    /// above each answer, it finds all that is pending in the order in which it was queued.
+    /// Returns the least serial, not below `serial`, of a pending occurrence. Calls from 0, and
+    /// then from one above each result, find all pending occurrences in the order in which they
+    /// were queued.
     pub fn next_pending(&self, serial: u64) -> Option<u64>
         ensures { result ≡ next_taken serial (λ _. true) self.now.world.queue.items }
     {
@@ -67,7 +69,7 @@ impl<N: Node> World<N> {
             .next_that(serial, |_occurrence| true)
     }
 
-    /// The occurrence of a serial, with its due (ms), if it is pending.
+    /// Returns the occurrence of a serial, with its due (ms), if it is pending.
     pub fn pending(&self, serial: u64) -> Option<(u64, &Occurrence<N::Msg>)>
         ensures { option_map (λ r. item_of serial (r.0, r.1.now)) result
             ≡ with_serial serial self.now.world.queue.items }
@@ -75,21 +77,21 @@ impl<N: Node> World<N> {
         self.cluster.parts.queue.get(serial)
     }
 
-    /// The serial that the next occurrence gets.
+    /// Returns the serial that the next occurrence gets.
     pub fn next_serial(&self) -> u64
         ensures { result ≡ self.now.world.queue.next_serial }
     {
         self.cluster.parts.queue.next_serial()
     }
 
-    /// How many messages are in flight and held, at most 4,096.
+    /// Returns the number of messages in flight and held, at most 4,096.
     pub fn messages(&self) -> u32
         ensures { result ≡ in_flight self.now.world + held_messages self.now.world }
     {
         self.cluster.tools.index.in_flight + self.cluster.tools.index.held
     }
 
-    /// The node of a host, or none where the host is stopped.
+    /// Returns the node of a host, or `None` if the host is stopped.
     pub fn node(&self, host: u16) -> Option<&N>
         requires { host < self.now.scenario.setup.hosts }
         ensures { option_copied result ≡ (host_at host self.now.world).node }
@@ -97,7 +99,7 @@ impl<N: Node> World<N> {
         self.cluster.parts.node(host)
     }
 
-    /// The disk of a host.
+    /// Returns the disk of a host.
     pub fn disk(&self, host: u16) -> &Disk
         requires { host < self.now.scenario.setup.hosts }
         ensures { result.now ≡ (host_at host self.now.world).disk }
@@ -105,7 +107,7 @@ impl<N: Node> World<N> {
         &self.cluster.parts.hosts[host as usize].disk
     }
 
-    /// The state of the direction from one host to another, both below 32.
+    /// Returns the state of the direction from one host to another, both below 32.
     pub fn link(&self, from: u16, to: u16) -> LinkState
         requires from { from < 32 }
         requires to { to < 32 }
@@ -114,8 +116,8 @@ impl<N: Node> World<N> {
         self.cluster.parts.links.state(from, to)
     }
 
-    /// The messages that the direction from one host to another holds, the oldest first. Both hosts
-    /// are below 32.
+    /// Returns the messages that the direction from one host to another holds, the oldest first.
+    /// Both hosts are below 32.
     pub fn held(&self, from: u16, to: u16) -> &[N::Msg]
         requires from { from < 32 }
         requires to { to < 32 }
@@ -124,7 +126,7 @@ impl<N: Node> World<N> {
         self.cluster.parts.links.messages(from, to)
     }
 
-    /// The word that is `ahead` words after the place of a stream; 0 gives the next one.
+    /// Returns the word that is `ahead` words after the place of a stream; 0 gives the next one.
     pub fn peek(&self, stream: u16, ahead: u32) -> u32
         requires { stream < 34 }
         ensures { result ≡ (rules N.laws N.PROBES self.now.scenario).words stream

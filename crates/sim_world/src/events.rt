@@ -1,4 +1,4 @@
-//! Events of a world, forwards and backwards.
+//! Events of a world, forward and back.
 ghost use Rattle.std.specs.Prelude.{◌≡◌, ◌≢◌, ℕ, ◌+◌, ◌-◌, ◌^◌, ◌<◌, ◌≤◌, [], ◌++◌, length, IfOk};
 ghost use Rattle.std.specs.Prelude.{OnOk, IsOk, IsTrue, IsFalse, IsSome, Some, None};
 ghost use Rattle.std.specs.Prelude.{slice_index_or, if◌then◌else◌};
@@ -30,7 +30,7 @@ use crate::{Event, Fault, NoMemory};
 use sim_node::Node;
 use std::alloc::Global;
 
-// The host whose timer a fault can change, else any.
+// Returns the host whose timer a fault can change, or 0 if there is none.
 fn stopped_by(fault: Fault) -> u16
     ensures { result ≡ stopped_host fault }
 {
@@ -46,7 +46,7 @@ fn stopped_by(fault: Fault) -> u16
 }
 
 impl<N: Node> Parts<N> {
-    // The clock goes on to a time (ms).
+    // Advances the clock to a time (ms).
     #[inline(never)]
     fn advance(&mut self, trail: &mut Trail<N>, to: u64) -> Result<(), NoMemory>
         ensures world { OnOk result (
@@ -59,8 +59,8 @@ impl<N: Node> Parts<N> {
         Ok(())
     }
 
-    // An event. The record gets its small changes alone, and what the event can change of the index
-    // as it stood before.
+    // Carries out an event. The record gets only its small changes, and the index entries that the
+    // event may change, as they were before.
     fn event(
         &mut self,
         sc: &Scenario,
@@ -118,14 +118,14 @@ impl<N: Node> Parts<N> {
 }
 
 impl<N: Node> Cluster<N> {
-    // Takes over what a record that is no longer wanted keeps of a disk.
+    // Takes over the disk memory of a record that is no longer needed.
     fn take_over(&mut self, done: &mut Undo<N>)
         ensures { self.new ≡ self.old }
     {
         done.trail.leave_disk(&mut self.parts.spare_disks);
     }
 
-    // An event that can happen. The record becomes the one by which it is taken back.
+    // Carries out an event that can happen. `undo` becomes the record by which it is undone.
     fn apply(
         &mut self,
         event: Event,
@@ -159,7 +159,7 @@ impl<N: Node> Cluster<N> {
         Ok(())
     }
 
-    // A step that can happen, without a record. Also returns its host.
+    // Carries out a step that can happen, without a record. Returns its host.
     #[inline(always)]
     fn step_for_good(&mut self, meter: &mut N::Meter) -> Result<u16, NoMemory>
         requires held { IsHeld N.told self.old }
@@ -194,7 +194,7 @@ impl<N: Node> Cluster<N> {
         Ok(host)
     }
 
-    // The event before is taken back, by the record that it gave.
+    // Undoes the last event, given its record.
     fn undo(
         &mut self,
         alloc: Global,
@@ -221,10 +221,10 @@ impl<N: Node> Cluster<N> {
 }
 
 impl<N: Node> World<N> {
-    /// The world after an event that can happen, and a record by which it is taken back. At most
-    /// one turn is counted: where a node reacts, and where a bounce boots one; no copy and no undo
-    /// is. The clock never goes back. The age, which is below 65,536, rises by one. The only error
-    /// is want of memory; nothing is left then.
+    /// Returns the world after an event that can happen, and a record by which it is undone. Counts
+    /// at most one turn (if a node reacts, or a bounce boots one), and no copy and no undo. The
+    /// clock never goes back. The age, which must be below 65,536, rises by one. Fails only for
+    /// want of memory; nothing is left then.
     pub fn apply(
         self,
         alloc: Global,
@@ -255,8 +255,8 @@ impl<N: Node> World<N> {
         Ok((World { cluster }, undo))
     }
 
-    /// As `apply`. The record takes the place, and the memory, of one that is no longer wanted;
-    /// after an error nothing is said of it.
+    /// Like `apply`, but the record replaces one that is no longer needed, and takes its memory.
+    /// After an error the record is unspecified.
     pub fn apply_over(
         self,
         _alloc: Global,
@@ -287,9 +287,9 @@ impl<N: Node> World<N> {
         Ok(World { cluster })
     }
 
-    /// As `apply` of a step, without a record: it can't be taken back. It is faster, and needs no
-    /// memory for a record. Also returns the host of the first pending occurrence; no other host
-    /// changes. The only error is want of memory; nothing is left then.
+    /// Like `apply` of a step, but without a record: faster, without memory for one, and final.
+    /// Also returns the host of the first pending occurrence; no other host changes. Fails only for
+    /// want of memory; nothing is left then.
     #[inline(always)]
     pub fn step_for_good(
         self,
@@ -318,9 +318,9 @@ impl<N: Node> World<N> {
         Ok((World { cluster }, host))
     }
 
-    /// The world before an event, by the record that the event gave. One undo is counted where a
-    /// node reacted in the event, else none; no turn and no copy is. The age is lowered by one. The
-    /// only error is want of memory; nothing is left then.
+    /// Returns the world before an event, given the record of the event. Counts one undo if a node
+    /// reacted in the event, else none, and no turn and no copy. The age falls by one. Fails only
+    /// for want of memory; nothing is left then.
     pub fn undo(
         self,
         alloc: Global,
@@ -344,7 +344,8 @@ impl<N: Node> World<N> {
         Ok(World { cluster })
     }
 
-    /// As `undo`. The record is spent then, and its memory can be kept for that of another event.
+    /// Like `undo`, but borrows the record. It is spent then, and its memory can serve that of
+    /// another event.
     pub fn undo_by(
         self,
         alloc: Global,
@@ -366,8 +367,8 @@ impl<N: Node> World<N> {
         Ok(World { cluster })
     }
 
-    /// A record that is no longer wanted gives its memory to the next event. The world stays as it
-    /// is.
+    /// Takes the memory of a record that is no longer needed for the next event. The world is
+    /// unchanged.
     pub fn reuse(&mut self, undo: Undo<N>)
         ensures { self.new ≡ self.old }
     {

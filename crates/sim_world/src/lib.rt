@@ -2,42 +2,42 @@
 //!
 //! One event at a time changes a world: a step takes the first pending occurrence, an advance moves
 //! the clock, a fault crashes a host or changes a link. The same scenario and the same events
-//! always give the same world, and the record of an event takes it back exactly.
+//! always give the same world, and the record of an event undoes it exactly.
 //!
 //! # Main types
 //!
-//! * [`World`]: what the crates above hold. It boxes a `Cluster` and keeps it sound. Contracts see
-//!   the world's value, its scenario and its age (`InHand` in `specs/Records.antt`).
-//! * `Cluster`: the `Parts`, the `Tools`, the shared scenario, the age, and memory to use again.
+//! * [`World`]: the type that the crates above hold. It boxes a `Cluster` and keeps it sound.
+//! Contracts see the world's value, its scenario and its age (`InHand` in `specs/Records.antt`).
+//! * `Cluster`: the `Parts`, the `Tools`, the shared scenario, the age, and memory for reuse.
 //! * `Parts`: the world proper. The clock, the streams of words, the queue, the links, the hosts.
-//! * `Tools`: what a step works with beside the parts: an `Index`, and room for a node's effects.
+//! * `Tools`: what a step uses beside the parts: an `Index`, and room for a node's effects.
 //! * `Index`: counts of messages, and the serial of each host's timer. The parts determine it; it
-//!   stands beside them so that no step searches the queue.
+//! is kept beside them so that no step searches the queue.
 //! * [`Undo`]: the record of one event. It has what a step took out of the queue (`Taken`), a
 //!   `Trail`, and the entries of the index that the event may have changed (`Beside`).
 //! * `Trail`: the small changes of one event, in order.
-//! * [`PackedWorld`]: a world kept for later in less memory, as a checkpoint is.
+//! * [`PackedWorld`]: a world in less memory, as in a checkpoint.
 //!
 //! # The life of an event
 //!
-//! 1. [`World::can`] says whether it can happen (`views.rt`).
+//! 1. [`World::can`] returns whether it can happen (`views.rt`).
 //! 2. [`World::apply`] clears the trail, saves the entries of the index, and calls one of three:
 //!    `step` (`step.rt`), `advance` (`events.rt`), `fault` (`faults.rt`, `crash.rt`).
 //! 3. A step pops the first occurrence. If its host runs, a sync makes writes stable, the host
 //!    draws a word, its node reacts, and the effects are carried out in order (`effects.rt`).
 //! 4. Each primitive change of the parts (`changes.rt`) updates the index and pushes one small
 //!    change onto the trail.
-//! 5. [`World::undo`] takes the changes back from the last to the first, each kind by a function of
-//!    its own (`take_back.rt`), puts back what the step took out, and restores the index.
+//! 5. [`World::undo`] undoes the changes from the last to the first, each kind by its own function
+//! (`take_back.rt`), puts back what the step took out, and restores the index.
 //!
 //! [`World::step_for_good`] is a step without a record.
 //!
 //! # Why the trail has so many places
 //!
 //! Most steps do the same few things in the same order: a sync, a word, a reaction, messages,
-//! writes with a sync, a timer. The trail keeps these in fields of its own (`trail.rt`, `trail/`),
-//! so the record of such a step needs no memory, and a run forward and back is fast. Anything else,
-//! or anything out of this order, goes into a vector. Contracts see one list of small changes.
+//! writes with a sync, a timer. The trail has fields for these (`trail.rt`, `trail/`), so the
+//! record of such a step needs no memory, and a run forward and back is fast. Anything else, or
+//! anything out of this order, goes into a vector. Contracts see one list of small changes.
 //!
 //! # Where to begin
 //!
@@ -82,82 +82,81 @@ pub use std::alloc::AllocError as NoMemory;
 pub use undo::Undo;
 pub use world::World;
 
-/// The longest tick in milliseconds; the shortest is 1.
+/// The longest tick (ms); the shortest is 1.
 pub const MAX_TICK: u32 = 60_000;
 
 /// The most milliseconds by which one `Event::Advance` moves the clock.
 pub const MAX_ADVANCE: u64 = 60_000;
 
-/// The most events between two checkpoints of a tape; the fewest is 1.
+/// The most events between two checkpoints of a tape; the least is 1.
 pub const MAX_INTERVAL: u32 = 1_024;
 
-/// The most events of a tape that their records can undo; the fewest is 1.
+/// The most events of a tape that their records can undo; the least is 1.
 pub const MAX_WINDOW: u32 = 4_096;
 
-/// What is done to the hosts and links from outside.
+/// What happens to hosts and links from outside.
 #[derive(Clone, Copy, Debug, PartialEq, Eq)]
 pub enum Fault {
     /// The host loses its node, its pending start and timer, and the syncs that have not come yet.
     /// Each of its writes that is not stable is dropped, kept or torn, by a word of the stream for
-    /// torn writes. Messages to it stay, and so does its being done. Of a stopped host nothing
-    /// changes.
+    /// torn writes. Messages to it stay, and it stays done if it was. A stopped host is unchanged.
     Crash(u16),
-    /// The host crashes where it runs, and boots from its stable bytes; its start is due now.
+    /// The host crashes if it runs, and boots from its stable bytes; its start is due now.
     Bounce(u16),
-    /// Both directions between the two hosts hold what is sent over them from now on: that from the
-    /// first to the second, then the other. A direction that was cut holds them too. What is in
-    /// flight still arrives.
+    /// Both directions between the two hosts hold the messages sent over them from now on, that
+    /// from the first to the second first. A direction that was cut holds them too. Messages in
+    /// flight still arrive.
     Hold(u16, u16),
-    /// Both directions between the two hosts let go what they hold, which arrives now in the order
-    /// in which it was sent, and are open: that from the first to the second, then the other. A
-    /// direction that is cut stays so.
+    /// Both directions between the two hosts release the messages that they hold, which arrive now
+    /// in the order in which they were sent, and are open; that from the first to the second first.
+    /// A direction that is cut stays cut.
     Release(u16, u16),
-    /// Both directions between the two hosts drop what is sent over them from now on, and what they
-    /// hold: that from the first to the second, then the other. What is in flight still arrives.
+    /// Both directions between the two hosts drop the messages that they hold, and those sent over
+    /// them from now on; that from the first to the second first. Messages in flight still arrive.
     Cut(u16, u16),
     /// The direction from the first host to the second is cut as by `Cut`; that from the second to
-    /// the first stays as it is.
+    /// the first is unchanged.
     CutOneway(u16, u16),
-    /// Both directions between the two hosts are open again where they are cut: that from the first
-    /// to the second, then the other. A direction that holds messages stays so.
+    /// Both directions between the two hosts are open again if they are cut, that from the first to
+    /// the second first. A direction that holds messages is unchanged.
     Repair(u16, u16),
-    /// The direction from the first host to the second is open again where it is cut; that from the
-    /// second to the first stays as it is.
+    /// The direction from the first host to the second is open again if it is cut; that from the
+    /// second to the first is unchanged.
     RepairOneway(u16, u16),
 }
 
 /// An event of the world.
 #[derive(Clone, Copy, Debug, PartialEq, Eq)]
 pub enum Event {
-    /// The first pending occurrence, by its due and then by its serial, is taken out, the clock
-    /// becomes its due, and it happens to its host.
+    /// Takes out the first pending occurrence, by its due and then by its serial. The clock becomes
+    /// its due, and it happens to its host.
     Step,
-    /// The clock goes on to this time (ms), at most 60,000 ms later and not past what is due;
+    /// Advances the clock to this time (ms), at most 60,000 ms later and not past the first due;
     /// nothing else changes.
     Advance(u64),
     /// A fault from outside, at the time of the clock.
     Fault(Fault),
 }
 
-/// Why an event can't happen.
+/// Why an event cannot happen.
 #[derive(Clone, Copy, Debug, PartialEq, Eq)]
 pub enum Refusal {
-    /// A fault names a host that is not there.
+    /// A fault names a host that does not exist.
     UnknownHost,
     /// A fault of a link names one host twice.
     SameHost,
     /// Nothing is pending for a step.
     Idle,
-    /// A time to go on to is earlier than the clock, more than 60,000 ms later, or later than what
-    /// is due first.
+    /// A time to advance to is earlier than the clock, more than 60,000 ms later, or later than the
+    /// first due.
     BadAdvance,
 }
 
-/// What one can look at.
+/// What can be looked at.
 #[derive(Clone, Copy, Debug, PartialEq, Eq)]
 pub enum Query {
-    /// the clock, the serials and the streams of the whole world, and how many occurrences are
-    /// pending and messages held
+    /// the clock, the serials and the streams of the whole world, and the numbers of pending
+    /// occurrences and of held messages
     Summary,
     /// the first pending occurrence
     Next,
@@ -182,7 +181,7 @@ pub enum Kind {
     Sync,
 }
 
-/// The first pending occurrence; it is due at a time in milliseconds.
+/// The first pending occurrence, and its due in milliseconds.
 #[derive(Clone, Copy, Debug, PartialEq, Eq)]
 pub struct Coming {
     pub due: u64,
@@ -191,11 +190,11 @@ pub struct Coming {
     pub kind: Kind,
 }
 
-/// What is seen.
+/// The result of a query.
 #[derive(Clone, Copy, Debug, PartialEq, Eq)]
 pub enum View {
     /// the clock (ms), the next serial, the places of the network's and the torn writes' streams,
-    /// and how many occurrences are pending and messages are held
+    /// and the numbers of pending occurrences and of held messages
     Summary {
         clock: u64,
         serial: u64,
@@ -206,8 +205,8 @@ pub enum View {
     },
     /// the first pending occurrence, or none
     Next(Option<Coming>),
-    /// whether a host runs, whether it is done, the place of its stream, how many bytes are stable
-    /// and how many writes are not
+    /// whether a host runs, whether it is done, the place of its stream, the number of its stable
+    /// bytes and that of its writes that are not stable
     HostView {
         host: u16,
         up: bool,
@@ -216,14 +215,14 @@ pub enum View {
         stable: u32,
         unsynced: u32,
     },
-    /// the state of a direction, and how many messages it holds
+    /// the state of a direction, and the number of messages that it holds
     Link {
         a: u16,
         b: u16,
         state: LinkState,
         messages: u32,
     },
-    /// the value of a probe, or none where the host is stopped
+    /// the value of a probe, or none if the host is stopped
     Probe {
         host: u16,
         probe: u8,

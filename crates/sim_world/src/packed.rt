@@ -1,4 +1,4 @@
-//! Worlds that are kept for later.
+//! Packed worlds, as in a checkpoint.
 ghost use Rattle.std.specs.Prelude.{◌≡◌, IfOk, OnOk};
 ghost use Rattle.sim_world.specs.Acts.{running, copied_by};
 ghost use Rattle.sim_world.specs.inside.Held.{IsHeld, in_hand};
@@ -24,8 +24,7 @@ use std::alloc::Global;
 use std::marker::Model;
 use std::sync::Arc;
 
-/// A world that is kept for later, in less memory. Contracts see the world, its scenario and its
-/// age.
+/// A world in less memory, as in a checkpoint. Contracts see the world, its scenario and its age.
 #[derive(Drop)]
 pub struct PackedWorld<N: Node> {
     clock: u64,
@@ -72,7 +71,7 @@ impl<N: Node> Model for PackedWorld<N> {
 }
 
 impl<N: Node> Cluster<N> {
-    // An equal world that is kept for later. The nodes of the hosts that run are copied.
+    // Returns an equal packed world. Copies the nodes of the hosts that run.
     fn pack(&self, alloc: Global, meter: &mut N::Meter) -> Result<PackedWorld<N>, NoMemory>
         requires { IsHeld N.told self.now }
         ensures same { IfOk result (λ packed. packed ≡ in_hand self.now) }
@@ -104,8 +103,8 @@ impl<N: Node> Cluster<N> {
 }
 
 impl<N: Node> World<N> {
-    /// An equal world that is kept for later. The node of each host that runs is copied, and none
-    /// is turned or taken back. The scenario is shared. The only error is want of memory.
+    /// Returns an equal packed world. Copies the node of each host that runs, and counts no turn
+    /// and no undo. Shares the scenario. Fails only for want of memory.
     pub fn pack(&self, alloc: Global, meter: &mut N::Meter) -> Result<PackedWorld<N>, NoMemory>
         ensures same { IfOk result (λ packed. packed ≡ self.now) }
         ensures work { OnOk result (
@@ -116,7 +115,7 @@ impl<N: Node> World<N> {
 }
 
 impl<N: Node> PackedWorld<N> {
-    // The parts of an equal world. The nodes of the hosts that run are copied.
+    // Returns the parts of an equal world. Copies the nodes of the hosts that run.
     fn parts(&self, alloc: Global, meter: &mut N::Meter) -> Result<Parts<N>, NoMemory>
         ensures seed { IfOk result (λ parts. parts.seed ≡ self.now.scenario.seed) }
         ensures world { IfOk result (λ parts. parts.world ≡ self.now.world) }
@@ -140,7 +139,7 @@ impl<N: Node> PackedWorld<N> {
         })
     }
 
-    // What stands beside the world.
+    // Returns the index of the world.
     fn index(&self, alloc: Global) -> Result<Index, NoMemory>
         ensures { IfOk result (λ index. IsIndex index self.now.world) }
     {
@@ -151,7 +150,7 @@ impl<N: Node> PackedWorld<N> {
         })
     }
 
-    // An equal cluster. The nodes of the hosts that run are copied.
+    // Returns an equal cluster. Copies the nodes of the hosts that run.
     fn cluster(&self, alloc: Global, meter: &mut N::Meter) -> Result<Cluster<N>, NoMemory>
         ensures same { IfOk result (λ cluster. in_hand cluster ≡ self.now) }
         ensures held { IfOk result (λ cluster. IsHeld N.told cluster) }
@@ -173,8 +172,8 @@ impl<N: Node> PackedWorld<N> {
         })
     }
 
-    /// An equal world. The node of each host that runs is copied, and none is turned or taken back.
-    /// The scenario is shared. The only error is want of memory.
+    /// Returns an equal world. Copies the node of each host that runs, and counts no turn and no
+    /// undo. Shares the scenario. Fails only for want of memory.
     pub fn open(&self, alloc: Global, meter: &mut N::Meter) -> Result<World<N>, NoMemory>
         ensures same { IfOk result (λ world. world ≡ self.now) }
         ensures work { OnOk result (

@@ -1,4 +1,4 @@
-//! Hosts that are kept for later.
+//! Packed hosts, as in a checkpoint.
 ghost use Rattle.std.specs.Prelude.{◌≡◌, ◌<◌, length, map, slice_get, Some, is_some, IfOk, OnOk};
 ghost use Rattle.std.specs.List.{count_by};
 ghost use Rattle.sim_world.specs.Acts.{copied_by, copied_if};
@@ -40,8 +40,8 @@ impl<S> Model for PackedHosts<S> {
     ghost invariant = { λ p. length p.disks ≡ length p.kept.items };
 }
 
-// How many stable bytes and how many writes the disks of hosts have together. It is told to make
-// room alone.
+// Returns the numbers of stable bytes and of writes of all the hosts' disks together. They only
+// serve to make room.
 fn room_of<S>(hosts: &[Host<S>]) -> (usize, usize) {
     let mut bytes: usize = 0;
     let mut writes: usize = 0;
@@ -52,7 +52,7 @@ fn room_of<S>(hosts: &[Host<S>]) -> (usize, usize) {
     (bytes, writes)
 }
 
-// An equal node, where there is one.
+// Returns an equal node, if there is one.
 fn copied_node<N: Node>(
     alloc: Global,
     node: &Option<N>,
@@ -68,7 +68,7 @@ fn copied_node<N: Node>(
     }
 }
 
-// The disks of hosts.
+// Returns copies of the disks of hosts.
 fn packed_disks<S>(alloc: Global, hosts: &[Host<S>]) -> Result<PackedDisks, NoMemory>
     ensures { IfOk result (λ disks. disks ≡ map (λ host. host.disk) hosts.now) }
 {
@@ -80,8 +80,8 @@ fn packed_disks<S>(alloc: Global, hosts: &[Host<S>]) -> Result<PackedDisks, NoMe
     Ok(disks)
 }
 
-// Hosts without their disks, whose pending timers have these serials. The nodes of those that run
-// are copied.
+// Returns the hosts without their disks, with these serials of their pending timers. Copies the
+// nodes of those that run.
 fn kept_hosts<N: Node>(
     alloc: Global,
     hosts: &[Host<N>],
@@ -111,8 +111,8 @@ fn kept_hosts<N: Node>(
 }
 
 impl<N: Node> PackedHosts<N> {
-    /// Equal hosts, whose pending timers have these serials. The nodes of those that run are
-    /// copied.
+    /// Returns equal hosts, with these serials of their pending timers. Copies the nodes of those
+    /// that run.
     pub(crate) fn pack(
         alloc: Global,
         hosts: &[Host<N>],
@@ -130,7 +130,7 @@ impl<N: Node> PackedHosts<N> {
         Ok(PackedHosts { kept, disks })
     }
 
-    // A host equal to the one of this number.
+    // Returns a host equal to that of this number.
     fn host(&self, alloc: Global, number: usize, meter: &mut N::Meter) -> Result<Host<N>, NoMemory>
         requires { number < length self.now.hosts }
         ensures host { IfOk result (λ host. slice_get self.now.hosts number ≡ Some host) }
@@ -147,7 +147,7 @@ impl<N: Node> PackedHosts<N> {
         })
     }
 
-    /// Equal hosts. The nodes of those that run are copied.
+    /// Returns equal hosts. Copies the nodes of those that run.
     pub(crate) fn hosts(
         &self,
         alloc: Global,
@@ -165,7 +165,7 @@ impl<N: Node> PackedHosts<N> {
         Ok(hosts)
     }
 
-    /// The serials of the hosts' pending timers.
+    /// Returns the serials of the hosts' pending timers.
     pub(crate) fn timers(&self, alloc: Global) -> Result<Vec<Option<u64>>, NoMemory>
         ensures { IfOk result (λ timers. timers.items ≡ self.now.timers) }
     {

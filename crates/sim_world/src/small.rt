@@ -4,7 +4,7 @@ use sim_disk::DiskUndo;
 use sim_links::LinkUndo;
 use sim_queue::Item;
 
-/// A small change of a world, as contracts see it. The code builds none: it keeps the same as
+/// A small change of a world, as contracts see it. The code builds none: it stores the same as
 /// `Compact`, in less memory.
 #[derive(Drop)]
 pub enum Small<S, M, U> {
@@ -14,7 +14,7 @@ pub enum Small<S, M, U> {
     Queued,
     /// The clock was at this time (ms).
     Timed(u64),
-    /// So many words of a stream were drawn.
+    /// This number of words of a stream was drawn.
     Drew(u16, u64),
     /// The node of a host reacted.
     Acted(u16, U),
@@ -22,7 +22,7 @@ pub enum Small<S, M, U> {
     Stopped(u16, S),
     /// A host got a node.
     Booted(u16),
-    /// A host became done that was not.
+    /// A host that was not done became done.
     Finished(u16),
     /// The disk of a host changed: by a write, a sync that asks, a sync that comes, a crash.
     Stored(u16, DiskUndo),
@@ -30,6 +30,6 @@ pub enum Small<S, M, U> {
     KeptBack(u16, u16),
     /// A direction changed, and the messages that left it were dropped.
     Changed(LinkUndo, Vec<M>),
-    /// A direction changed, and so many messages that left it are the newest in the queue.
+    /// A direction changed, and this number of messages that left it are the newest in the queue.
     Released(LinkUndo, u64),
 }

@@ -1,9 +1,9 @@
-//! What a step works with, beside the parts of a world.
+//! What a step uses beside the parts of a world.
 use crate::index::Index;
 use sim_node::Effects;
 
-/// What a step works with, beside the parts of a world: their index, and the room in which a node
-/// asks for effects.
+/// What a step uses beside the parts of a world: their index, and the room in which a node asks for
+/// effects.
 #[derive(Drop)]
 pub struct Tools<M> {
     pub index: Index,

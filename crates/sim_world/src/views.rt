@@ -1,5 +1,5 @@
-//! What a world shows: whether an event can happen, looks at it by queries, and single facts for
-//! what asks them after each step.
+//! What a world shows: whether an event can happen, the results of queries, and single facts for
+//! callers that ask after each step.
 ghost use Rattle.std.specs.Prelude.{◌≡◌, ℕ, ◌+◌, ◌-◌, ◌<◌, ◌≤◌, ◌&&◌, [], ◌∷◌, nat_le, length};
 ghost use Rattle.std.specs.Prelude.{MatchResult, Option, None, Some, IsSome, OnOk, nat_lt, not};
 ghost use Rattle.std.specs.Prelude.{is_some, if◌then◌else◌, ◌^◌, ◌*◌, drop};
@@ -24,7 +24,7 @@ use crate::{Coming, Event, Fault, Kind, MAX_ADVANCE, Query, Refusal, View};
 use sim_node::{Input, Node};
 use sim_queue::Queue;
 
-// Refuses a host that is not there.
+// Refuses a host that does not exist.
 fn one_host(hosts: u16, h: u16) -> Option<Refusal>
     ensures { result ≡ hosts_refusal hosts (h ∷ []) }
 {
@@ -34,7 +34,7 @@ fn one_host(hosts: u16, h: u16) -> Option<Refusal>
     None
 }
 
-// Refuses two hosts of which one is not there, or which are one.
+// Refuses two hosts if one does not exist, or if both are the same.
 fn two_hosts(hosts: u16, a: u16, b: u16) -> Option<Refusal>
     ensures { result ≡ hosts_refusal hosts (a ∷ b ∷ []) }
 {
@@ -48,8 +48,8 @@ fn two_hosts(hosts: u16, a: u16, b: u16) -> Option<Refusal>
 }
 
 impl Scenario {
-    /// Why a fault can't happen: one of its hosts is not there, or a fault of a link names one host
-    /// twice. The first is tested first.
+    /// Returns why a fault cannot happen: one of its hosts does not exist, or a fault of a link
+    /// names one host twice. The first is tested first.
     pub fn refusal(&self, fault: Fault) -> Option<Refusal>
         ensures { result ≡ hosts_refusal self.now.setup.hosts (hosts_of fault) }
     {
@@ -66,8 +66,8 @@ impl Scenario {
     }
 }
 
-// Whether the clock can go on to a time (ms): it is no earlier, at most 60,000 ms later, and
-// nothing is due before it.
+// Returns whether the clock can advance to a time (ms): it is no earlier, at most 60,000 ms later,
+// and nothing is due before it.
 fn can_go_on<M>(clock: u64, queue: &Queue<Occurrence<M>>, to: u64) -> bool
     ensures { result ≡ can_go_on clock queue.now.items to }
 {
@@ -80,7 +80,7 @@ fn can_go_on<M>(clock: u64, queue: &Queue<Occurrence<M>>, to: u64) -> bool
     }
 }
 
-// The kind of an input that is pending.
+// Returns the kind of a pending input.
 fn kind<M>(occurrence: &Occurrence<M>) -> Kind
     ensures { result ≡ kind_of occurrence.now.body }
 {
@@ -92,7 +92,7 @@ fn kind<M>(occurrence: &Occurrence<M>) -> Kind
     }
 }
 
-// The first that is pending.
+// Returns the first pending occurrence.
 fn next<M>(queue: &Queue<Occurrence<M>>) -> Option<Coming>
     ensures { result ≡ option_map coming (first queue.now.items) }
 {
@@ -107,7 +107,7 @@ fn next<M>(queue: &Queue<Occurrence<M>>) -> Option<Coming>
     }
 }
 
-// Why no step can happen.
+// Returns why no step can happen.
 fn step_refusal<M>(queue: &Queue<Occurrence<M>>) -> Option<Refusal>
     ensures { result ≡ (if is_some (first queue.now.items) then None else Some Refusal.Idle) }
 {
@@ -117,7 +117,7 @@ fn step_refusal<M>(queue: &Queue<Occurrence<M>>) -> Option<Refusal>
     None
 }
 
-// Why the clock can't go on to a time (ms).
+// Returns why the clock cannot advance to a time (ms).
 fn advance_refusal<M>(clock: u64, queue: &Queue<Occurrence<M>>, to: u64) -> Option<Refusal>
     ensures { result ≡ (if can_go_on clock queue.now.items to then None
         else Some Refusal.BadAdvance) }
@@ -128,7 +128,7 @@ fn advance_refusal<M>(clock: u64, queue: &Queue<Occurrence<M>>, to: u64) -> Opti
     Some(Refusal::BadAdvance)
 }
 
-// The value of a probe, or none where there is no node.
+// Returns the value of a probe, or `None` if there is no node.
 fn shown<N: Node>(node: &Option<N>, k: u8) -> Option<u64>
     requires { k < N.PROBES }
     ensures { result ≡ option_map (λ state. N.laws.probe state k) node.now }
@@ -140,7 +140,7 @@ fn shown<N: Node>(node: &Option<N>, k: u8) -> Option<u64>
 }
 
 impl<N: Node> Parts<N> {
-    // Why an event can't happen.
+    // Returns why an event cannot happen.
     fn refusal(&self, scenario: &Scenario, event: Event) -> Option<Refusal>
         ensures { result ≡ refusal_of (rules N.laws N.PROBES scenario.now) event self.now.world }
     {
@@ -151,7 +151,7 @@ impl<N: Node> Parts<N> {
         }
     }
 
-    // The summary of a world that holds so many messages.
+    // Returns the summary of a world that holds `held` messages.
     fn summary(&self, held: u32) -> View
         requires held { held ≡ held_messages self.now.world }
         requires few { self.now.world.queue.next_serial < 2 ^ 32 }
@@ -167,7 +167,7 @@ impl<N: Node> Parts<N> {
         }
     }
 
-    // What is seen of a host.
+    // Returns the view of a host.
     fn host_view(&self, h: u16) -> View
         requires host { h < length self.now.world.hosts }
         requires few { length self.now.world.hosts ≤ 32 }
@@ -185,7 +185,7 @@ impl<N: Node> Parts<N> {
         }
     }
 
-    // What is seen of the direction from a to b.
+    // Returns the view of the direction from a to b.
     fn link_view(&self, a: u16, b: u16) -> View
         requires from { a < 32 }
         requires to { b < 32 }
@@ -200,7 +200,7 @@ impl<N: Node> Parts<N> {
         }
     }
 
-    // What is seen of a probe of a host.
+    // Returns the view of a probe of a host.
     fn probe_view(&self, h: u16, k: u8) -> View
         requires host { h < length self.now.world.hosts }
         requires probe { k < N.PROBES }
@@ -217,16 +217,16 @@ impl<N: Node> Parts<N> {
 }
 
 impl<N: Node> World<N> {
-    /// How many events led to it.
+    /// Returns the number of events before this world.
     pub fn age(&self) -> u32
         ensures { result ≡ self.now.age }
     {
         self.cluster.age
     }
 
-    /// Whether an event can happen, and if not, why: a fault names a host that is not there, or a
-    /// fault of a link one host twice; nothing is pending for a step; a time to advance to is
-    /// earlier than the clock, more than 60,000 ms later, or after the due of what is pending.
+    /// Fails with the reason if an event cannot happen: a fault names a host that does not exist,
+    /// or a fault of a link one host twice; nothing is pending for a step; a time to advance to is
+    /// earlier than the clock, more than 60,000 ms later, or after the first due.
     pub fn can(&self, event: Event) -> Result<(), Refusal>
         ensures answer { MatchResult result (λ _.
             refusal_of (rules N.laws N.PROBES self.now.scenario) event self.now.world ≡ None)
@@ -242,8 +242,8 @@ impl<N: Node> World<N> {
         }
     }
 
-    /// What a query shows. Its hosts are below the number of hosts, and its probe is below the
-    /// number of probes.
+    /// Returns the result of a query. Its hosts must be below the number of hosts, and its probe
+    /// below the number of probes.
     pub fn look(&self, query: Query) -> View
         requires { CanLook self.now.scenario.setup.hosts N.PROBES query }
         ensures { result ≡ looked (rules N.laws N.PROBES self.now.scenario) query self.now.world }
@@ -259,14 +259,14 @@ impl<N: Node> World<N> {
     }
 }
 
-// Whether all of these hosts are done.
+// Returns whether all of these hosts are done.
 fn are_all_done<S>(hosts: &[Host<S>]) -> bool
     ensures { result ≡ list_all (λ h. h.done) hosts.now }
 {
     hosts.iter().all(|host| host.done)
 }
 
-// Whether something is due at a time (ms) or before it.
+// Returns whether something is due at a time (ms) or before it.
 fn is_due_by<M>(queue: &Queue<Occurrence<M>>, time: u64) -> bool
     ensures { result ≡ list_any (λ x. nat_le x.due time) queue.now.items }
 {
@@ -277,7 +277,7 @@ fn is_due_by<M>(queue: &Queue<Occurrence<M>>, time: u64) -> bool
 }
 
 impl<N: Node> World<N> {
-    /// The clock (ms).
+    /// Returns the clock (ms).
     pub fn clock(&self) -> u64
         ensures value { result ≡ self.now.world.clock }
         ensures small { result ≤ 60000 * 65536 }
@@ -285,7 +285,7 @@ impl<N: Node> World<N> {
         self.cluster.parts.clock
     }
 
-    /// How many hosts there are.
+    /// Returns the number of hosts.
     pub fn hosts(&self) -> u16
         ensures value { result ≡ self.now.scenario.setup.hosts }
         ensures all { result ≡ length self.now.world.hosts }
@@ -293,7 +293,7 @@ impl<N: Node> World<N> {
         self.cluster.parts.hosts.len() as u16
     }
 
-    /// Whether a host runs.
+    /// Returns whether a host runs.
     pub fn is_up(&self, host: u16) -> bool
         requires { host < self.now.scenario.setup.hosts }
         ensures { result ≡ runs host self.now.world }
@@ -301,7 +301,7 @@ impl<N: Node> World<N> {
         self.cluster.parts.hosts[host as usize].node.is_some()
     }
 
-    /// Whether a host is done.
+    /// Returns whether a host is done.
     pub fn is_done(&self, host: u16) -> bool
         requires { host < self.now.scenario.setup.hosts }
         ensures { result ≡ (host_at host self.now.world).done }
@@ -309,7 +309,7 @@ impl<N: Node> World<N> {
         self.cluster.parts.hosts[host as usize].done
     }
 
-    /// The value of a probe of a host, or none where the host is stopped.
+    /// Returns the value of a probe of a host, or `None` if the host is stopped.
     pub fn probe(&self, host: u16, probe: u8) -> Option<u64>
         requires host { host < self.now.scenario.setup.hosts }
         requires probe { probe < N.PROBES }
@@ -322,7 +322,7 @@ impl<N: Node> World<N> {
         }
     }
 
-    /// Whether all clients are done.
+    /// Returns whether all clients are done.
     pub fn are_clients_done(&self) -> bool
         ensures { result ≡ list_all (λ h. h.done)
             (drop self.now.scenario.setup.servers self.now.world.hosts) }
@@ -331,7 +331,7 @@ impl<N: Node> World<N> {
         are_all_done(&self.cluster.parts.hosts.as_slice()[servers as usize..])
     }
 
-    /// Whether something is due at a time (ms) or before it.
+    /// Returns whether something is due at a time (ms) or before it.
     pub fn is_due_by(&self, time: u64) -> bool
         ensures { result ≡ list_any (λ x. nat_le x.due time) self.now.world.queue.items }
     {

@@ -7,11 +7,11 @@ use Rattle.sim_world.specs.declared.trail.disk_work.DiskWork.{DiskWork}
 use Rattle.sim_world.specs.declared.trail.disk_work.DiskWork.TheVariants as work
 
 module _ {State Msg Undo : Type 0} where
-  -- so many writes were added to the disk of a host
+  -- the given number of writes was added to the disk of a host
   abbrev pub written : ℕ → ℕ → List (Compact State Msg Undo)
   written host writes = replicate writes (compact.Stored host disk.DiskUndo.Added)
 
-  -- the changes that this says
+  -- the changes that a value stands for
   abbrev pub disk_changes : DiskWork → List (Compact State Msg Undo)
   disk_changes work.Nothing = []
   disk_changes (work.Wrote host writes) = written host writes

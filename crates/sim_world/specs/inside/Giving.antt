@@ -1,4 +1,4 @@
--- An input is given to a host: what is asked for that, and what its node makes of it.
+-- Giving an input to a host: its preconditions, and its effect on the node.
 use Rattle.std.specs.Prelude.{◌≡◌, ℕ, ◌^◌, ◌<◌, List, [], length, Some}
 use Rattle.sim_streams.specs.Word.{stream_of}
 use Rattle.sim_node.specs.declared.Setup.{Setup}
@@ -12,12 +12,12 @@ use Rattle.sim_world.specs.inside.Index.{IsIndex}
 use Rattle.sim_world.specs.inside.Room.{HasRoom}
 
 module _ {State Msg : Type 0} where
-  -- this holds of the node of a host, if it has one
+  -- a property of the node of a host, if it has one
   abbrev pub OfNode : ℕ → World State Msg → (State → Type 0) → Type 0
   OfNode h w holds = (s : State) → (host_at h w).node ≡ Some s → holds s
 
--- An input can be given to a host of a run: there is room for what its node asks for, and nothing
--- is asked for yet.
+-- An input can be given to a host of a run: there is room for the effects of its node, and no
+-- effects are asked for yet.
 pub record CanGive {State Msg : Type 0} (told : State → Setup) (s : Scenario) (h : ℕ)
     (i : Input Msg)
     (kept : Index) (asked : Effects Msg) (p : Seeded State Msg) : Type 0 where
@@ -32,8 +32,8 @@ pub record CanGive {State Msg : Type 0} (told : State → Setup) (s : Scenario) 
 
 module _ {State Msg : Type 0} (told : State → Setup) (r : Rules State Msg) (h : ℕ)
     (i : Input Msg) where
-  -- The node of a host takes one word of its stream and reacts: it stands in the new parts, and
-  -- asks for these effects.
+  -- The node of a host takes one word of its stream and reacts: it is in the new parts, and asks
+  -- for these effects.
   pub record Reacts (old new : Seeded State Msg) (asked : List (Effect Msg))
       (s : State) : Type 0 where
     pub world : new ≡ record old {
@@ -42,6 +42,6 @@ module _ {State Msg : Type 0} (told : State → Setup) (r : Rules State Msg) (h 
     pub asks : asked ≡ (reaction r h s i old.world).1
     pub keeps : told (reaction r h s i old.world).0 ≡ told s
 
-  -- the reaction to an input is lawful, where the host runs
+  -- the reaction to an input is lawful, if the host runs
   abbrev pub ReactsLawfully : World State Msg → Type 0
   ReactsLawfully w = OfNode h w (λ s. IsLawful told s (reaction r h s i w))

@@ -1,5 +1,5 @@
--- All that a world in hand is made of: its parts, what is kept beside them, its scenario, and how
--- many events led to it.
+-- The contents of a world in hand: its parts, their index, its scenario, and the number of events
+-- before it.
 use Rattle.std.specs.Prelude.{◌≡◌, ℕ, []}
 use Rattle.sim_node.specs.declared.Setup.{Setup}
 use Rattle.sim_node.specs.Effects.{Effects}
@@ -16,11 +16,11 @@ pub record Held (State Msg : Type 0) : Type 0 where
   pub scenario : Scenario
   pub age : ℕ
 
--- what a contract sees of it
+-- what contracts see of it
 abbrev pub in_hand : {State Msg : Type 0} → Held State Msg → InHand State Msg
 in_hand k = record { world = k.parts.world; scenario = k.scenario; age = k.age }
 
--- the parts are those of a run of the scenario, and what is kept beside them is theirs
+-- the parts are those of a run of the scenario, and the index is theirs
 pub record IsHeld {State Msg : Type 0} (told : State → Setup) (k : Held State Msg) : Type 0 where
   pub sound : IsSound told k.scenario k.age k.parts.world
   pub index : IsIndex k.index k.parts.world

@@ -1,5 +1,5 @@
--- What the code keeps beside a world so that it need not look for it: counts of messages, and each
--- host's pending timer.
+-- The index that the code keeps beside a world so that no step searches for it: counts of messages,
+-- and each host's pending timer.
 use Rattle.std.specs.Prelude.{◌≡◌, ◌≢◌, ℕ, ◌+◌, ◌-◌, ◌<◌, ◌≤◌, List, [], ◌∷◌, length, map, Option}
 use Rattle.std.specs.Prelude.{Some, None, slice_index_or, slice_set}
 use Rattle.std.specs.List.{filter}
@@ -17,7 +17,7 @@ use Rattle.sim_world.specs.World.{Scenario, Body, Occurrence, World, is_timer_of
 use Rattle.sim_world.specs.World.{held_messages}
 use Rattle.sim_world.specs.inside.Sound.{IsSound}
 
--- a list of what an option has
+-- the value of an option as a list
 abbrev pub listed : {A : Type 0} → Option A → List A
 listed None = []
 listed (Some x) = x ∷ []
@@ -26,7 +26,7 @@ listed (Some x) = x ∷ []
 abbrev pub timers_of : {Msg : Type 0} → ℕ → List (Item (Occurrence Msg)) → List ℕ
 timers_of h items = map (λ x. x.serial) (filter (is_timer_of h) items)
 
--- the count of messages in flight, once an occurrence is no longer pending
+-- the count of messages in flight, after an occurrence is no longer pending
 abbrev pub flight_without : {Msg : Type 0} → Body Msg → ℕ → ℕ
 flight_without (Body.Message sender msg) count = count - 1
 flight_without _ count = count
@@ -36,19 +36,19 @@ abbrev pub IsCounted : {Msg : Type 0} → Body Msg → ℕ → Type 0
 IsCounted (Body.Message sender msg) count = 0 < count
 IsCounted _ count = Unit {0}
 
--- the timers, once an occurrence of a host is no longer pending
+-- the timers, after an occurrence of a host is no longer pending
 abbrev pub timers_without : {Msg : Type 0} → ℕ → Body Msg → List (Option ℕ) → List (Option ℕ)
 timers_without h Body.Timer timers = slice_set timers h None
 timers_without h _ timers = timers
 
--- the host that a crash or a bounce stops, else any, as 0
+-- the host that a crash or a bounce stops, or 0 for any other fault
 abbrev pub stopped_host : Fault → ℕ
 stopped_host (fault.Crash h) = h
 stopped_host (fault.Bounce h) = h
 stopped_host _ = 0
 
--- the one host whose timer an event can change: that of a step, of a crash, of a bounce; else any,
--- as 0
+-- the one host whose timer an event can change: that of a step, of a crash, of a bounce; or 0 for
+-- any other event
 abbrev pub changing_host : {State Msg : Type 0} → Event → World State Msg → ℕ
 changing_host event.Step w = first_host (first w.queue.items)
 changing_host (event.Advance to) w = 0
@@ -64,7 +64,7 @@ beside_of index h = record {
 }
 
 -- the counts are those of the world, and each host has at most one pending timer, whose serial is
--- kept
+-- stored
 pub record IsIndexOf {State Msg : Type 0} (flying waiting : ℕ) (serials : List (Option ℕ))
     (w : World State Msg) : Type 0 where
   pub in_flight : flying ≡ in_flight w
@@ -77,7 +77,7 @@ pub record IsIndexOf {State Msg : Type 0} (flying waiting : ℕ) (serials : List
 abbrev pub IsIndex : {State Msg : Type 0} → Index → World State Msg → Type 0
 IsIndex index w = IsIndexOf index.in_flight index.held index.timers.items w
 
--- After `age` events of a run of the scenario a world is sound, and this stood beside it; the
+-- After `age` events of a run of the scenario a world is sound, with these index entries; the
 -- timers of all hosts but one are those of a later world.
 pub record IsBefore {State Msg : Type 0} (told : State → Setup) (beside : Beside) (s : Scenario)
     (age : ℕ) (before later : World State Msg) : Type 0 where

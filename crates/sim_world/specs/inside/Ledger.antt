@@ -1,4 +1,4 @@
--- What decides the fates of effects, followed without carrying the effects out.
+-- The numbers that decide the fates of effects, followed without carrying the effects out.
 use Rattle.std.specs.Prelude.{◌≡◌, ℕ, ◌+◌, ◌*◌, ◌<◌, ◌≤◌, ◌^◌, length}
 use Rattle.sim_streams.specs.Word.{network}
 use Rattle.sim_links.specs.Link.{link}
@@ -8,7 +8,7 @@ use Rattle.sim_world.specs.declared.index.Index.{Index}
 use Rattle.sim_world.specs.World.{Occurrence, World, host_at, place, in_flight, held_messages}
 use Rattle.sim_world.specs.inside.Index.{flight_without}
 
--- the ledger at the beginning of the reaction to an occurrence that is due at a time
+-- the ledger at the start of the reaction to an occurrence due at a time
 abbrev pub ledger_of : {State Msg : Type 0} → Index → ℕ → Occurrence Msg → World State Msg → Ledger
 ledger_of index due o w = record {
   clock = due;
@@ -18,7 +18,7 @@ ledger_of index due o w = record {
   unasked = disk.not_asked (host_at o.host w).disk;
 }
 
--- A ledger follows a world of which the effects of a reaction of host h, at a time, made another.
+-- A ledger follows a world that the effects of a reaction of host h, at a time, made from `base`.
 pub record Follows {State Msg : Type 0} (l : Ledger) (h : ℕ) (base w : World State Msg) : Type 0
   where
     pub clock : w.clock ≡ l.clock
@@ -32,11 +32,11 @@ pub record Follows {State Msg : Type 0} (l : Ledger) (h : ℕ) (base w : World S
     pub places : length w.places ≡ 34
     pub host : h < length w.hosts
 
--- each disk was asked for no more writes than it has
+-- no disk was asked for more writes than it has
 abbrev pub AreAsked : {State Msg : Type 0} → World State Msg → Type 0
 AreAsked w = (h : ℕ) → (host_at h w).disk.asked ≤ length (host_at h w).disk.writes
 
--- There is room in the numbers of a ledger for so many effects more.
+-- The numbers of a ledger have room for `left` more effects.
 pub record HasRoomFor (left : ℕ) {State Msg : Type 0} (base : World State Msg)
     (l : Ledger) : Type 0 where
   pub clock : l.clock < 2 ^ 40

@@ -1,4 +1,4 @@
--- Worlds and hosts that are kept for later.
+-- Packed worlds and hosts.
 use Rattle.std.specs.Prelude.{◌≡◌, ℕ, List, [], ◌∷◌, map, Option}
 use Rattle.sim_disk.specs.Disk.{Disk}
 use Rattle.sim_node.specs.declared.Setup.{Setup}
@@ -8,14 +8,14 @@ use Rattle.sim_world.specs.inside.Index.{IsIndexOf}
 use Rattle.sim_world.specs.Records.{InHand}
 use Rattle.sim_world.specs.inside.Sound.{IsSound}
 
--- hosts, beside the serials of their pending timers
+-- hosts, with the serials of their pending timers
 -- hosts      in the order of their numbers
 -- timers     the serial of each host's pending timer
 pub record HostsInHand (State : Type 0) : Type 0 where
   pub hosts : List (Host State)
   pub timers : List (Option ℕ)
 
--- hosts that are kept without their disks, with these disks
+-- packed hosts without their disks, with these disks
 abbrev pub hosts_in : {State : Type 0} → List (KeptHost State) → List Disk → List (Host State)
 hosts_in [] disks = []
 hosts_in (k ∷ kept) [] = []
@@ -25,8 +25,8 @@ hosts_in (k ∷ kept) (d ∷ disks) =
 abbrev pub timers_in : {State : Type 0} → List (KeptHost State) → List (Option ℕ)
 timers_in kept = map (λ k. k.timer) kept
 
--- A world that is kept is one of a run, with the words of this seed; the counts are those of its
--- messages, and the timers its hosts'.
+-- A packed world is one of a run, with the words of this seed; the counts are those of its
+-- messages, and the timers those of its hosts.
 pub record IsPacked {State Msg : Type 0} (told : State → Setup) (key : List ℕ) (flying waiting : ℕ)
     (serials : List (Option ℕ))
     (kept : InHand State Msg) : Type 0 where

@@ -1,4 +1,4 @@
--- What a crash takes out of what is pending, one occurrence after another.
+-- The occurrences that a crash takes out of the queue, one after another.
 use Rattle.std.specs.Prelude.{◌≡◌, ℕ, ◌+◌, ◌<◌, nat_le, ◌&&◌, Option, Some, None}
 use Rattle.std.specs.List.{find}
 use Rattle.sim_queue.specs.declared.Item.{Item}
@@ -12,7 +12,7 @@ abbrev pub first_lost : {Msg : Type 0} → ℕ → ℕ → Pending (Occurrence M
     → Option (Item (Occurrence Msg))
 first_lost h from q = find (λ x. nat_le from x.serial && is_lost_by_crash h x) q.items
 
--- it is taken out, and the next is looked for behind it
+-- it is taken out, and the search for the next goes on after it
 pub record PurgedOne {Msg : Type 0} (h from : ℕ) (old : Pending (Occurrence Msg)) (next : ℕ)
     (new : Pending (Occurrence Msg)) : Type 0 where
   pub item : Item (Occurrence Msg)
@@ -22,8 +22,8 @@ pub record PurgedOne {Msg : Type 0} (h from : ℕ) (old : Pending (Occurrence Ms
   pub after : new ≡ take item.serial old
 
 module _ {State Msg Undo : Type 0} (records : NodeRecords State Undo) where
-  -- the changes between two trails lead back from what is pending now to what was pending; all else
-  -- of the world stays
+  -- the changes between two trails lead back from the present queue to the earlier one; the rest of
+  -- the world is unchanged
   abbrev pub ExtendsPending : Changes State Msg Undo → Pending (Occurrence Msg)
       → Changes State Msg Undo → Pending (Occurrence Msg) → Type 0
   ExtendsPending old was new now =

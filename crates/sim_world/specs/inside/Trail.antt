@@ -1,4 +1,4 @@
--- The small changes of an event as they are kept while it goes on.
+-- The small changes of an event, as stored while it goes on.
 use Rattle.std.specs.Prelude.{◌≡◌, ℕ, zero, suc, ◌+◌, Bool, true, false, cond, IsTrue, List, []}
 use Rattle.std.specs.Prelude.{◌∷◌, ◌++◌, map, Option, Some, None}
 use Rattle.std.specs.List.{count_by}
@@ -20,19 +20,19 @@ pub record IsTrail {State Msg Undo : Type 0} (records : NodeRecords State Undo)
   pub fits : Fits records changes now
   pub back : back records changes now ≡ before
 
--- what a trail says: whether it keeps changes, and those that it has kept, in order
+-- the value of a trail: whether it stores changes, and those stored so far, in order
 pub record Changes (State Msg Undo : Type 0) : Type 0 where
   pub keeps : Bool
   pub items : List (Small State Msg Undo)
 
--- a trail with changes more, if it keeps them
+-- a trail with more changes, if it stores them
 abbrev pub added : {State Msg Undo : Type 0} → Changes State Msg Undo → List (Small State Msg Undo)
     → Changes State Msg Undo
 added trail changes = cond trail.keeps (record trail { items = trail.items ++ changes }) trail
 
--- Of a trail that keeps changes: what led back from one world leads back from a later one to the
--- same world, with the changes between the two at its end, among which are so many reactions. Of
--- one that keeps none nothing is said.
+-- For a trail that stores changes: if the old changes lead back from the old world, the new ones
+-- lead back from the new world to the same one, and have `reactions` more reactions. For a trail
+-- that stores none, nothing is required.
 pub record ExtendsBy {State Msg Undo : Type 0} (reactions : ℕ) (records : NodeRecords State Undo)
     (old : Changes State Msg Undo) (was : World State Msg) (new : Changes State Msg Undo)
     (now : World State Msg) : Type 0 where
@@ -47,18 +47,18 @@ abbrev pub Extends : {State Msg Undo : Type 0} → NodeRecords State Undo
     → Changes State Msg Undo → World State Msg → Changes State Msg Undo → World State Msg → Type 0
 Extends records old was new now = ExtendsBy 0 records old was new now
 
--- what a step did first
+-- the changes that a step made first
 abbrev pub taken_changes : {State Msg Undo : Type 0} → Option (Taken Msg)
     → List (Small State Msg Undo)
 taken_changes None = []
 taken_changes (Some t) = small.Took t.item ∷ small.Timed t.clock ∷ []
 
--- the reaction that is kept in place, if it is there
+-- the reaction stored inline, if there is one
 abbrev pub acted_in : {Undo : Type 0} → Bool → ℕ → Option Undo → Option (ℕ × Undo)
 acted_in false host undo = None
 acted_in true host undo = option_map (λ u. (host, u)) undo
 
--- the small change that a compact one is
+-- the small change that a compact one represents
 abbrev pub unboxed : {State Msg Undo : Type 0} → Compact State Msg Undo → Small State Msg Undo
 unboxed (compact.TookTimer h due serial) =
     small.Took (record {
@@ -98,13 +98,12 @@ module _ {State Msg Undo : Type 0} where
   acted_change None = []
   acted_change (Some a) = small.Acted a.0 a.1 ∷ []
 
-  -- so many messages were sent over open directions: for each two words were drawn, and it was
-  -- queued
+  -- n messages were sent over open directions: for each two words were drawn, and it was queued
   abbrev pub sent_changes : ℕ → List (Small State Msg Undo)
   sent_changes zero = []
   sent_changes (suc n) = sent_changes n ++ small.Drew 0 2 ∷ small.Queued ∷ []
 
-  -- the changes of a trail: of the usual step, and then any others
+  -- the changes of a trail: those of the usual step, and then any others
   abbrev pub changes_of : Option (ℕ × disk.DiskUndo) → Option ℕ → Option (ℕ × Undo) → ℕ
       → List (Compact State Msg Undo) → List (Small State Msg Undo)
   changes_of synced drawn acted sent others =

@@ -8,21 +8,23 @@ ghost use Rattle.sim_world.specs.inside.DiskWork.{disk_changes};
 use crate::trail::Compact;
 use sim_disk::LightUndo;
 
-/// Writes to the disk of a host, then a sync that asks for them, and then its coming.
+/// Writes to the disk of a host, then a sync that asks for them, then the queued coming of the
+/// sync.
 #[derive(Clone, Copy, Drop)]
 pub(crate) enum DiskWork {
     /// Nothing was done.
     Nothing,
-    /// So many writes were added.
+    /// This number of writes was added.
     Wrote { host: u16, writes: u32 },
-    /// So many writes were added, and then a sync asked; so many were asked for before.
+    /// This number of writes was added, and then a sync asked; `was` writes had been asked for
+    /// before.
     Asked { host: u16, writes: u32, was: u32 },
     /// As for `Asked`, and then an occurrence was queued.
     Queued { host: u16, writes: u32, was: u32 },
 }
 
 impl DiskWork {
-    // Whether nothing was done.
+    // Returns whether nothing was done.
     #[inline(always)]
     pub(crate) fn is_nothing<S, M, U>(&self) -> bool
         ensures { OnTrue result (disk_changes {State = S} {Msg = M} {Undo = U} self.now ≡ []) }
@@ -30,7 +32,7 @@ impl DiskWork {
         matches!(self, DiskWork::Nothing)
     }
 
-    // Adds that the disk of a host changed so, if that can come next.
+    // Adds a change of the disk of a host, if it can come next. Returns whether it can.
     #[inline(always)]
     pub(crate) fn add<S, M, U>(&mut self, host: u16, undo: LightUndo) -> bool
         ensures added { OnTrue result (disk_changes {State = S} {Msg = M} {Undo = U} self.new
@@ -67,7 +69,7 @@ impl DiskWork {
         }
     }
 
-    // Adds that an occurrence was queued, if that can come next.
+    // Adds that an occurrence was queued, if that can come next. Returns whether it can.
     #[inline(always)]
     pub(crate) fn add_queued<S, M, U>(&mut self) -> bool
         ensures added { OnTrue result (disk_changes {State = S} {Msg = M} {Undo = U} self.new
@@ -83,7 +85,7 @@ impl DiskWork {
         }
     }
 
-    // Takes the last change out.
+    // Removes and returns the last change.
     pub(crate) fn pop<S, M, U>(&mut self) -> Option<Compact<S, M, U>>
         ensures items { disk_changes {State = S} {Msg = M} {Undo = U} self.old
             ≡ disk_changes {State = S} {Msg = M} {Undo = U} self.new ++ option_to_list result }

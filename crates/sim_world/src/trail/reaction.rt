@@ -1,10 +1,10 @@
-//! The reaction of a node that a trail keeps in place.
+//! The reaction of a node, stored inline in a trail.
 ghost use Rattle.std.specs.Prelude.{◌≡◌, None, Some, is_some, not};
 
 use std::marker::Model;
 
-/// The host whose node reacted and the record of the reaction, or none. A record that is done with
-/// is not touched until another one takes its place, so it costs next to nothing to clear this.
+/// The host whose node reacted and the record of the reaction, or none. A record that is no longer
+/// needed is not touched until another one replaces it, so clearing costs next to nothing.
 #[derive(Drop)]
 pub(crate) struct Reaction<U> {
     is_there: bool,

@@ -11,22 +11,22 @@ use std::alloc::Global;
 use std::marker::Model;
 use std::mem;
 
-/// What comes before the changes of the list.
+/// The change before those of the list.
 #[derive(Clone, Copy, Drop)]
 enum TimerChange {
-    /// What stands in the list, if anything does.
+    /// Nothing: only the list has changes, if any.
     Nothing,
-    /// The timer of a host was taken out, which had this due and this serial.
+    /// The timer of a host, with this due and this serial, was taken out.
     TookTimer { host: u16, due: u64, serial: u64 },
     /// An occurrence was queued.
     Queued,
-    /// The timer of a host was taken out, which had this due and this serial, and then an
-    /// occurrence was queued.
+    /// The timer of a host, with this due and this serial, was taken out, and then an occurrence
+    /// was queued.
     Reset { host: u16, due: u64, serial: u64 },
 }
 
-/// Changes in order: what was done with the disk of a host, then the setting of a timer, then any
-/// others. Only the others take memory.
+/// Changes in order: those of a host's disk, then the setting of a timer, then any others. Only the
+/// others take memory.
 #[derive(Drop)]
 pub(crate) struct Rest<S, M, U> {
     disk: DiskWork,
@@ -46,7 +46,7 @@ impl<S, M, U> Model for Rest<S, M, U> {
 }
 
 impl<S, M, U> Rest<S, M, U> {
-    // No changes.
+    // Returns no changes.
     pub(crate) fn new(alloc: Global) -> Rest<S, M, U>
         ensures { result ≡ [] }
     {
@@ -57,7 +57,7 @@ impl<S, M, U> Rest<S, M, U> {
         }
     }
 
-    // Whether there are none.
+    // Returns `true` only if there are no changes.
     pub(crate) fn is_empty(&self) -> bool
         ensures { OnTrue result (self.now ≡ []) }
     {
@@ -68,7 +68,7 @@ impl<S, M, U> Rest<S, M, U> {
         }
     }
 
-    // Takes the last one out.
+    // Removes and returns the last change.
     pub(crate) fn pop(&mut self) -> Option<Compact<S, M, U>>
         ensures items { self.old ≡ self.new ++ option_to_list result }
         ensures none { IfNone result (self.old ≡ []) }
@@ -95,7 +95,7 @@ impl<S, M, U> Rest<S, M, U> {
 }
 
 impl<S: Drop, M: Drop, U: Drop> Rest<S, M, U> {
-    // No changes; the memory of those that there were stays.
+    // Drops all changes; the memory stays.
     #[inline(always)]
     pub(crate) fn clear(&mut self)
         ensures { self.new ≡ [] }
@@ -107,7 +107,7 @@ impl<S: Drop, M: Drop, U: Drop> Rest<S, M, U> {
         }
     }
 
-    // No changes, with memory of those that are done with.
+    // Drops all changes, and takes the memory of those in `spare`.
     pub(crate) fn take_memory(&mut self, spare: &mut Vec<Compact<S, M, U>>)
         ensures { self.new ≡ [] }
     {
@@ -115,7 +115,7 @@ impl<S: Drop, M: Drop, U: Drop> Rest<S, M, U> {
         self.clear();
     }
 
-    // Leaves its memory, where it is more than what is spare.
+    // Leaves its memory in `spare`, if it is more than that of `spare`.
     pub(crate) fn leave_memory(&mut self, spare: &mut Vec<Compact<S, M, U>>) {
         if spare.capacity() < self.list.capacity() {
             mem::swap(&mut self.list, spare);
@@ -144,7 +144,7 @@ impl<S: Drop, M: Drop, U: Drop> Rest<S, M, U> {
         self.push_growing(change)
     }
 
-    // Adds that the timer of a host was taken out, which had this due and this serial.
+    // Adds that the timer of a host, with this due and this serial, was taken out.
     pub(crate) fn push_took_timer(
         &mut self,
         host: u16,
@@ -162,7 +162,7 @@ impl<S: Drop, M: Drop, U: Drop> Rest<S, M, U> {
         }
     }
 
-    // Adds that the disk of a host changed.
+    // Adds a change of the disk of a host.
     pub(crate) fn push_stored(&mut self, host: u16, undo: DiskUndo) -> Result<(), NoMemory>
         ensures { OnOk result (self.new ≡ self.old ++ compact.Stored host undo ∷ []) }
     {
@@ -193,7 +193,7 @@ impl<S: Drop, M: Drop, U: Drop> Rest<S, M, U> {
     }
 }
 
-// Drops the elements of a list, whose memory stays.
+// Drops the elements of a list; the memory stays.
 #[inline(never)]
 fn drop_all<T: Drop>(list: &mut Vec<T>)
     ensures { list.new.items ≡ [] }
