@@ -267,7 +267,7 @@ fn is_before(node: &Node, due: u64, serial: u64) -> bool
     node.due < due || (node.due == due && node.serial < serial)
 }
 
-// Returns whether a node's key is behind this one.
+// Returns whether a node's key is after this one.
 #[inline(always)]
 fn is_behind(node: &Node, due: u64, serial: u64) -> bool
     requires key { node.now.serial < 2 ^ 40 }

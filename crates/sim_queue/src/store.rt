@@ -32,7 +32,7 @@ impl<B> Store<B> {
         }
     }
 
-    /// Adds an item. Drops empty slots first, if they are many.
+    /// Adds an item. Drops empty slots rather than take memory, if they are many.
     #[inline(always)]
     pub(crate) fn add(&mut self, due: u64, body: B) -> Result<u64, NoMemory>
     where
@@ -260,8 +260,8 @@ impl<B> Store<B> {
     }
 }
 
-// Returns how many slots to make before the first one, whose serial is `base`, if `needed` are
-// needed: as many as there are or `needed`, whichever is more, but none before serial 0.
+// Returns the number of slots to make before the first one, whose serial is `base`: `needed`, or as
+// many as there are if that is more, but none before serial 0.
 fn before_first(needed: u64, len: u64, base: u64) -> u64
     requires { needed ≤ base }
     ensures enough { needed ≤ result }

@@ -150,7 +150,7 @@ impl<N: Node> Tape<N> {
         self.walk.world.is_some()
     }
 
-    /// Returns the number of events that their records can undo now.
+    /// Returns the reach: the number of events that records can undo now.
     pub fn reach(&self) -> u32
         ensures value { result ≡ self.now.reach }
         ensures within { self.now.reach ≤ self.now.place }

@@ -15,8 +15,8 @@ is_cut state.Cut = true
 is_cut _ = false
 
 module _ {State Msg : Type 0} where
-  -- A sent message is dropped if 4096 are in flight and held and, to another host, if the direction
-  -- is cut.
+  -- A sent message is dropped if 4096 are in flight and held, or if it goes to another host over a
+  -- cut direction.
   abbrev pub is_dropped : ℕ → ℕ → World State Msg → Bool
   is_dropped from to w = is_full w || (not (from == to) && is_cut (link from to w.links).state)
 

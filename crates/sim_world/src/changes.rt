@@ -33,8 +33,8 @@ pub(crate) struct Letter<M> {
 }
 
 impl<N: Node> Parts<N> {
-    // Queues an occurrence for a host, and returns its serial. A sync covers `covered` writes. The
-    // trail leads back as before, with this change at its end.
+    // Queues an occurrence for a host, and returns its serial. A sync covers `covered` writes. A
+    // trail that led back still does, with this change added at its end.
     #[inline(always)]
     fn enqueue(
         &mut self,
@@ -256,8 +256,8 @@ impl<N: Node> Parts<N> {
         self.queue_up(trail, due, h, count, Input::Synced)
     }
 
-    // Draws two words of the network's stream. The trail leads back as before, with this change at
-    // its end.
+    // Draws two words of the network's stream. A trail that led back still does, with this change
+    // added at its end.
     pub(crate) fn draw_two(&mut self) -> (u32, u32)
         requires places { length self.old.world.places ≡ 34 }
         requires room { place network self.old.world + 2 ≤ 2 ^ 40 }

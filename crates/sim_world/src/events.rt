@@ -344,8 +344,8 @@ impl<N: Node> World<N> {
         Ok(World { cluster })
     }
 
-    /// Like `undo`, but borrows the record. It is spent then, and its memory can serve that of
-    /// another event.
+    /// Like `undo`, but borrows the record. It is spent then, and its memory can serve another
+    /// event.
     pub fn undo_by(
         self,
         alloc: Global,
@@ -367,7 +367,7 @@ impl<N: Node> World<N> {
         Ok(World { cluster })
     }
 
-    /// Takes the memory of a record that is no longer needed for the next event. The world is
+    /// Keeps the memory of a record that is no longer needed, for the next event. The world is
     /// unchanged.
     pub fn reuse(&mut self, undo: Undo<N>)
         ensures { self.new ≡ self.old }

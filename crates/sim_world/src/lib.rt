@@ -7,12 +7,12 @@
 //! # Main types
 //!
 //! * [`World`]: the type that the crates above hold. It boxes a `Cluster` and keeps it sound.
-//! Contracts see the world's value, its scenario and its age (`InHand` in `specs/Records.antt`).
+//!   Contracts see the world's value, its scenario and its age (`InHand` in `specs/Records.antt`).
 //! * `Cluster`: the `Parts`, the `Tools`, the shared scenario, the age, and memory for reuse.
 //! * `Parts`: the world proper. The clock, the streams of words, the queue, the links, the hosts.
 //! * `Tools`: what a step uses beside the parts: an `Index`, and room for a node's effects.
 //! * `Index`: counts of messages, and the serial of each host's timer. The parts determine it; it
-//! is kept beside them so that no step searches the queue.
+//!   is kept beside them so that no step searches the queue.
 //! * [`Undo`]: the record of one event. It has what a step took out of the queue (`Taken`), a
 //!   `Trail`, and the entries of the index that the event may have changed (`Beside`).
 //! * `Trail`: the small changes of one event, in order.
@@ -28,7 +28,7 @@
 //! 4. Each primitive change of the parts (`changes.rt`) updates the index and pushes one small
 //!    change onto the trail.
 //! 5. [`World::undo`] undoes the changes from the last to the first, each kind by its own function
-//! (`take_back.rt`), puts back what the step took out, and restores the index.
+//!    (`take_back.rt`), puts back what the step took out, and restores the index.
 //!
 //! [`World::step_for_good`] is a step without a record.
 //!

@@ -14,7 +14,7 @@ use std::mem;
 /// The change before those of the list.
 #[derive(Clone, Copy, Drop)]
 enum TimerChange {
-    /// Nothing: only the list has changes, if any.
+    /// No change before those of the list.
     Nothing,
     /// The timer of a host, with this due and this serial, was taken out.
     TookTimer { host: u16, due: u64, serial: u64 },
