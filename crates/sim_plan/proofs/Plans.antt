@@ -1,5 +1,5 @@
 -- What a forecast gives next.
-use Rattle.std.proofs.Common.{◌≡◌, ℕ, zero, suc, ◌+◌, ◌-◌, ◌<◌, ◌%◌, ◌^◌, Option, None, Some, List, [], ◌∷◌, replicate, refl, sym, ap, ◌∙◌, arith}
+use Rattle.std.proofs.Common.{◌≡◌, ◌==◌, if◌then◌else◌, ℕ, zero, suc, ◌+◌, ◌-◌, ◌/◌, ◌<◌, ◌%◌, ◌^◌, Option, None, Some, List, [], ◌∷◌, replicate, refl, sym, ap, ◌∙◌, arith}
 use Rattle.std.proofs.Math.Nat.{mod-eq_of_lt}
 use Rattle.rand_chacha.specs.ChaCha.{ChaCha, key_of, of_seed, word_at, next_word}
 use Rattle.sim_streams.specs.Word.{word}
@@ -11,7 +11,7 @@ use Rattle.sim_plan.specs.declared.plan.Plan.{Plan}
 use Rattle.sim_plan.specs.declared.owed.Owed.{Owed}
 use Rattle.sim_plan.specs.declared.owed.Owed.TheVariants.{Nothing}
 use Rattle.sim_plan.specs.declared.forecast.Forecast.{Forecast}
-use Rattle.sim_plan.specs.Planned.{planned_by, planned_from, planned_events, planned, quiet_end, PlansAlike}
+use Rattle.sim_plan.specs.Planned.{planned_by, planned_from, planned_events, planned, quiet_end, struck, PlansAlike}
 use Rattle.sim_plan.specs.Owing.{healings}
 use Rattle.sim_plan.specs.Forecasting.{yet_planned}
 
@@ -73,20 +73,26 @@ next_word_is w g h small next =
       ap (λ (x : ℕ × ChaCha). x.1) next ∙ ap (λ (q : ℕ). let r : ChaCha = record { key = g.key; stream = g.stream; word_pos = q } in r) m,
     )
 
+-- a word that the spacing divides plans a fault or a healing
+pub planned_struck : (servers hosts spacing w : ℕ) (owed : List Fault) → w % spacing ≡ 0
+    → struck servers hosts (w / spacing) owed ≡ planned_by servers hosts (Some spacing) w owed
+planned_struck servers hosts spacing w owed divides =
+    sym (ap {B = Event × List Fault} (λ (k : ℕ). if k == 0 then struck servers hosts (w / spacing) owed else (event.Step, owed)) divides)
+
 -- an event that a word plans
 pub word_plans : (f : Forecast) (spacing w : ℕ) (h : ChaCha) (e : Event) (owed : Owed) → f.spacing ≡ Some spacing → f.rng.word_pos + f.left < 2 ^ 68 → 0 < f.left
     → ◌≡◌ {A = ℕ × ChaCha} (w, h) (next_word 10 f.rng)
     → e ≡ (planned_by f.servers f.hosts (Some spacing) w (healings f.owed)).0
     → healings owed ≡ (planned_by f.servers f.hosts (Some spacing) w (healings f.owed)).1
     → yet_planned f ≡ e ∷ yet_planned (record { rng = h; servers = f.servers; hosts = f.hosts; spacing = f.spacing; left = f.left - 1; quiet = f.quiet; owed = owed })
-word_plans f spacing w h e owed spaced small some next is then =
+word_plans f spacing w h e owed spaced small some next is later =
     let ws : ℕ → ℕ = word_at 10 f.rng.key f.rng.stream in
     let o : List Fault = healings f.owed in
     let n = next_word_is w f.rng h (omega (arith, small, some)) next in
     planned_more ws f.servers f.hosts f.spacing f.quiet f.rng.word_pos f.left o some
     ∙ ap {B = List Event} (λ (x : ℕ). (planned_by f.servers f.hosts f.spacing x o).0 ∷ planned_from ws f.servers f.hosts f.spacing f.quiet (f.rng.word_pos + 1) (f.left - 1) (planned_by f.servers f.hosts f.spacing x o).1) (sym n.0)
     ∙ ap (λ (x : Event). x ∷ planned_from ws f.servers f.hosts f.spacing f.quiet (f.rng.word_pos + 1) (f.left - 1) (planned_by f.servers f.hosts f.spacing w o).1) (sym (is ∙ ap (λ (s : Option ℕ). (planned_by f.servers f.hosts s w o).0) (sym spaced)))
-    ∙ ap (λ (x : List Fault). e ∷ planned_from ws f.servers f.hosts f.spacing f.quiet (f.rng.word_pos + 1) (f.left - 1) x) (sym (then ∙ ap (λ (s : Option ℕ). (planned_by f.servers f.hosts s w o).1) (sym spaced)))
+    ∙ ap (λ (x : List Fault). e ∷ planned_from ws f.servers f.hosts f.spacing f.quiet (f.rng.word_pos + 1) (f.left - 1) x) (sym (later ∙ ap (λ (s : Option ℕ). (planned_by f.servers f.hosts s w o).1) (sym spaced)))
     ∙ ap (λ (g : ChaCha). e ∷ planned_from (word_at 10 g.key g.stream) f.servers f.hosts f.spacing f.quiet g.word_pos (f.left - 1) (healings owed)) (sym n.1)
 
 -- the generator stands at the first word of the stream

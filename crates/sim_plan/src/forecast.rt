@@ -1,6 +1,6 @@
 //! The events that words plan, and the quiet end.
 ghost use Rattle.std.specs.Prelude.{◌≡◌, ◌∷◌, [], ◌<◌, ◌≤◌, MatchOption, Some};
-ghost use Rattle.sim_plan.specs.Planned.{planned_by, struck};
+ghost use Rattle.sim_plan.specs.Planned.{struck};
 ghost use Rattle.sim_plan.specs.Owing.{healings};
 ghost use Rattle.sim_plan.specs.Forecasting.{yet_planned, IsForecast};
 
@@ -38,23 +38,23 @@ fn struck(servers: u32, hosts: u32, v: u32, owed: Owed) -> (Event, Owed)
     (Event::Fault(fault), owed.then(healing))
 }
 
-// Returns the event that a word plans with a spacing, and the healings owed after it.
-fn planned_by(servers: u32, hosts: u32, spacing: u32, word: u32, owed: Owed) -> (Event, Owed)
-    requires servers { (1 ≤ servers) × (servers ≤ hosts) }
-    requires hosts { (2 ≤ hosts) × (hosts ≤ 32) }
-    requires spacing { 1 ≤ spacing }
-    ensures event { result.0 ≡ (planned_by servers hosts (Some spacing) word (healings owed)).0 }
-    ensures owed { healings result.1 ≡ (planned_by servers hosts (Some spacing) word
-        (healings owed)).1 }
-{
-    if word % spacing == 0 {
-        struck(servers, hosts, word / spacing, owed)
-    } else {
-        (Event::Step, owed)
-    }
-}
-
 impl Forecast {
+    // Returns the fault or the healing that a number plans, and notes the healings owed after it. A
+    // step does not pass through here, so `owed` stays in its place then.
+    #[inline(never)]
+    fn strike(&mut self, v: u32) -> Event
+        requires fine { IsForecast self.old }
+        ensures event { result
+            ≡ (struck self.old.servers self.old.hosts v (healings self.old.owed)).0 }
+        ensures owed { healings self.new.owed
+            ≡ (struck self.old.servers self.old.hosts v (healings self.old.owed)).1 }
+        ensures same { self.new ≡ record self.old { owed = self.new.owed } }
+    {
+        let (event, owed) = struck(self.servers, self.hosts, v, self.owed);
+        self.owed = owed;
+        event
+    }
+
     // Returns the next event before the quiet end.
     fn next_planned(&mut self) -> Event
         requires fine { IsForecast self.old }
@@ -67,9 +67,10 @@ impl Forecast {
             return Event::Step;
         };
         let word = self.rng.next_word();
-        let (event, owed) = planned_by(self.servers, self.hosts, spacing, word, self.owed);
-        self.owed = owed;
-        event
+        if word % spacing != 0 {
+            return Event::Step;
+        }
+        self.strike(word / spacing)
     }
 
     // Returns the next event of the quiet end.
