@@ -1,8 +1,7 @@
 -- Where a turn moved a branch: to a place that is one of its own.
-use Rattle.std.proofs.Common.{◌≡◌, ◌∙◌, ℕ, ◌+◌, ◌<◌, ◌≤◌, List, [], ◌++◌, length, get_or, set, Option, Some, None, refl, sym, ap, subst, inl, inr, arith}
-use Rattle.std.proofs.lemmas.List.{length-map, length-set, length-append, get_or-map, get_or_append_left, get_or-set_same, get_or_past}
+use Rattle.std.proofs.Common.{◌≡◌, ◌∙◌, ℕ, ◌<◌, ◌≤◌, List, ◌++◌, length, set, Option, Some, None, refl, sym, ap, subst, inl, inr, arith}
+use Rattle.std.proofs.lemmas.List.{length-set, length-append, get_or-map, get_or_append_left, get_or-set_same}
 use Rattle.sim_world.specs.World.{Scenario}
-use Rattle.sim_world.specs.declared.Event.{Event}
 use Rattle.sim_world.specs.Events.{Rules}
 use Rattle.sim_tape.specs.Tape.{Frozen}
 use Rattle.sim_book.specs.declared.Command.{Command}
@@ -80,12 +79,7 @@ module _ {State Msg : Type 0} (r : Rules State Msg) where
   moved_within c old new (reply.Refused why) all turn = tt
   moved_within c old new (reply.Frozen list) all turn = tt
 
--- the events of a branch that is there, and of one that is not
+-- the events of a branch that is there
 pub events_here : (s : Scenario) (kept : List Kept) (b : ℕ) (run : Frozen) → IsWhole s kept b (Some run) → run.events ≡ (branch b (all_shown kept)).events
 events_here s kept b run whole =
     whole.2 (first_kept s) ∙ sym (ap (λ (x : Branch). x.events) (get_or-map shown kept b (first_kept s) empty_branch whole.0))
-
-pub no_events : (s : Scenario) (kept : List Kept) (b : ℕ) → IsWhole s kept b None → (branch b (all_shown kept)).events ≡ []
-no_events s kept b past =
-    let far : length (all_shown kept) ≤ b = omega (arith, length-map kept shown, past) in
-    ap (λ (x : Branch). x.events) (get_or_past (all_shown kept) b empty_branch far)

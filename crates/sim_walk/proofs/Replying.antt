@@ -1,9 +1,9 @@
 -- The answer to an order, by what was done for it.
-use Rattle.std.specs.Prelude.{◌≡◌, ℕ, [], length, Result, Ok, Err, IfOk, string_bytes}
+use Rattle.std.specs.Prelude.{◌≡◌, ℕ, length, Result, Ok, string_bytes}
 use Rattle.std.proofs.Common.{subst}
 use Rattle.sim_node.specs.Node.{NodeLaws}
 use Rattle.sim_world.specs.World.{Scenario}
-use Rattle.sim_world.specs.Events.{Rules, rules}
+use Rattle.sim_world.specs.Events.{rules}
 use Rattle.sim_script.specs.Script.{Names}
 use Rattle.sim_book.specs.Book.{branch, branch_of}
 use Rattle.sim_book.specs.Kept.{BookView, all_shown}
@@ -11,19 +11,10 @@ use Rattle.sim_book.specs.declared.Command.{Command}
 use Rattle.sim_book.specs.declared.Entry.{Entry}
 use Rattle.sim_book.specs.declared.NotTaken.{NotTaken}
 use Rattle.sim_replies.specs.Lines.{turn_line}
-use Rattle.sim_cli.specs.Turns.{Course, Takes, course_of}
+use Rattle.sim_cli.specs.Turns.{Takes, course_of}
 use Rattle.sim_walk.specs.Accounts.{Accounts}
 use Rattle.sim_walk.specs.declared.desk.Answer.{Answer}
 use Rattle.sim_walk.specs.Walks.{TakesTurn}
-
-module _ {State Msg E F : Type 0} (r : Rules State Msg) (names : Names) (old new : Course) (asked : Command) where
-  -- a turn for which there was no memory for an answer
-  pub unanswered : (turn : Result Entry NotTaken) (error : E) → Takes r old asked turn new → TakesTurn r names old asked (Err {T = Answer} error) new
-  unanswered turn error t = record { turn = turn; takes = t; told = tt }
-
-  -- the same, where there was one
-  pub answer_lost : (answer : Result Answer E) (error : F) → TakesTurn r names old asked answer new → TakesTurn r names old asked (Err {T = Answer} error) new
-  answer_lost answer error t = record { turn = t.turn; takes = t.takes; told = tt }
 
 -- a turn, and the answer to it
 pub answered : {State Msg E : Type 0} (node : NodeLaws State Msg) (probes : ℕ) (names : Names) (old new : BookView) (asked : Command) (b n : ℕ)
@@ -31,7 +22,7 @@ pub answered : {State Msg E : Type 0} (node : NodeLaws State Msg) (probes : ℕ)
     → n ≡ length (branch b (all_shown old.kept)).events → Takes (rules node probes old.scenario) (course_of old) asked turn (course_of new)
     → string_bytes a.reply ≡ turn_line names turn
     → Accounts (rules node probes new.scenario) n (branch b (all_shown new.kept)).events turn a.account.told.items
-    → TakesTurn {E = E} (rules node probes old.scenario) names (course_of old) asked (Ok a) (course_of new)
+    → TakesTurn (rules node probes old.scenario) names {E = E} (course_of old) asked (Ok a) (course_of new)
 answered node probes names old new asked b n turn a same of count t reply told =
     let told_of = subst (λ (s : Scenario). Accounts (rules node probes s) n (branch b (all_shown new.kept)).events turn a.account.told.items) same told in
     let told_on = subst (λ (m : ℕ). Accounts (rules node probes old.scenario) m (branch b (all_shown new.kept)).events turn a.account.told.items) count told_of in

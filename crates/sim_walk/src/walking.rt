@@ -1,7 +1,8 @@
 //! A scenario and a script are read, and commands are answered one after the other.
-ghost use Rattle.std.specs.Prelude.{◌≡◌, ◌≤◌, ◌++◌, ℕ, List, Some, length, string_bytes};
+ghost use Rattle.std.specs.Prelude.{◌≡◌, ◌<◌, ◌≤◌, ◌++◌, ℕ, List, Some, length, string_bytes};
 ghost use Rattle.std.specs.Io.KnownBytes.{Appends};
 ghost use Rattle.sim_world.specs.Events.{rules};
+ghost use Rattle.sim_lines.specs.Waiting.{budget};
 ghost use Rattle.sim_cli.specs.Turns.{course_of};
 ghost use Rattle.sim_walk.specs.Growth.{Grows};
 ghost use Rattle.sim_walk.specs.Walks.{CarriesOut, account_text, text_of};
@@ -225,6 +226,35 @@ fn write_account<W: Write>(account: &Account, writer: &mut W) -> Turned
     }
 }
 
+// Answers the next line, or ends the walk.
+fn walk_line<N: Node<Meter = Tally> + Debug, R: Read, W: Write>(
+    walk: &mut Walker<'_, N>,
+    reader: &mut R,
+    ahead: &mut Ahead,
+    line: &mut Vec<u8>,
+    writer: &mut W,
+) -> Turned
+where
+    N::Msg: Debug,
+    ensures grows { Grows (W.contents writer.old) (W.contents writer.new) }
+    ensures spends { result ≡ Turned.On → budget ahead.new < budget ahead.old }
+{
+    match walk.prompt(writer) {
+        Turned::On => {}
+        Turned::Ended(status) => return Turned::Ended(status),
+    }
+    match next_line(reader, ahead, line) {
+        NextLine::Line => walk.answer(line, writer),
+        NextLine::Last => match walk.answer(line, writer) {
+            Turned::On => Turned::Ended(walk.end(writer)),
+            Turned::Ended(status) => Turned::Ended(status),
+        },
+        NextLine::End => Turned::Ended(walk.end(writer)),
+        NextLine::Failed => Turned::Ended(Status::ReaderFailed),
+        NextLine::NoMemory => Turned::Ended(Status::MemoryWanted),
+    }
+}
+
 // Answers the lines of commands up to their end.
 fn walk_lines<N: Node<Meter = Tally> + Debug, R: Read, W: Write>(
     walk: &mut Walker<'_, N>,
@@ -242,22 +272,9 @@ where
         Turned::Ended(status) => return status,
     }
     loop {
-        match walk.prompt(writer) {
+        match walk_line(walk, reader, ahead, &mut line, writer) {
             Turned::On => {}
             Turned::Ended(status) => return status,
-        }
-        match next_line(reader, ahead, &mut line) {
-            NextLine::Line => match walk.answer(&mut line, writer) {
-                Turned::On => {}
-                Turned::Ended(status) => return status,
-            },
-            NextLine::Last => match walk.answer(&mut line, writer) {
-                Turned::On => return walk.end(writer),
-                Turned::Ended(status) => return status,
-            },
-            NextLine::End => return walk.end(writer),
-            NextLine::Failed => return Status::ReaderFailed,
-            NextLine::NoMemory => return Status::MemoryWanted,
         }
     }
 }
