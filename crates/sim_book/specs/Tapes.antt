@@ -1,4 +1,4 @@
--- The effect of commands on a tape.
+-- What the commands do to a tape.
 use Rattle.std.specs.Prelude.{◌+◌, ◌++◌, List, length}
 use Rattle.sim_world.specs.declared.Event.{Event}
 use Rattle.sim_tape.specs.Tape.{Tape}
