@@ -2,7 +2,7 @@
 //!
 //! ```text
 //! simback play [FILE]                            plays a script and writes a line for each command
-//! simback search LO HI COND [FILE]               finds the first place of that run where COND fails
+//! simback search LO HI COND [FILE]               finds the first place of a run where COND fails
 //! simback sweep FIRST COUNT EVENTS COND [FILE]   finds the first seed with such a place
 //! simback script I EVENTS [FILE]                 writes the run of a seed as an input for a play
 //! simback shrink COND [FILE]                     drops the faults that a failure does not need
