@@ -1,6 +1,6 @@
 -- The headline. A branch keeps its events and a place among them, and no world: its world is the
--- run of these events, from the start of the scenario up to the place. However the place was
--- reached, forwards, back or by a jump, the world that a book lends of a branch is that one.
+-- run of these events, from the start of the scenario up to the place. The world that a book lends
+-- of a branch is that one, however the place was reached: forwards, back or by a jump.
 use Rattle.std.specs.Prelude.{◌≡◌, ℕ, ◌≤◌, Bool, true, false, List, ◌++◌, length, take, Option}
 use Rattle.std.specs.Prelude.{Some, None, slice_get, IsTrue}
 use Rattle.std.specs.Option.{unwrap_or, option_map}
@@ -13,7 +13,7 @@ use Rattle.sim_book.specs.Book.{Branch, Book, IsBranch, branch, branch_of, world
 use Rattle.sim_book.specs.Answer.{after, refusal_of, steps, after_steps, run_len, tick_steps}
 use Rattle.sim_book.specs.Kept.{Kept}
 
--- there is such a branch, and its tape holds its world
+-- there is such a branch, and its tape is warm
 abbrev pub is_warm : ℕ → List Kept → Bool
 is_warm b kept = unwrap_or (option_map (λ k. k.tape.warm) (slice_get kept b)) false
 
@@ -35,37 +35,37 @@ module _ {State Msg : Type 0} (r : Rules State Msg) where
   abbrev pub IsWorldOf : Branch → World State Msg → Type 0
   IsWorldOf x w = world_by_run x ≡ Some w
 
-  -- Each branch's events can happen one after the other, so that it has a world; its place is among
-  -- them; it has eight watches.
+  -- Each branch's events can happen in order, so it has a world; its place is among them; it has
+  -- eight watches.
   abbrev pub AreBranches : Book → Type 0
   AreBranches book = All (IsBranch r) book
 
-  -- Each place of each branch has a world: the one that the answers speak of, which is nowhere the
+  -- Each place of each branch has a world, the one of which the answers speak. It is never the
   -- start for want of a run.
   abbrev pub HasWorlds : Book → Type 0
   HasWorlds book = All (λ x. (p : ℕ) → p ≤ length x.events
       → run r (take p x.events) ≡ Some (world_at r p x)) book
 
-  -- how many steps past the end of a branch an answer speaks of, at most
+  -- the most steps past the end of a branch of which an answer speaks
   abbrev pub steps_ahead : Command → Branch → ℕ
   steps_ahead (command.Run b n) x = run_len r n x
   steps_ahead (command.Tick b) x = unwrap_or (tick_steps r x) 1024
   steps_ahead _ x = 0
 
-  -- So has each number of steps that a run or a tick looks at.
+  -- So has each number of further steps that a run or a tick looks at.
   abbrev pub HasStepWorlds : Book → Type 0
   HasStepWorlds book = (c : Command) (k : ℕ) → refusal_of r c book ≡ None →
       let x = branch (branch_of c) book in
       k ≤ steps_ahead c x → run r (x.events ++ steps k) ≡ Some (after_steps r k x)
 
-  -- An event that is added, and then a way back by one, lead to the world before the event.
+  -- An added event and then a Back by one lead to the world before the event.
   abbrev pub BackAfterEvent : Book → Type 0
   BackAfterEvent book = (c : Command) → IsTrue (adds_one c) → refusal_of r c book ≡ None →
       let b = branch_of c in
       world_by_run (branch b (after r (after r book c) (command.Back b 1)))
       ≡ world_by_run (branch b book)
 
-  -- A way back by n, and then one forward by n, lead to the world that was left.
+  -- A Back by n and then a Forward by n lead to the world that was left.
   abbrev pub ForwardAfterBack : Book → Type 0
   ForwardAfterBack book = (b n : ℕ) → refusal_of r (command.Back b n) book ≡ None →
       world_by_run (branch b (after r (after r book (command.Back b n)) (command.Forward b n)))

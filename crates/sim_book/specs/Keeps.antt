@@ -16,11 +16,11 @@ use Rattle.sim_book.specs.Book.{branch_of}
 use Rattle.sim_book.specs.Answer.{is_idle, answer}
 use Rattle.sim_book.specs.Kept.{Kept, all_shown}
 
--- The reach after a command that moves the place. It rises by one for each event that is added or
--- walked forward, up to the window, and falls by one for each that is walked back within the reach.
--- On a cold tape a step, a fault, a run, a tick and a rewind first make the world at the place.
--- After any other jump the reach is that of the way there; after a rewind past the reach it is
--- open.
+-- The reach after a command that moves the place. It rises by one for each event added or walked
+-- forward, up to the window, and falls by one for each event walked back within the reach. On a
+-- cold tape a step, a fault, a run, a tick and a rewind first make the world at the place. After
+-- any other jump the reach is that of the way there; after a rewind past the reach it is not
+-- specified.
 abbrev pub Moves : Command → Tape → Tape → Type 0
 Moves (command.Step b) t u = IsTrue u.warm × (u.reach ≡ min t.scenario.window (reach_here t + 1))
 Moves (command.Fault b f) t u = IsTrue u.warm × (u.reach ≡ min t.scenario.window (reach_here t + 1))
@@ -47,9 +47,8 @@ is_freeze (command.Freeze b) = true
 is_freeze _ = false
 
 module _ {State Msg : Type 0} (node : NodeLaws State Msg) (probes : ℕ) where
-  -- Where memory was wanted: a step or a run on a warm tape wants it only where something is
-  -- pending. A look, a run of no step, and a move to the place where the tape is, want it only of a
-  -- cold tape.
+  -- When memory can be wanted: for a step or a run on a warm tape, only if something is pending;
+  -- for a look, a run of no step, and a move to the tape's own place, only on a cold tape.
   abbrev pub Wants : Command → Tape → Type 0
   Wants (command.Step b) t =
       IsTrue t.warm → is_idle (world_of (rules node probes t.scenario) t) ≡ false
@@ -63,8 +62,8 @@ module _ {State Msg : Type 0} (node : NodeLaws State Msg) (probes : ℕ) where
   Wants (command.Look b q) t = t.warm ≡ false
   Wants _ t = Unit {0}
 
-  -- A refusal other than for want of memory leaves a tape as it is, warm or cold; that nothing is
-  -- pending is found out on a warm one.
+  -- A refusal other than for want of memory leaves a tape as it is, warm or cold; `Idle` is found
+  -- on a warm tape, which stays as it is.
   abbrev pub Refuses : Refusal → Command → Tape → Tape → Type 0
   Refuses refusal.NoMemory c t u = Wants c t
   Refuses refusal.Idle c t u = IsTrue t.warm → u ≡ t
@@ -86,7 +85,7 @@ module _ {State Msg : Type 0} (node : NodeLaws State Msg) (probes : ℕ) where
         → Keeps c given (slice_index_or old (branch_of c) d).tape
         (slice_index_or new (branch_of c) d).tape
 
-  -- a step or a run where nothing is pending, of a branch whose tape is warm, is told so
+  -- the reply to a step or a run on a warm branch with nothing pending says so
   abbrev pub TellsIdle : Scenario → Command → Reply → List Kept → Type 0
   TellsIdle s c given kept =
       (d : Kept) → branch_of c < length kept

@@ -1,4 +1,4 @@
--- What a contract sees of a book's branch: its tape and its watches; and of a book.
+-- What a contract sees of a branch of a book: its tape and its watches; and what it sees of a book.
 use Rattle.std.specs.Prelude.{List, map, Option, None, replicate}
 use Rattle.sim_node.specs.Work.{Work}
 use Rattle.sim_tape.specs.Tape.{Tape, opened}
@@ -11,7 +11,7 @@ pub record Kept : Type 0 where
   pub tape : Tape
   pub watches : List (Option Cond)
 
--- the first branch of a book: nothing was done on it, and it has no watches
+-- the first branch of a book, unused and without watches
 abbrev pub first_kept : Scenario → Kept
 first_kept s = record { tape = opened s; watches = replicate 8 None }
 
@@ -24,7 +24,7 @@ shown k = branch_with k.watches k.tape
 abbrev pub all_shown : List Kept → Book
 all_shown ks = map shown ks
 
--- scenario   what its runs are set up with
+-- scenario   the scenario of its runs
 -- kept       its branches
 -- history    the entries, in order
 -- work       what its meter has counted

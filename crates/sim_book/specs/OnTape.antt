@@ -1,4 +1,5 @@
--- What a tick, a run and a rewind do on a tape: what they add to it, or where they go.
+-- What a tick, a run and a rewind do to a tape: the events that they add, or the place to which
+-- they go.
 use Rattle.std.specs.Prelude.{◌≡◌, ℕ, true, List, [], Option}
 use Rattle.sim_node.specs.Node.{NodeLaws}
 use Rattle.sim_world.specs.declared.Event.{Event}
@@ -13,11 +14,11 @@ use Rattle.sim_book.specs.Tapes.{lengthened}
 use Rattle.sim_book.specs.Kept.{branch_with}
 use Rattle.sim_book.specs.Answer.{Addition, Move, tick_addition, run_addition, rewind_move}
 
--- the tape u is t with events more at its end, warm and there
+-- tape u is t with events added at its end, warm, and at the new end
 abbrev pub IsLengthened : List Event → Tape → Tape → Type 0
 IsLengthened new t u = u ≡ with_world true u.reach (lengthened new t)
 
--- the tape u is t with some events more at its end, or at some place, warm or cold
+-- tape u is t with some events added at its end, warm or cold, and at the new end
 abbrev pub HasGrown : Tape → Tape → Type 0
 HasGrown t u = (more : List Event) × (u ≡ with_world u.warm u.reach (lengthened more t))
 
@@ -29,18 +30,18 @@ module _ {State Msg : Type 0} (node : NodeLaws State Msg) (probes : ℕ) where
   abbrev pub world_on : Tape → World State Msg
   world_on t = world_of (rules node probes t.scenario) t
 
-  -- why no step can happen at the place of a tape, or none where one can
+  -- why no step can happen at the place of a tape, or none if one can
   abbrev pub step_refusal : Tape → Option Refusal
   step_refusal t = refusal_of (rules node probes t.scenario) event.Step (world_on t)
 
-  -- what a tick adds to a tape; it does not depend on the watches
+  -- the events that a tick adds to a tape; they do not depend on the watches
   abbrev pub tick_on : Tape → Addition
   tick_on t = tick_addition (rules node probes t.scenario) (branch_with [] t)
 
-  -- what a run of at most n steps adds to a tape, under these watches
+  -- the events that a run of at most n steps adds to a tape with these watches
   abbrev pub run_on : ℕ → List (Option Cond) → Tape → Addition
   run_on n watches t = run_addition (rules node probes t.scenario) n (branch_with watches t)
 
-  -- where a rewind of at most n events goes on a tape, under these watches
+  -- where a rewind of at most n events goes on a tape with these watches
   abbrev pub rewind_on : ℕ → List (Option Cond) → Tape → Move
   rewind_on n watches t = rewind_move (rules node probes t.scenario) n (branch_with watches t)

@@ -1,4 +1,4 @@
--- A run, a tick or a rewind that goes on: how far it has come.
+-- The progress of a run, a tick or a rewind.
 use Rattle.std.specs.Prelude.{◌≡◌, ℕ, ◌+◌, ◌-◌, ◌*◌, ◌/◌, ◌%◌, ◌<◌, ◌≤◌, min, true, List, []}
 use Rattle.std.specs.Prelude.{Option, Some, None, length}
 use Rattle.sim_node.specs.Node.{NodeLaws}
@@ -18,7 +18,7 @@ use Rattle.sim_book.specs.declared.Stop.TheVariants as stop
 use Rattle.sim_book.specs.Kept.{branch_with}
 use Rattle.sim_book.specs.Answer.{steps, is_due_by, after_steps, run_stop_at, failing_at}
 
--- where a look ends that goes down to a place: at what it found, or there
+-- where a rewind down to `low` ends: at the failure found, or at `low`
 abbrev pub place_found : ℕ → Option Found → ℕ
 place_found low (Some found) = found.place
 place_found low None = low
@@ -28,14 +28,14 @@ abbrev pub stop_found : Option Found → Stop
 stop_found (Some found) = stop.Watch found.watch
 stop_found None = stop.Asked
 
--- what is found at a place, where a watch fails or none does
+-- the failure at a place: the watch that fails there, if any
 abbrev pub found_at : ℕ → Option ℕ → Option Found
 found_at p (Some watch) = Some (record { place = p; watch = watch })
 found_at p None = None
 
 module _ {State Msg : Type 0} (node : NodeLaws State Msg) (probes : ℕ) where
-  -- Of a run of n steps that began at the tape t, k steps were added, which led to the tape u, and
-  -- it did not have to stop.
+  -- A run of n steps that began at tape t has added k steps, which led to tape u, and did not have
+  -- to stop.
   pub record IsRunning (n : ℕ) (watches : List (Option Cond)) (t : Tape) (k : ℕ)
       (u : Tape) : Type 0 where
     pub new : u ≡ with_world true u.reach (lengthened (steps k) t)
@@ -46,8 +46,8 @@ module _ {State Msg : Type 0} (node : NodeLaws State Msg) (probes : ℕ) where
         (world_of (rules node probes u.scenario) u) ≡ None
     pub reach : u.reach ≡ min t.scenario.window (t.reach + k)
 
-  -- Of a tick that began at the tape t, k steps were added, which led to the tape u, and before
-  -- each of them something was due by the tick's end.
+  -- A tick that began at tape t has added k steps, which led to tape u, and before each of them
+  -- something was due by the tick's end.
   pub record IsTicking (end : ℕ) (t : Tape) (k : ℕ) (u : Tape) : Type 0 where
     pub new : u ≡ with_world true u.reach (lengthened (steps k) t)
     pub before : (j : ℕ) → j < k
@@ -63,8 +63,8 @@ module _ {State Msg : Type 0} (node : NodeLaws State Msg) (probes : ℕ) where
       (p : ℕ) → low ≤ p → p < high
       → failing_at (rules node probes t.scenario) (branch_with watches t) p ≡ None
 
-  -- of the places from `low` on, below `high`, the last at which a watch fails, and the lowest
-  -- watch that does
+  -- the last place from `low` on, below `high`, at which a watch fails, and the lowest watch that
+  -- fails there
   pub record FailsLast (watches : List (Option Cond)) (t : Tape) (low high : ℕ)
       (found : Found) : Type 0 where
     pub from : low ≤ found.place
@@ -73,27 +73,27 @@ module _ {State Msg : Type 0} (node : NodeLaws State Msg) (probes : ℕ) where
         Some found.watch
     pub after : NoneFails watches t (found.place + 1) high
 
-  -- what is found where a watch fails, or that none does
+  -- the last failure, or that no watch fails
   abbrev pub IsLast : List (Option Cond) → Tape → ℕ → ℕ → Option Found → Type 0
   IsLast watches t low high None = NoneFails watches t low high
   IsLast watches t low high (Some found) = FailsLast watches t low high found
 
-  -- Of a rewind that began at the warm tape t, k events were taken back within the reach, which led
-  -- to the tape u, and no watch failed.
+  -- A rewind that began at the warm tape t has undone k events within the reach, which led to tape
+  -- u, and no watch failed.
   pub record IsRewinding (watches : List (Option Cond)) (t : Tape) (k : ℕ) (u : Tape) : Type 0 where
     pub new : u ≡ with_world true u.reach (at (t.place - k) t)
     pub none : NoneFails watches t (t.place - k) t.place
     pub reach : u.reach ≡ t.reach - k
 
-  -- Of a stretch that begins at the place of the warm tape t, k events were walked over, which led
-  -- to the tape u, and this was found last.
+  -- A walk over a stretch, from the place of the warm tape t, has passed k events, which led to
+  -- tape u, with `last` as its last failure.
   pub record IsLooking (watches : List (Option Cond)) (t : Tape) (k : ℕ) (last : Option Found)
       (u : Tape) : Type 0 where
     pub new : u ≡ with_world true u.reach (at (t.place + k) t)
     pub found : IsLast watches t t.place (t.place + k + 1) last
 
-  -- Of a rewind that began at the warm tape t, the places down to `high` were looked at, the tape
-  -- is now u, and no watch failed.
+  -- A rewind that began at the warm tape t has tested the places down to `high`, the tape is now u,
+  -- and no watch failed.
   pub record IsPast (watches : List (Option Cond)) (t : Tape) (low high : ℕ)
       (u : Tape) : Type 0 where
     pub new : u ≡ with_world true u.reach (at u.place t)
@@ -102,8 +102,8 @@ module _ {State Msg : Type 0} (node : NodeLaws State Msg) (probes : ℕ) where
     pub below : high ≤ t.place
     pub none : NoneFails watches t high t.place
 
--- The places below `top` were looked at down to `high`, and this took so much work. Past `to` a
--- stretch begins at a checkpoint.
+-- The places below `top` were tested down to `high`, with this work. Above `to` each stretch begins
+-- at a checkpoint.
 pub record IsLooked {State Msg : Type 0} (r : Rules State Msg) (to high top : ℕ)
     (events : List Event) (old new : Work) : Type 0 where
   pub whole : high < top → to < high → high % r.scenario.interval ≡ 0

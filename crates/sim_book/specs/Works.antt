@@ -1,4 +1,4 @@
--- How much work a command takes: the turns, copies and undos of nodes that the book's meter counts.
+-- The work of a command: the turns, copies and undos of nodes that the book's meter counts.
 use Rattle.std.specs.Prelude.{◌≡◌, ℕ, zero, suc, ◌+◌, ◌-◌, ◌*◌, ◌/◌, ◌<◌, ◌≤◌, nat_lt, false, List}
 use Rattle.std.specs.Prelude.{length, slice_index_or, IsTrue, if◌then◌else◌}
 use Rattle.sim_node.specs.Node.{NodeLaws}
@@ -21,16 +21,15 @@ use Rattle.sim_book.specs.Book.{branch_of}
 use Rattle.sim_book.specs.Kept.{Kept}
 
 module _ {State Msg : Type 0} (r : Rules State Msg) where
-  -- the work of a world that is made anew: fewer turns than the interval, and one copy of a
-  -- checkpoint
+  -- the work to make a world again: fewer turns than the interval, and one copy of a checkpoint
   abbrev pub Renews : ℕ → Tape → Work → Work → Type 0
   Renews p t old new = Plays (r.scenario.interval - 1) (nodes_below r p t.events) old new
 
-  -- the work that makes the world at a tape's place, where it is not there
+  -- the work to make the world at a tape's place, if the tape is cold
   abbrev pub Warms : Tape → Work → Work → Type 0
   Warms t old new = (IsTrue t.warm → new ≡ old) × (t.warm ≡ false → Renews t.place t old new)
 
-  -- first the world is made, where it is not there, and then this work is done
+  -- first the world is made, if the tape is cold, and then this work is done
   pub record WarmsAnd (work : Work → Work → Type 0) (t : Tape) (old new : Work) : Type 0 where
     pub made : Work
     pub first : Warms t old made
@@ -41,46 +40,46 @@ module _ {State Msg : Type 0} (r : Rules State Msg) where
   abbrev pub Jumps : ℕ → Tape → Work → Work → Type 0
   Jumps p t old new = TakesAtMost (r.scenario.interval - 1) (nodes_below r p t.events) old new
 
-  -- the n events from the place p on are taken back, and nothing else is done
+  -- the n events from place p on are undone, and nothing else is done
   abbrev pub TakesBack : ℕ → ℕ → Tape → Work → Work → Type 0
   TakesBack n p t old new = new ≡ undone_by (acting r p n t.events) old
 
-  -- The n last events of these were added: a turn for each at most, no undo, and a copy of the
-  -- world for each multiple of the interval.
+  -- The last n of these events were added: at most a turn for each, no undo, and a copy of the
+  -- world at each multiple of the interval.
   abbrev pub Adds : ℕ → List Event → Work → Work → Type 0
   Adds n events old new = Plays n (nodes_made r (length events - n) n events) old new
 
-  -- how many stretches lie from a place on, below another: one for each interval with a place there
+  -- the number of stretches from `low` on, below `high`: one for each interval with a place there
   abbrev pub stretches : ℕ → ℕ → ℕ
   stretches low high =
       if nat_lt low high
       then (high - 1) / r.scenario.interval - low / r.scenario.interval + 1
       else 0
 
-  -- how many nodes are copied with n checkpoints, from that of the j-th interval on, once each
+  -- the number of nodes copied for n checkpoints, from that of the j-th interval on, once each
   abbrev pub nodes_from : ℕ → ℕ → List Event → ℕ
   nodes_from j zero events = 0
   nodes_from j (suc n) events =
       running (world_at r (j * r.scenario.interval) events) + nodes_from (j + 1) n events
 
-  -- The work of looks at the places below one, down to another: for each stretch fewer turns than
-  -- the interval and at most one copy of its checkpoint. A jump goes to the last of these places.
+  -- The work to test the places from `low` on, below `high`: for each stretch fewer turns than the
+  -- interval and at most one copy of its checkpoint. A jump goes to the last of these places.
   abbrev pub Looks : ℕ → ℕ → Tape → Work → Work → Type 0
   Looks low high t old new =
       TakesAtMost (stretches low high * (r.scenario.interval - 1) + (r.scenario.interval - 1))
       (nodes_from (low / r.scenario.interval) (stretches low high) t.events
       + nodes_below r low t.events) old new
 
-  -- at most those reactions were taken back by which the last n events before the place act
+  -- at most the reactions by which the last n events before the place act were undone
   abbrev pub UndoesAtMost : ℕ → Tape → Work → Work → Type 0
   UndoesAtMost n t old new = new.undos ≤ old.undos + acting r (t.place - n) n t.events
 
-  -- A command that moves the place. Where the world is not there, a step, a run, a tick, a fault
-  -- and a rewind first make it. Then an event is added with at most one turn; a walk back within
-  -- the reach takes no turn and no copy; a walk forward, and a goto a short way ahead, take a turn
-  -- an event at most, and nothing else; any other jump makes the world anew, by one copy of a world
-  -- and fewer turns than the interval, and takes nothing back. A rewind past the reach takes back
-  -- what lies within it at most, and looks through the stretches that it passes there.
+  -- A command that moves the place. On a cold tape a step, a run, a tick, a fault and a rewind
+  -- first make the world. Then an added event takes at most one turn. A walk back within the reach
+  -- takes no turn and no copy. A walk forward, and a goto a short way ahead, take at most a turn an
+  -- event, and nothing else. Any other jump makes the world again, by one copy of a world and fewer
+  -- turns than the interval, and undoes nothing. A rewind past the reach undoes at most what lies
+  -- within it, and goes through the stretches that it passes.
   abbrev pub MovesBy : Command → Tape → Tape → Work → Work → Type 0
   MovesBy (command.Step b) t u old new = WarmsAnd (Plays 1 (nodes_at_end r event.Step t)) t old new
   MovesBy (command.Fault b f) t u old new =
@@ -108,8 +107,8 @@ module _ {State Msg : Type 0} (r : Rules State Msg) where
   MovesBy (command.Cut b) t u old new = new ≡ old
   MovesBy _ t u old new = Unit {0}
 
-  -- Nothing is known where memory was wanted. That nothing is pending is found out on a warm tape;
-  -- no other refusal takes any work.
+  -- After want of memory nothing is known. `Idle` is found on a warm tape; no other refusal takes
+  -- any work.
   abbrev pub RefusesBy : Refusal → Tape → Work → Work → Type 0
   RefusesBy refusal.NoMemory t old new = Unit {0}
   RefusesBy refusal.Idle t old new = Warms t old new
@@ -124,12 +123,12 @@ module _ {State Msg : Type 0} (r : Rules State Msg) where
   WorksBy c (reply.Frozen list) t u old new = new ≡ old
 
 module _ {State Msg : Type 0} (node : NodeLaws State Msg) (probes : ℕ) where
-  -- the work of a command on the tape t, which becomes u
+  -- the work of a command on tape t, which becomes u
   abbrev pub Works : Command → Reply → Tape → Tape → Work → Work → Type 0
   Works c given t u old new = WorksBy (rules node probes t.scenario) c given t u old new
 
-  -- the work of a command of a book: that on the tape of its branch, and none where there is no
-  -- such branch
+  -- the work of a command of a book: that on the tape of its branch, and none if there is no such
+  -- branch
   pub record TakesWork (c : Command) (given : Reply) (kept kept' : List Kept)
       (old new : Work) : Type 0 where
     pub own : (d : Kept) → branch_of c < length kept

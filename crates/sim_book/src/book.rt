@@ -45,7 +45,7 @@ impl<N: Node> Model for Book<N> {
         b.scenario b.branches.items b.history.items b.numbers };
 }
 
-// The first branch.
+// Returns the branches of a new book: one branch without events.
 fn opening<N: Node>(
     alloc: Global,
     scenario: &Scenario,
@@ -64,14 +64,14 @@ fn opening<N: Node>(
     Ok(branches)
 }
 
-// How many entries each session has: none.
+// Returns the number of entries of each session: 0.
 fn no_entries() -> [u32; 256]
     ensures { result ≡ replicate 256 0 }
 {
     [0; 256]
 }
 
-// What was made, where the reply is a list of events.
+// Returns `made` if the reply is a list of events, else `None`.
 fn where_frozen<N: Node>(reply: &Reply, made: Option<Frozen<N>>) -> Option<Frozen<N>>
     ensures { GivesMade made reply.now result }
 {
@@ -82,7 +82,7 @@ fn where_frozen<N: Node>(reply: &Reply, made: Option<Frozen<N>>) -> Option<Froze
 }
 
 impl<N: Node> Book<N> {
-    /// A book of one branch without events.
+    /// Returns a book of one branch without events. Fails only for want of memory.
     pub fn new(alloc: Global, scenario: &Scenario, mut meter: N::Meter) -> Result<Book<N>, NoMemory>
         ensures scenario { IfOk result (λ b. b.scenario ≡ scenario.now) }
         ensures history { IfOk result (λ b. b.history ≡ []) }
@@ -102,8 +102,8 @@ impl<N: Node> Book<N> {
         })
     }
 
-    /// A session's command is carried out. An entry tells the reply and is kept at the history's
-    /// end. Where none is taken the book is unchanged.
+    /// Carries out a session's command. Returns the entry, with the reply; the history keeps an
+    /// equal one at its end. After an error the book is unchanged.
     pub fn turn(&mut self, alloc: Global, session: u8, command: Command) -> Result<Entry, NotTaken>
         ensures turned { IfOk result (λ e.
             Turned N.laws N.PROBES session command self.old e self.new) }
@@ -140,9 +140,9 @@ impl<N: Node> Book<N> {
         })
     }
 
-    /// The world of a branch at its place: it is the run of the branch's kept events from the start
-    /// up to that place, however the place was reached. `None` where there is no such branch, or
-    /// its tape is not warm. No memory is taken.
+    /// Returns the world of a branch at its place: the run of the branch's kept events from the
+    /// start up to that place, however the place was reached. Returns `None` if there is no such
+    /// branch or its tape is cold. Allocates nothing.
     pub fn here(&self, b: u32) -> Option<&World<N>>
         ensures headline { IfSome result (λ w.
             IsWorldOf (rules N.laws N.PROBES self.now.scenario) (branch b (all_shown self.now.kept))
@@ -160,11 +160,10 @@ impl<N: Node> Book<N> {
         Some(kept.tape.here())
     }
 
-    /// The laws of every book, as clauses: each branch has a world, that of its events up to its
-    /// place, and so has each of its places, and each number of steps more that a run or a tick
-    /// looks at; a way back by one after an added event leads to the world before it; and a way
-    /// forward by as many events as were gone back leads to the world that was left. The call does
-    /// nothing.
+    /// States the laws of every book; it does nothing. Each branch has the world of its events up
+    /// to its place. Each of its places has a world, and so has each number of further steps that a
+    /// run or a tick looks at. An added event and then a `Back` by one lead to the world before the
+    /// event. A `Back` and then a `Forward` by as many events lead to the world that was left.
     pub fn laws(&self)
         ensures legal { IsLegal (rules N.laws N.PROBES self.now.scenario) self.now.history
             (all_shown self.now.kept) }
@@ -183,14 +182,14 @@ impl<N: Node> Book<N> {
         prove!(self.history.len() <= MAX_ENTRIES);
     }
 
-    /// The book's meter.
+    /// Returns the book's meter.
     pub fn meter(&self) -> &N::Meter
         ensures { N.Meter.work result.now ≡ self.now.work }
     {
         &self.meter
     }
 
-    /// Whether the tape of a branch holds its world, or none where there is no such branch.
+    /// Returns whether the tape of branch `b` is warm, or `None` if there is no such branch.
     pub fn warm(&self, b: u32) -> Option<bool>
         ensures there { OnSome result (b < length self.now.kept) }
         ensures none { result ≡ None → length self.now.kept ≤ b }
@@ -203,7 +202,8 @@ impl<N: Node> Book<N> {
         }
     }
 
-    /// All kept events of a branch, which is there, with the book's scenario. No entry is made.
+    /// Returns all kept events of branch `b`, which must exist, with the book's scenario. Makes no
+    /// entry. Fails only for want of memory.
     pub fn frozen(&self, alloc: Global, b: u32) -> Result<Frozen<N>, NoMemory>
         requires { b < length self.now.kept }
         ensures { IfOk result (λ f. (f.scenario ≡ self.now.scenario) ×
@@ -212,7 +212,7 @@ impl<N: Node> Book<N> {
         self.branches[b as usize].tape.freeze(alloc)
     }
 
-    // All kept events of a branch, or none where there is no such branch.
+    // Returns all kept events of branch `b`, or `None` if there is no such branch.
     fn whole(&self, alloc: Global, b: u32) -> Result<Option<Frozen<N>>, NoMemory>
         ensures { IfOk result (IsWhole self.now.scenario self.now.kept b) }
     {
@@ -222,7 +222,7 @@ impl<N: Node> Book<N> {
         }
     }
 
-    /// Whether no more entries can be kept.
+    /// Returns whether the history is full, so that no turn can be taken.
     pub fn is_full(&self) -> bool
         ensures full { IsTrue result ↔ (65536 ≤ length self.now.history) }
         ensures legal { IsLegal (rules N.laws N.PROBES self.now.scenario) self.now.history
@@ -231,8 +231,8 @@ impl<N: Node> Book<N> {
         MAX_ENTRIES <= self.history.len()
     }
 
-    /// A session's command to freeze a branch is carried out, as by `turn`. Beside the entry all
-    /// kept events of the branch are given exactly where the reply is their list.
+    /// Carries out a session's command to freeze branch `b`, as `turn` does. Also returns all kept
+    /// events of the branch, exactly if the reply is their list.
     pub fn freeze(
         &mut self,
         alloc: Global,
@@ -259,7 +259,7 @@ impl<N: Node> Book<N> {
         }
     }
 
-    /// The history, without a growth.
+    /// Returns the history, without allocating.
     pub fn into_entries(self) -> Vec<Entry>
         ensures value { result.items ≡ self.history }
         ensures legal { IsLegal (rules N.laws N.PROBES self.scenario) result.items

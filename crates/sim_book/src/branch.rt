@@ -24,7 +24,7 @@ use sim_watch::{BadTerm, Cond};
 use sim_world::{Event, Fault, Query, View};
 use std::alloc::Global;
 
-// Whether a step can happen at the tape's place.
+// Fails with the reason why no step can happen at the tape's place.
 fn can_step<N: Node>(tape: &Tape<N>) -> Result<(), sim_world::Refusal>
     requires { IsTrue tape.now.warm }
     ensures { MatchResult result (λ _. step_refusal N.laws N.PROBES tape.now ≡ None) (λ why.
@@ -33,7 +33,7 @@ fn can_step<N: Node>(tape: &Tape<N>) -> Result<(), sim_world::Refusal>
     tape.here().can(Event::Step)
 }
 
-// What is seen at the tape's place.
+// Returns the view of the world at the tape's place.
 fn look_at<N: Node>(tape: &Tape<N>, query: Query) -> View
     requires warm { IsTrue tape.now.warm }
     requires there { CanLook tape.now.scenario.setup.hosts N.PROBES query }
@@ -43,7 +43,7 @@ fn look_at<N: Node>(tape: &Tape<N>, query: Query) -> View
     tape.here().look(query)
 }
 
-// The reply that tells the place, and why it was stopped there.
+// Returns the reply with the tape's place and clock, and the reason to stop there.
 fn moved<N: Node>(tape: &Tape<N>, stop: Stop) -> Reply
     ensures { result ≡ Reply.Moved tape.now.place (world_on N.laws N.PROBES tape.now).clock stop }
 {
@@ -87,7 +87,7 @@ pub(crate) fn step<N: Node>(
     }
 }
 
-/// Adds the events of a tick, which takes so long (ms).
+/// Adds the events of a tick of `takes` ms.
 pub(crate) fn tick<N: Node>(
     alloc: Global,
     takes: u32,
@@ -119,7 +119,7 @@ pub(crate) fn tick<N: Node>(
     }
 }
 
-/// Adds steps, at most so many, until a run has to stop.
+/// Adds at most `count` steps, until a run has to stop.
 pub(crate) fn run<N: Node>(
     alloc: Global,
     tape: &mut Tape<N>,
@@ -197,7 +197,7 @@ pub(crate) fn fault<N: Node>(
     }
 }
 
-/// Goes back by so many events.
+/// Goes back by `count` events.
 pub(crate) fn back<N: Node>(
     alloc: Global,
     tape: &mut Tape<N>,
@@ -220,7 +220,7 @@ pub(crate) fn back<N: Node>(
     }
 }
 
-/// Goes forward by so many events.
+/// Goes forward by `count` events.
 pub(crate) fn forward<N: Node>(
     alloc: Global,
     tape: &mut Tape<N>,
@@ -266,7 +266,7 @@ pub(crate) fn goto<N: Node>(
     }
 }
 
-/// Goes back by at most so many events, until a watch fails.
+/// Goes back by at most `count` events, until a watch fails.
 pub(crate) fn rewind<N: Node>(
     alloc: Global,
     tape: &mut Tape<N>,
@@ -310,7 +310,7 @@ pub(crate) fn cut<N: Node>(tape: &mut Tape<N>, b: u32) -> Reply
     moved(tape, Stop::Asked)
 }
 
-/// Shows what a query asks.
+/// Replies with the view that a query asks for.
 pub(crate) fn look<N: Node>(
     alloc: Global,
     hosts: u16,
@@ -345,7 +345,7 @@ pub(crate) fn look<N: Node>(
     }
 }
 
-/// Gives all kept events.
+/// Replies with all kept events.
 pub(crate) fn freeze<N: Node>(alloc: Global, tape: &Tape<N>, b: u32) -> Reply
     ensures turn { Turns N.laws N.PROBES (command.Freeze b) result tape.now tape.now }
     ensures keeps { Keeps N.laws N.PROBES (command.Freeze b) result tape.now tape.now }
@@ -358,7 +358,7 @@ pub(crate) fn freeze<N: Node>(alloc: Global, tape: &Tape<N>, b: u32) -> Reply
     }
 }
 
-// Why a condition can't be used.
+// Returns the reason why a condition cannot be used, or `None` if it can.
 fn fault_of<N: Node>(hosts: u16, cond: &Cond) -> Option<BadTerm>
     ensures { result ≡ fault_of hosts N.PROBES cond.now }
 {
@@ -368,7 +368,7 @@ fn fault_of<N: Node>(hosts: u16, cond: &Cond) -> Option<BadTerm>
     }
 }
 
-// The refusal of a condition that can't be used, but whose hosts are there.
+// Returns the refusal of a condition that names only known hosts but cannot be used.
 fn refuse_bad<N: Node>(watches: &[Option<Cond>; 8]) -> Reply
     ensures value { result ≡ Reply.Refused
         (if is_some (free_watch watches.now) then Refusal.BadCondition else Refusal.WatchesFull) }

@@ -19,7 +19,7 @@ use sim_node::{NoMemory, Node};
 use sim_world::Scenario;
 use std::alloc::Global;
 
-// The turn of a command on its branch.
+// Carries out a command on its branch.
 fn on_branch<N: Node>(
     alloc: Global,
     scenario: &Scenario,
@@ -64,7 +64,7 @@ fn on_branch<N: Node>(
     }
 }
 
-// A branch of the first events of another.
+// Returns a branch of the first `p` events of another.
 fn split<N: Node>(alloc: Global, kept: &Kept<N>, p: u32) -> Result<Kept<N>, NoMemory>
     requires { p ≤ length kept.now.tape.events }
     ensures shown { IfOk result (λ k.
@@ -82,7 +82,7 @@ fn split<N: Node>(alloc: Global, kept: &Kept<N>, p: u32) -> Result<Kept<N>, NoMe
     Ok(made)
 }
 
-// The turn of a command that makes a branch.
+// Carries out a command that makes a branch.
 fn make_branch<N: Node>(alloc: Global, branches: &mut Vec<Kept<N>>, b: u32, p: u32) -> Reply
     requires { b < length branches.old.items }
     ensures turn { (s : ScenarioValue)
@@ -118,7 +118,7 @@ fn make_branch<N: Node>(alloc: Global, branches: &mut Vec<Kept<N>>, b: u32, p: u
     }
 }
 
-// The turn of a command on a branch that is there.
+// Carries out a command on a branch that exists.
 fn on_one<N: Node>(
     alloc: Global,
     scenario: &Scenario,
@@ -149,7 +149,7 @@ fn on_one<N: Node>(
     reply
 }
 
-// The turn of a command.
+// Carries out a command.
 pub(crate) fn carry_out<N: Node>(
     alloc: Global,
     scenario: &Scenario,

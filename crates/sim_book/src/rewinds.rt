@@ -17,14 +17,14 @@ use sim_watch::Cond;
 use std::alloc::Global;
 use std::cmp::{max, min};
 
-/// A place at which a watch fails, and the lowest watch that does.
+/// A place at which a watch fails, and the lowest watch that fails there.
 #[derive(Clone, Copy)]
 struct Found {
     place: u32,
     watch: u32,
 }
 
-// What is found at the place of a warm tape.
+// Returns the place of a warm tape and the lowest watch that fails there, or `None` if none fails.
 fn found_here<N: Node>(tape: &Tape<N>, watches: &[Option<Cond>; 8], end: usize) -> Option<Found>
     requires warm { IsTrue tape.now.warm }
     requires few { end ≤ 8 }
@@ -43,7 +43,7 @@ fn found_here<N: Node>(tape: &Tape<N>, watches: &[Option<Cond>; 8], end: usize) 
     }
 }
 
-// Goes back within the reach, by one event at a time and at most so many, until a watch fails.
+// Goes back by at most `count` events, one at a time and within the reach, until a watch fails.
 fn look_near<N: Node>(
     alloc: Global,
     tape: &mut Tape<N>,
@@ -78,8 +78,8 @@ fn look_near<N: Node>(
     Ok(None)
 }
 
-// Goes forward by so many events, with a look at each place from the first on, and keeps no record.
-// What is found is the last.
+// Goes forward by `count` events without keeping records, and tests the watches at each place, the
+// first included. Returns the last failure.
 fn last_failing<N: Node>(
     alloc: Global,
     tape: &mut Tape<N>,
@@ -112,8 +112,8 @@ fn last_failing<N: Node>(
     Ok(last)
 }
 
-// Where the stretch begins that ends below a place: at its checkpoint, or at `to` where that is
-// past it.
+// Returns the first place of the stretch that ends just below `high`: its checkpoint, or `to` if
+// that is later.
 fn stretch_below(high: u32, interval: u32, to: u32) -> u32
     requires some { 1 ≤ interval }
     requires below { to < high }
@@ -125,9 +125,9 @@ fn stretch_below(high: u32, interval: u32, to: u32) -> u32
     max(to, high - 1 - (high - 1) % interval)
 }
 
-// Looks through the places below the tape's, down to `to`, by one stretch after the other: each
-// from its checkpoint forward, without records. There is no record to go back by. Goes to the last
-// place at which a watch fails, or to `to`.
+// Tests the places below the tape's, down to `to`, stretch by stretch: each from its checkpoint
+// forward, without records, for none is left to go back by. Goes to the last place at which a watch
+// fails, or to `to`.
 fn look_far<N: Node>(
     alloc: Global,
     tape: &mut Tape<N>,
@@ -166,8 +166,8 @@ fn look_far<N: Node>(
     Ok(None)
 }
 
-// Goes back to the last place at which a watch fails, and at most by so many events. Within the
-// reach it looks on its way back; past it stretch by stretch. Where no watch is kept it looks at
+// Goes back by at most `count` events, to the last place at which a watch fails. Tests the places
+// within the reach on the way back, and those past it stretch by stretch. Without watches it tests
 // nothing.
 fn look_back<N: Node>(
     alloc: Global,
@@ -215,8 +215,8 @@ fn look_back<N: Node>(
     look_far(alloc, tape, watches, end, meter, to)
 }
 
-// Goes back until a watch fails, and at most by so many events. After want of memory it may have
-// gone back by some.
+// Goes back by at most `count` events, until a watch fails. After want of memory it may have gone
+// back by some.
 fn go_back<N: Node>(
     alloc: Global,
     tape: &mut Tape<N>,
@@ -254,8 +254,8 @@ fn go_back<N: Node>(
     }
 }
 
-/// Goes back until a watch fails, and at most by so many events. After want of memory the place is
-/// as before.
+/// Goes back by at most `count` events, until a watch fails. After want of memory the place is as
+/// before.
 pub(crate) fn rewind<N: Node>(
     alloc: Global,
     tape: &mut Tape<N>,

@@ -12,7 +12,7 @@ use sim_tape::Tape;
 use sim_watch::{Cond, holds};
 use sim_world::{Event, World};
 
-/// A number past those of all watches that are there.
+/// Returns a number above those of all watches.
 pub(crate) fn end_of(watches: &[Option<Cond>; 8]) -> usize
     ensures few { result ≤ 8 }
     ensures none { NoneFrom result watches.now }
@@ -26,7 +26,7 @@ pub(crate) fn end_of(watches: &[Option<Cond>; 8]) -> usize
     end
 }
 
-/// The lowest watch that fails of a world, where none is from `end` on.
+/// Returns the lowest watch that fails in `world`. All watches have numbers below `end`.
 pub(crate) fn failing<N: Node>(
     watches: &[Option<Cond>; 8],
     end: usize,
@@ -48,9 +48,9 @@ pub(crate) fn failing<N: Node>(
     None
 }
 
-// The first reason to stop a run at a world, if there is one: a watch that fails, and the others in
-// their order. `asked` tells whether as many steps were added as it was asked for, `kept` how many
-// events are kept.
+// Returns the first reason to stop a run at a world, if any: a failing watch, then the others in
+// their order. `asked` says whether all steps asked for were added; `kept` is the number of kept
+// events.
 fn first_stop<N: Node>(
     failing: Option<u32>,
     asked: bool,
@@ -80,7 +80,7 @@ fn first_stop<N: Node>(
     None
 }
 
-/// The lowest watch that fails of the world at the place of a warm tape.
+/// Returns the lowest watch that fails in the world at the place of a warm tape.
 pub(crate) fn failing_here<N: Node>(
     tape: &Tape<N>,
     watches: &[Option<Cond>; 8],
@@ -99,7 +99,7 @@ pub(crate) fn failing_here<N: Node>(
     failing(watches, end, tape.here())
 }
 
-/// Why a run stops at the place of a warm tape, if it does.
+/// Returns the reason why a run stops at the place of a warm tape, if it does.
 pub(crate) fn stop<N: Node>(
     tape: &Tape<N>,
     watches: &[Option<Cond>; 8],
@@ -123,7 +123,7 @@ pub(crate) fn stop<N: Node>(
     first_stop(failing, asked, tape.len(), world)
 }
 
-/// The lowest free number of a watch.
+/// Returns the lowest free number of a watch.
 pub(crate) fn free(watches: &[Option<Cond>; 8]) -> Option<u32>
     ensures value { result ≡ free_watch watches.now }
     ensures few { IfSome result (λ n. n < 8) }

@@ -15,7 +15,7 @@ use sim_tape::Tape;
 use sim_world::Event;
 use std::alloc::Global;
 
-// How many events a tick can add where so many are kept.
+// Returns the most events that a tick can add to `kept` events.
 fn room_of(kept: u32) -> u32
     requires { kept ≤ 65536 }
     ensures { result ≡ min 1024 (65536 - kept) }
@@ -28,7 +28,7 @@ fn room_of(kept: u32) -> u32
     }
 }
 
-// The clock at the place of a warm tape (ms).
+// Returns the clock at the place of a warm tape (ms).
 fn clock<N: Node>(tape: &Tape<N>) -> u64
     requires { IsTrue tape.now.warm }
     ensures value { result ≡ (world_on N.laws N.PROBES tape.now).clock }
@@ -37,7 +37,7 @@ fn clock<N: Node>(tape: &Tape<N>) -> u64
     tape.here().clock()
 }
 
-// Whether something is due at a time (ms) or before it, at the place of a warm tape.
+// Returns whether something is due at or before `time` (ms), at the place of a warm tape.
 fn is_due_by<N: Node>(tape: &Tape<N>, time: u64) -> bool
     requires { IsTrue tape.now.warm }
     ensures { result ≡ is_due_by time (world_on N.laws N.PROBES tape.now) }
@@ -45,7 +45,7 @@ fn is_due_by<N: Node>(tape: &Tape<N>, time: u64) -> bool
     tape.here().is_due_by(time)
 }
 
-// Why a tick stops that came to its time, at the place of a warm tape.
+// Returns the reason to stop for a tick that reached its time, at the place of a warm tape.
 fn stop_at_end<N: Node>(tape: &Tape<N>) -> Stop
     requires { IsTrue tape.now.warm }
     ensures { result ≡ (if all_done (rules N.laws N.PROBES tape.now.scenario)
@@ -58,7 +58,7 @@ fn stop_at_end<N: Node>(tape: &Tape<N>) -> Stop
     }
 }
 
-// Why a tick stops that did not come to its time.
+// Returns the reason to stop for a tick that did not reach its time.
 fn stop_short<N: Node>(tape: &Tape<N>) -> Stop
     ensures { result ≡ (if length tape.now.events == 65536 then Stop.Full else Stop.Long) }
 {
@@ -69,7 +69,7 @@ fn stop_short<N: Node>(tape: &Tape<N>) -> Stop
     }
 }
 
-// Adds steps while something is due by a time (ms), and then an advance to it, at most so many
+// Adds steps while something is due by `end` (ms), and then an advance to it: at most `room`
 // events. After want of memory some may have been added.
 fn add_tick<N: Node>(
     alloc: Global,
@@ -106,8 +106,7 @@ fn add_tick<N: Node>(
     Ok(stop_short(tape))
 }
 
-/// Adds the events of a tick, which takes so long (ms). After want of memory the events are as
-/// before.
+/// Adds the events of a tick of `takes` ms. After want of memory the events are as before.
 pub(crate) fn tick<N: Node>(
     alloc: Global,
     tape: &mut Tape<N>,

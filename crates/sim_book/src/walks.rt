@@ -1,4 +1,4 @@
-//! Steps that are added one after the other.
+//! Runs: steps added one after the other.
 ghost use Rattle.std.specs.Prelude.{◌≡◌, ◌<◌, ◌≤◌, List, None, length, IsTrue, OnOk, OnErr, IfOk};
 ghost use Rattle.sim_world.specs.Events.{rules};
 ghost use Rattle.sim_tape.specs.Tape.{KeepsRun, raised};
@@ -13,7 +13,7 @@ use sim_watch::Cond;
 use sim_world::Event;
 use std::alloc::Global;
 
-// Adds steps, at most so many, until a run has to stop. After want of memory some may have been
+// Adds at most `count` steps, until a run has to stop. After want of memory some may have been
 // added.
 fn add_steps<N: Node>(
     alloc: Global,
@@ -53,7 +53,7 @@ fn add_steps<N: Node>(
     unreachable!()
 }
 
-/// Adds steps, at most so many, until a run has to stop. After want of memory the events are as
+/// Adds at most `count` steps, until a run has to stop. After want of memory the events are as
 /// before.
 pub(crate) fn run<N: Node>(
     alloc: Global,

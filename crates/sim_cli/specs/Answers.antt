@@ -14,13 +14,13 @@ use Rattle.sim_cli.specs.Lines.{fault_line}
 use Rattle.sim_cli.specs.Turns.{Course}
 use Rattle.sim_cli.specs.Play.{Gives, read_scenario}
 
--- a text was written, or a part from its front, or there was no memory for it
+-- the text was written, or a front of it, or memory was wanted for it
 abbrev pub Writes : Option Text → Option Text → Text → Answered → Type 0
 Writes held holds text Well = Appends held holds text
 Writes held holds text WriterFailed = AppendsPart held holds text
 Writes held holds text MemoryWanted = ⊥
 
--- a text was handed over, or the writer failed
+-- the text was handed over, or the writer failed
 abbrev pub Hands : Option Text → Option Text → Text → Text → Text → Answered → Type 0
 Hands held holds waiting text left Well = Passes held holds waiting text left
 Hands held holds waiting text left WriterFailed = PassesSome held holds waiting text
@@ -33,7 +33,7 @@ Finishes held holds waiting asked ended =
     × PassesSome held holds waiting [])
 
 module _ {State Msg : Type 0} (r : Rules State Msg) (names : Names) where
-  -- a line was answered by a text that it may be given, or by a part of one
+  -- a line was answered by a text that it may get, or by a part of one
   pub record GivesAll (old new : Course) (line : ScriptLine) (held holds : Option Text)
       (waiting left : Text) : Type 0 where
     pub text : Text
@@ -53,7 +53,7 @@ module _ {State Msg : Type 0} (r : Rules State Msg) (names : Names) where
   Answers old new line held holds waiting left WriterFailed = GivesPart old line held holds waiting
   Answers old new line held holds waiting left MemoryWanted = Passes held holds waiting [] left
 
--- a text writes no scenario, and a line tells why
+-- the text is no scenario, and the line says why
 pub record Faults (protocols : List Protocol) (text line : Text) : Type 0 where
   pub fault : Fault
   pub read : read_scenario protocols text ≡ Err fault

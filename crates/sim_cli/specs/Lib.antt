@@ -1,4 +1,4 @@
--- The turns of a play; what is written for what is read.
+-- The turns of a play, and its output as a function of its input.
 pub mod Turns
 pub mod Lines
 pub mod Play

@@ -1,4 +1,4 @@
--- The lines that tell of no turn.
+-- The lines that answer no turn.
 use Rattle.std.specs.Prelude.{codes, [], ◌∷◌}
 use Rattle.std.specs.Fmt.{decimal}
 use Rattle.sim_scenario.specs.Scenario.{Fault}
@@ -9,7 +9,7 @@ use Rattle.sim_replies.specs.Lines.{spaced, line}
 abbrev pub bad_line : Text
 bad_line = codes "bad line\n"
 
--- the scenario is bad
+-- the line of a scenario's fault
 abbrev pub fault_line : Fault → Text
 fault_line why =
     line (spaced (codes "scenario" ∷ codes "fault" ∷ decimal why.number ∷ why.key ∷ []))

@@ -1,4 +1,4 @@
--- The reading of a scenario, and what is left then.
+-- The reading of a scenario, and what is left afterwards.
 use Rattle.std.specs.Prelude.{◌≡◌, List, [], ◌++◌, Option, Some, string_bytes, Ok, length, ◌<◌}
 use Rattle.std.specs.Io.KnownBytes.{Appends, prepend_known}
 use Rattle.sim_lines.specs.Cut.{head_of}
@@ -21,20 +21,20 @@ use Rattle.sim_cli.specs.Lines.{fault_line}
 use Rattle.sim_cli.specs.Play.{Nodes, ReadsHead, names_of, read_scenario, scenario}
 use Rattle.sim_cli.specs.Answers.{Faults}
 
--- a scenario that was read, or the line of a fault, or there was no memory
+-- a scenario that was read, or the line of a fault, or memory was wanted
 abbrev pub Reads : List Protocol → Text → WasRead → Type 0
 Reads protocols text (was.Scenario s) = read_scenario protocols text ≡ Ok (seen s)
 Reads protocols text (was.Fault line) = Faults protocols text (string_bytes line)
 Reads protocols text was.NoMemory = Unit {0}
 
--- a scenario that was read has its hosts' numbers, and is within the limits
+-- a scenario that was read numbers its hosts in order, and is within the limits
 abbrev pub KeepsLimits : List Protocol → WasRead → Type 0
 KeepsLimits protocols (was.Scenario s) =
     IsNumbered s.names × IsWithinLimits (seen s) × (s.protocol < length protocols)
 KeepsLimits protocols (was.Fault line) = Unit {0}
 KeepsLimits protocols was.NoMemory = Unit {0}
 
--- the line of a fault, or there was no memory
+-- the line of this fault, or memory was wanted
 abbrev pub TellsFault : ScenarioFault → WasRead → Type 0
 TellsFault why (was.Scenario s) = ⊥
 TellsFault why (was.Fault line) = string_bytes line ≡ fault_line why
@@ -48,8 +48,8 @@ pub record HeadIs (given : Text) (new : Option Text) (text : Text) : Type 0 wher
   pub front : given ≡ taken ++ script
   pub cut : (read rest : Text) → script ≡ read ++ rest → head_of (taken ++ read) ≡ (text, read)
 
--- A scenario was read of what was given: its values, the names of its hosts and probes, its text,
--- and what is left for the script.
+-- A scenario was read from the input: its values, the names of its hosts and probes, its text, and
+-- what is left for the script.
 pub record IsOpened (protocols : List Protocol) (nodes_of : ScenarioText → Nodes) (given : Text)
     (left : Option Text) (opened : Opened) : Type 0 where
   pub text : Text
@@ -70,14 +70,14 @@ WritesFault held holds line ReaderFailed = ⊥
 WritesFault held holds line WriterFailed = AppendsPart held holds line
 WritesFault held holds line MemoryWanted = ⊥
 
--- the scenario that was given is bad, and this was written of the line of its fault
+-- the scenario of this input is bad, and this much of the line of its fault was written
 pub record IsBad (protocols : List Protocol) (given : Text) (held holds : Option Text)
     (ended : Status) : Type 0 where
   pub line : Text
   pub fault : Faults protocols (head_of given).0 line
   pub written : WritesFault held holds line ended
 
--- Why there is no scenario, and what was written then, by the status.
+-- Why there is no scenario, and what was written, by the status.
 abbrev pub IsNotOpened : List Protocol → Text → Waiting → Option Text → Option Text → Option Text
     → Status → Type 0
 IsNotOpened protocols given ahead left held holds Well = ⊥

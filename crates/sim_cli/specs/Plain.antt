@@ -1,4 +1,4 @@
--- What is written where memory was ample.
+-- The output if memory suffices.
 use Rattle.std.specs.Prelude.{◌≡◌, List, ◌++◌, codes, ◌⊎◌}
 use Rattle.sim_scenario.specs.Scenario.{Protocol, ScenarioText}
 use Rattle.sim_cli.specs.declared.status.Status.{Status}
@@ -6,21 +6,21 @@ use Rattle.sim_cli.specs.declared.status.Status.TheVariants as status
 use Rattle.sim_script.specs.Script.{Text}
 use Rattle.sim_cli.specs.Play.{Nodes, out}
 
--- a text stands somewhere in another
+-- one text is a part of another
 abbrev pub StandsIn : Text → Text → Type 0
 StandsIn part text = (front : Text) × (rest : Text) × (text ≡ front ++ (part ++ rest))
 
--- it is told somewhere that a command wanted memory
+-- some line reports that a command wanted memory
 abbrev pub TellsWant : Text → Type 0
 TellsWant written =
     StandsIn (codes "refused 12 NoMemory\n") written ⊎ StandsIn (codes "not taken NoMemory\n")
     written
 
--- a play came to the end of its input, or its scenario was told to be bad
+-- a play reached the end of its input, or reported its scenario as bad
 abbrev pub IsDone : Status → Type 0
 IsDone ended = (ended ≡ status.Well) ⊎ (ended ≡ status.BadScenario)
 
--- where no command wanted memory, what was written is `out` of what was given
+-- if no command wanted memory, the output is `out` of the input
 abbrev pub IsPlain : List Protocol → (ScenarioText → Nodes) → Text → Text → Type 0
 IsPlain protocols nodes_of given written =
     ¬ (TellsWant written) → written ≡ out protocols nodes_of given

@@ -1,4 +1,4 @@
--- What is written for what is read.
+-- The output for an input.
 use Rattle.std.specs.Prelude.{◌≡◌, ◌++◌, ◌≤◌, ◌*◌, ◌^◌, nat_lt, List, [], ◌∷◌, length, Option, Some}
 use Rattle.std.specs.Prelude.{codes, Result, Ok, Err, MatchResult, IsOk, IsErr, if◌then◌else◌}
 use Rattle.std.specs.List.{concat, AllByRecursion}
@@ -30,13 +30,13 @@ use Rattle.sim_cli.specs.Turns.{Course, beginning, most_entries, Takes, course_a
 abbrev pub full_line : Text
 full_line = codes "not taken HistoryFull\n"
 
--- a text doesn't tell of memory
+-- a text is no report of want of memory
 abbrev pub TellsNoWant : Text → Type 0
 TellsNoWant text =
     (text ≡ codes "refused 12 NoMemory\n" → ⊥) × (text ≡ codes "not taken NoMemory\n" → ⊥)
 
 module _ {State Msg : Type 0} (r : Rules State Msg) (names : Names) where
-  -- what may be written for a line of a script, and what it leaves
+  -- the texts that may answer a line of a script, and the course after it
   abbrev pub Gives : Course → ScriptLine → Text → Course → Type 0
   Gives old Nothing text new = (text ≡ []) × (new ≡ old)
   Gives old Bad text new = (text ≡ bad_line) × (new ≡ old)
@@ -55,7 +55,7 @@ module _ {State Msg : Type 0} (r : Rules State Msg) (names : Names) where
   abbrev pub answer_line : Book → Command → Text
   answer_line book command = line (reply_words names (branch_of command) (answer r book command))
 
-  -- what is written for a line where memory is ample, and what it leaves
+  -- the answer to a line if memory suffices
   abbrev pub plain_text : Course → ScriptLine → Text
   plain_text old Nothing = []
   plain_text old Bad = bad_line
@@ -67,19 +67,19 @@ module _ {State Msg : Type 0} (r : Rules State Msg) (names : Names) where
   plain_next old Bad = old
   plain_next old (Asked command) = course_after r old command
 
-  -- what is written for the lines of a script where memory is ample
+  -- the output for the lines of a script if memory suffices
   abbrev pub out_from : Course → List Text → Text
   out_from old [] = []
   out_from old (l ∷ ls) =
       plain_text old (script_line names l) ++ out_from (plain_next old (script_line names l)) ls
 
-  -- what they leave
+  -- the course after them
   abbrev pub end_from : Course → List Text → Course
   end_from old [] = old
   end_from old (l ∷ ls) = end_from (plain_next old (script_line names l)) ls
 
-  -- What was written are these texts of turns, one for each line, up to the last course. Where none
-  -- tells of memory they are the answers.
+  -- What was written is these texts of turns, one for each line, up to the last course. If none
+  -- reports want of memory, they are the answers.
   pub record Tells (old : Course) (ls texts : List Text) (written : Text) : Type 0 where
     pub last : Course
     pub run : Run old ls texts last
@@ -110,8 +110,8 @@ module _ {State Msg : Type 0} (r : Rules State Msg) (names : Names) where
     pub is_left : left ≡ Some rest
     pub tells : TellsTo old (whole_lines read) new written
 
-  -- What is written for a script, which leaves a course. Of what was read and is not taken this
-  -- waits, and this is left to be read.
+  -- The output for a script, and the course after it. `ahead` was read and not taken, and `left` is
+  -- left to be read.
   abbrev pub Plays : Course → Text → Course → Waiting → Option Text → Status → Text → Type 0
   Plays old script new ahead left Well written =
       IsAtEnd (prepend_known ahead.bytes left) × TellsTo old (lines script) new written
@@ -122,18 +122,18 @@ module _ {State Msg : Type 0} (r : Rules State Msg) (names : Names) where
   Plays old script new ahead left WriterFailed written = Begins old (lines script) written
   Plays old script new ahead left MemoryWanted written = Begins old (lines script) written
 
-  -- the same, whatever course it leaves
+  -- the same, whatever the course after it
   abbrev pub PlaysOn : Course → Text → Waiting → Option Text → Status → Text → Type 0
   PlaysOn old script ahead left status written =
       (new : Course) × Plays old script new ahead left status written
 
--- what was written, and that it is what it must be
+-- the text that was written, and that it is as required
 pub record Ended (held holds : Option Text) (P : Text → Type 0) : Type 0 where
   pub written : Text
   pub appended : Appends held holds written
   pub is : P written
 
--- the scenario that bytes write, which names one of these protocols, or why they write none: a text
+-- the scenario in these bytes, which may name any of these protocols, or why they are none: a text
 -- that is too long, then one that is not UTF-8
 unfoldable pub read_scenario : List Protocol → Text → Result ScenarioText Fault
 read_scenario protocols text =
@@ -166,13 +166,13 @@ pub record ReadsHead (given : Text) (left : Option Text) : Type 0 where
   pub few : length block ≤ 4096
   pub head : HasHead (Some given) (prepend_known block left) text
 
--- no more was read than 2^40 reads of 4,096 bytes give
+-- no more was read than 2^40 reads of 4,096 bytes return
 pub record IsWithinReads (left left' : Option Text) : Type 0 where
   pub read : Text
   pub consumed : Consumes left left' read
   pub few : length read ≤ 4096 * 2 ^ 40
 
--- A scenario stands for the nodes of a run.
+-- A scenario determines the nodes of a run.
 module _ (nodes_of : ScenarioText → Nodes) where
   abbrev pub names_of : ScenarioText → Names
   names_of s = record { hosts = s.names; probes = (nodes_of s).probes }
@@ -181,15 +181,15 @@ module _ (nodes_of : ScenarioText → Nodes) where
   out_of (Err why) script = fault_line why
   out_of (Ok s) script = out_from (nodes_of s).rules (names_of s) beginning script
 
--- A scenario names one of these protocols, and stands for the nodes of a run.
+-- A scenario names one of these protocols, and determines the nodes of a run.
 module _ (protocols : List Protocol) (nodes_of : ScenarioText → Nodes) where
-  -- What is written for an input where memory is ample. The scenario is what stands before the
-  -- first line `---`, and the script's lines follow it.
+  -- The output for an input if memory suffices. The scenario is the text before the first line
+  -- `---`, and the script's lines follow it.
   abbrev pub out : Text → Text
   out input = out_of nodes_of (read_scenario protocols (head_of input).0) (lines (head_of input).1)
 
-  -- What is written for all of an input: the fault of its scenario, or the texts of the lines of
-  -- its script. Where none tells of memory it is `out`.
+  -- The output for a whole input: the fault of its scenario, or the texts for the lines of its
+  -- script. If none reports want of memory, it is `out`.
   pub record TellsAll (given written : Text) : Type 0 where
     pub texts : List Text
     pub tells : MatchResult (read_scenario protocols (head_of given).0)
@@ -197,19 +197,19 @@ module _ (protocols : List Protocol) (nodes_of : ScenarioText → Nodes) where
         (lines (head_of given).1) texts written) (λ why. written ≡ fault_line why)
     pub plain : AllByRecursion TellsNoWant texts → written ≡ out given
 
-  -- what is written for the whole lines of an input that stopped: nothing where it has no scenario
+  -- the output for the whole lines of an input that stopped: nothing if it has no scenario
   abbrev pub TellsWhole : Text → Text → Type 0
   TellsWhole read written =
       MatchResult (read_scenario protocols (head_of read).0)
       (λ s. TellsLines (nodes_of s).rules (names_of nodes_of s) beginning
       (whole_lines (head_of read).1) written) (λ _. written ≡ [])
 
-  -- a beginning of what is written for all of an input
+  -- a beginning of the output for a whole input
   pub record BeginsAll (given written : Text) : Type 0 where
     pub more : Text
     pub tells : TellsAll given (written ++ more)
 
-  -- A front of what was given was read, the rest is left, and all whole lines that were read were
+  -- A front of the input was read, the rest is left, and all whole lines that were read were
   -- answered.
   pub record StopsIn (given : Text) (left : Option Text) (written : Text) : Type 0 where
     pub read : Text
@@ -218,7 +218,7 @@ module _ (protocols : List Protocol) (nodes_of : ScenarioText → Nodes) where
     pub is_left : left ≡ Some rest
     pub tells : TellsWhole read written
 
-  -- What is written for what is given, and what is left of it, by how the play ends.
+  -- The output for an input, and what is left of it, by the status of the play.
   abbrev pub Played : Text → Option Text → Status → Text → Type 0
   Played given left Well written =
       IsOk (read_scenario protocols (head_of given).0) × IsAtEnd left × TellsAll given written

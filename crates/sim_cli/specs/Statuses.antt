@@ -1,4 +1,4 @@
--- The numbers with which the program ends.
+-- The exit statuses of the program.
 use Rattle.std.specs.Prelude.{ℕ}
 use Rattle.sim_cli.specs.declared.status.Status.{Status}
 use Rattle.sim_cli.specs.declared.status.Status.TheVariants.{Well, BadScenario, BadRequest}

@@ -1,4 +1,4 @@
--- Scripts of which no line is at fault, and the first line that is.
+-- Scripts without a line at fault, and the first line at fault.
 use Rattle.std.specs.Prelude.{◌≡◌, ℕ, ◌+◌, ◌^◌, ◌-◌, ◌<◌, ◌≤◌, nat_lt, min, Bool, true, false, ◌&&◌}
 use Rattle.std.specs.Prelude.{is_none, List, [], ◌∷◌, ◌++◌, length, Option, None, Some, Result, Ok}
 use Rattle.std.specs.Prelude.{Err, MatchResult}
@@ -44,7 +44,7 @@ abbrev pub fault_of_turn : Result Entry NotTaken → Option LineFault
 fault_of_turn (Ok e) = fault_of_reply e.reply
 fault_of_turn (Err why) = Some (fault.NotTaken why)
 
--- whether a fault tells of want of memory
+-- whether a fault reports want of memory
 abbrev pub wants_memory : LineFault → Bool
 wants_memory (fault.Refused refusal.NoMemory) = true
 wants_memory (fault.NotTaken NoMemory) = true
@@ -56,12 +56,12 @@ tells_want (Some f) = wants_memory f
 
 -- ---- a script
 
--- the number of a line after this many others; the numbers of 64 bits end with the last of them
+-- the number of the line after `before` others; 64 bits limit it
 abbrev pub number_after : ℕ → ℕ
 number_after before = min (before + 1) (2 ^ 64 - 1)
 
 module _ {State Msg : Type 0} (r : Rules State Msg) (names : Names) where
-  -- whether a line is not at fault: it asks nothing, or its command is taken and not refused
+  -- whether a line is not at fault: it asks for nothing, or its command is taken and not refused
   abbrev pub is_well : Course → ScriptLine → Bool
   is_well old Nothing = true
   is_well old Bad = false
@@ -94,7 +94,7 @@ module _ {State Msg : Type 0} (r : Rules State Msg) (names : Names) where
     pub text : Shows f.text.items line
     pub why : Explains (end_from r names old before) (script_line names line) f.why
 
-  -- some line is at fault, and what is written ends with the answer to the first such line
+  -- some line is at fault, and the output ends with the answer to the first such line
   pub record TellsFault (old : Course) (ls : List Text) (written : Text) : Type 0 where
     pub fault : ScriptFault
     pub first : IsFirstFault old ls fault
@@ -108,8 +108,8 @@ module _ {State Msg : Type 0} (r : Rules State Msg) (names : Names) where
     pub passes : Passes held holds waiting (plain_text r names old line) left
     pub next : new ≡ plain_next r names old line
 
-  -- A line that is not at fault was answered, or one that is. Or the writer failed, or memory was
-  -- wanted before more was handed over.
+  -- A line was answered, one not at fault or one at fault. Or the writer failed, or memory was
+  -- wanted and nothing more was handed over.
   abbrev pub AnswersStrictly : {T : Type 0} → Course → Course → ScriptLine → Option Text
       → Option Text → Text → Text → Result T Halt → Type 0
   AnswersStrictly old new line held holds waiting left (Ok _) =
@@ -123,8 +123,8 @@ module _ {State Msg : Type 0} (r : Rules State Msg) (names : Names) where
 
   -- ---- a strict play
 
-  -- What a strict play of a script writes, and how it ends: as a play in which no line is at fault
-  -- where it comes to the end, or with the first line that is.
+  -- The output of a strict play of a script, and how it ends: as a play in which no line is at
+  -- fault if it reaches the end, or with the first line that is.
   abbrev pub StrictlyEnds : Course → Text → Course → Waiting → Option Text → Option Text
       → Option Text → Result Status ScriptFault → Type 0
   StrictlyEnds old script new ahead left held holds (Ok ended) =
@@ -135,7 +135,7 @@ module _ {State Msg : Type 0} (r : Rules State Msg) (names : Names) where
       × Ended held holds (λ written. written ≡ out_from r names old
       (first.before ++ first.line ∷ []))
 
-  -- the same by the status, where the course that is left and the fault are not told
+  -- the same by the status, without the course afterwards and the fault
   abbrev pub PlaysStrictly : Course → Text → Waiting → Option Text → Status → Text → Type 0
   PlaysStrictly old script ahead left status.Well written =
       PlaysOn r names old script ahead left status.Well written
@@ -150,8 +150,8 @@ module _ {State Msg : Type 0} (r : Rules State Msg) (names : Names) where
   PlaysStrictly old script ahead left status.MemoryWanted written =
       PlaysOn r names old script ahead left status.MemoryWanted written
 
--- What waited was written after the last line that was answered, and the fault is told; where the
--- writer fails that is told.
+-- What waited was written, and the result is the fault of the line; or the play ends with the
+-- status of the writer's failure or of want of memory.
 abbrev pub Halts : Option Text → Option Text → Text → ℕ → Text → Halt → Result Status ScriptFault
     → Type 0
 Halts held holds waiting number text halt.WriterFailed result =
@@ -170,9 +170,9 @@ pub record PlaysScriptStrictly {State Msg : Type 0} (r : Rules State Msg) (names
       → Ended old.held new.held (PlaysStrictly r names beginning script new.ahead new.left ended)
   pub counts : CountsReads old.ahead new.ahead old.left new.left
 
--- A scenario names one of these protocols, and stands for the nodes of a run.
+-- A scenario names one of these protocols, and determines the nodes of a run.
 module _ (protocols : List Protocol) (nodes_of : ScenarioText → Nodes) where
-  -- what holds of the rules and the names of a scenario that was read, and of its script
+  -- a property of the rules and the names of a scenario that was read, and of its script
   abbrev pub OfScript : ((s : ScenarioText) → List Text → Type 0) → Text → Type 0
   OfScript P given =
       MatchResult (read_scenario protocols (head_of given).0) (λ s. P s (lines (head_of given).1))
@@ -183,7 +183,7 @@ module _ (protocols : List Protocol) (nodes_of : ScenarioText → Nodes) where
   IsWellScript given =
       OfScript (λ s ls. are_well (nodes_of s).rules (names_of nodes_of s) beginning ls ≡ true) given
 
-  -- What a strict play writes for what is given, and what is left of it, by how the play ends.
+  -- The output of a strict play for an input, and what is left of it, by the status of the play.
   abbrev pub PlayedStrictly : Text → Option Text → Status → Text → Type 0
   PlayedStrictly given left status.Well written =
       Played protocols nodes_of given left status.Well written × IsWellScript given

@@ -1,4 +1,4 @@
--- The nodes of the protocols that a program plays, and what is done with a run over them.
+-- The nodes of the protocols that a program plays, and a play over them.
 use Rattle.std.specs.Prelude.{◌≡◌, ℕ, zero, suc, List, Option, Some}
 use Rattle.std.specs.Io.KnownBytes.{prepend_known}
 use Rattle.sim_lines.specs.Waiting.{Waiting, CountsReads}
@@ -21,12 +21,12 @@ abbrev pub first_or : (Scenario → Nodes) → (ℕ → Scenario → Nodes) → 
 first_or first later zero = first
 first_or first later (suc place) = later place
 
--- the nodes that a scenario stands for, by the place of its protocol
+-- the nodes of a scenario, by the place of its protocol
 abbrev pub nodes_by : (ℕ → Scenario → Nodes) → ScenarioText → Nodes
 nodes_by nodes s = nodes s.protocol (scenario s)
 
 -- the input and the output at a moment
--- ahead     what was read and is not taken
+-- ahead     what was read and not yet taken
 -- left      what is left to be read
 -- held      what the writer holds
 pub record Ports : Type 0 where

@@ -11,7 +11,7 @@ use Rattle.sim_book.specs.History.{IsTurn}
 use Rattle.sim_book.specs.Kept.{BookView, all_shown}
 
 -- branches     the book's branches
--- taken        how many entries are kept
+-- taken        the number of kept entries
 pub record Course : Type 0 where
   pub branches : Book
   pub taken : ℕ
@@ -27,13 +27,13 @@ session = 0
 abbrev pub beginning : Course
 beginning = record { branches = opening; taken = 0 }
 
--- how far a book has come
+-- the course that a book has reached
 abbrev pub course_of : BookView → Course
 course_of book = record { branches = all_shown book.kept; taken = length book.history }
 
 module _ {State Msg : Type 0} (r : Rules State Msg) where
-  -- A command is taken: its entry is kept and tells a turn. Or it is not taken, where 65,536
-  -- entries are kept or memory is wanted, and all stays.
+  -- A command is taken: its entry is kept and records a turn. Or it is not taken, because 65,536
+  -- entries are kept or memory is wanted, and nothing changes.
   abbrev pub Takes : Course → Command → Result Entry NotTaken → Course → Type 0
   Takes old c (Ok e) new =
       (old.taken < most_entries) × (new.taken ≡ old.taken + 1) × (e.session ≡ session)
@@ -42,7 +42,7 @@ module _ {State Msg : Type 0} (r : Rules State Msg) where
   Takes old c (Err HistoryFull) new = (most_entries ≤ old.taken) × (new ≡ old)
   Takes old c (Err NoMemory) new = (old.taken < most_entries) × (new ≡ old)
 
-  -- the course after a command where memory is ample
+  -- the course after a command if memory suffices
   abbrev pub course_after : Course → Command → Course
   course_after old c =
       if nat_lt old.taken most_entries

@@ -1,4 +1,4 @@
-//! The lines of a script, answered one after the other.
+//! Answers the lines of a script one after the other.
 ghost use Rattle.std.specs.Prelude.{◌≡◌, ℕ, List, [], Some};
 ghost use Rattle.std.specs.Io.KnownBytes.{prepend_known};
 ghost use Rattle.sim_lines.specs.Left.{HandsOver};
@@ -21,7 +21,7 @@ use std::io::{Read, Write};
 /// The session of a play.
 const SESSION: u8 = 0;
 
-/// Hands a text over.
+/// Hands over `text` to the outlet.
 fn hand<W: Write>(outlet: &mut Outlet, writer: &mut W, text: &[u8]) -> Answered
     ensures { Hands (W.contents writer.old) (W.contents writer.new) outlet.old text.now outlet.new
         result }
@@ -32,7 +32,7 @@ fn hand<W: Write>(outlet: &mut Outlet, writer: &mut W, text: &[u8]) -> Answered
     }
 }
 
-/// Writes all that waits.
+/// Writes all that waits. Returns `status`, unless the writer fails.
 pub(crate) fn finish<W: Write>(outlet: &mut Outlet, writer: &mut W, status: Status) -> Status
     ensures { Finishes (W.contents writer.old) (W.contents writer.new) outlet.old status result }
 {
@@ -42,7 +42,8 @@ pub(crate) fn finish<W: Write>(outlet: &mut Outlet, writer: &mut W, status: Stat
     }
 }
 
-/// The turn of what a line asks. Where there is no memory for its condition, it is not taken.
+/// Takes the turn that a line asks for. If there is no memory for its condition, the turn is not
+/// taken.
 pub fn turn_of<N: Node>(alloc: Global, book: &mut Book<N>, ask: Ask) -> Result<Entry, NotTaken>
     ensures takes { Takes (rules N.laws N.PROBES book.old.scenario) (course_of book.old) ask result
         (course_of book.new) }
@@ -60,8 +61,7 @@ pub fn turn_of<N: Node>(alloc: Global, book: &mut Book<N>, ask: Ask) -> Result<E
     }
 }
 
-/// Answers a line of a script by a turn of the book. The text is room for the answer, to be used
-/// again.
+/// Answers a line of a script by a turn of the book. `text` is a buffer for the answer.
 fn answer_line<N: Node, W: Write>(
     alloc: Global,
     book: &mut Book<N>,
@@ -89,7 +89,7 @@ fn answer_line<N: Node, W: Write>(
     }
 }
 
-/// Writes all that waits, where the next byte takes a read.
+/// Writes all that waits, if the next byte needs a read.
 pub(crate) fn flush_before_read<W: Write>(
     ahead: &Ahead,
     outlet: &mut Outlet,
@@ -104,10 +104,10 @@ pub(crate) fn flush_before_read<W: Write>(
     outlet.flush(writer)
 }
 
-/// Answers the lines of a script by turns of the book, and writes the answers: at once where the
-/// next byte of the script takes a read, else gathered.
+/// Answers the lines of a script by turns of the book, and writes the answers: at once if the next
+/// byte of the script needs a read, else gathered.
 ///
-/// Of want of memory outside a command `MemoryWanted` tells. Then, and where the writer failed, the
+/// Returns `MemoryWanted` for want of memory outside a command. Then, and if the writer failed, the
 /// book may be ahead of what was written.
 pub fn answer_lines<N: Node, R: Read, W: Write>(
     alloc: Global,

@@ -1,4 +1,4 @@
-//! The fault of a scenario is explained on standard error.
+//! Explains the fault of a scenario on standard error.
 ghost use Rattle.std.specs.Prelude.{◌≤◌, length};
 
 use crate::scenario::MAX_TEXT;
@@ -10,7 +10,7 @@ use std::alloc::{AllocError, Global};
 /// The most protocols of a list.
 const MAX_PROTOCOLS: usize = 255;
 
-// The protocols of a list, in the order of their places.
+// Returns the protocols of a list, in the order of their places. Fails only for want of memory.
 fn known_protocols<L: Subjects>(alloc: Global) -> Result<Vec<KnownProtocol<'static>>, AllocError> {
     let mut known = Vec::new(alloc);
     for place in 0..MAX_PROTOCOLS {
@@ -26,7 +26,7 @@ fn known_protocols<L: Subjects>(alloc: Global) -> Result<Vec<KnownProtocol<'stat
     Ok(known)
 }
 
-// The fault of a text, or none if it has none or memory is refused.
+// Returns the fault of a text, or `None` if it has none or memory is wanted.
 fn fault_of<P: Protocols>(alloc: Global, bytes: &[u8]) -> Option<ScenarioFault>
     requires few { length P.listed ≤ 255 }
 {
@@ -42,9 +42,9 @@ fn fault_of<P: Protocols>(alloc: Global, bytes: &[u8]) -> Option<ScenarioFault>
     }
 }
 
-/// Tells on standard error why a text is no scenario that names one of the subjects: what was
-/// found, and what is allowed. The text is read again for it. If memory is refused, less is told,
-/// or nothing. If standard error takes nothing, there is nobody to tell.
+/// Explains on standard error why a text is no scenario that names one of the subjects: what was
+/// found, and what is allowed. Reads the text again for that. If memory is wanted, it explains
+/// less, or nothing. A failure of standard error is ignored.
 pub fn explain_fault<L: Subjects, H: Eprint>(host: &H, alloc: Global, bytes: &[u8])
     requires few { length L.listed ≤ 255 }
 {

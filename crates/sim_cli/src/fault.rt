@@ -1,4 +1,4 @@
-//! Lines of a script that are at fault, and why.
+//! The lines of a script that are at fault, and why.
 ghost use Rattle.std.specs.Prelude.{◌≡◌};
 ghost use Rattle.sim_cli.specs.Strict.{fault_of_turn, tells_want, wants_memory};
 
@@ -7,7 +7,7 @@ use sim_book::{Entry, NotTaken, Refusal, Reply};
 use sim_script::LineMistake;
 use std::fmt;
 
-/// So much of a line is told (bytes).
+/// The most bytes of a line that are shown.
 const MAX_TOLD: usize = 256;
 
 /// Why a line of a script is at fault.
@@ -22,7 +22,7 @@ pub enum LineFault {
 }
 
 impl LineFault {
-    /// Whether it tells of want of memory, which is no fault of the line.
+    /// Returns whether it reports want of memory, which is no fault of the line.
     pub fn wants_memory(&self) -> bool
         ensures { result ≡ wants_memory self.now }
     {
@@ -57,8 +57,8 @@ pub struct ScriptFault {
     pub why: LineFault,
 }
 
-/// A line as it is told: bytes that are no printable ASCII are shown as `?`, and what follows the
-/// first 256 bytes as `..`.
+/// A line as it is shown: with `?` for each byte that is no printable ASCII, and `..` for all after
+/// the first 256 bytes.
 #[derive(Drop)]
 struct Told<'a> {
     line: &'a [u8],
@@ -80,7 +80,7 @@ impl fmt::Display for Told<'_> {
     }
 }
 
-/// Why a turn is no answer to a command that was carried out.
+/// Returns the reason why a turn is no answer to a command that was carried out, if there is one.
 pub fn fault_of_turn(turn: &Result<Entry, NotTaken>) -> Option<LineFault>
     ensures { result ≡ fault_of_turn turn.now }
 {
@@ -93,7 +93,7 @@ pub fn fault_of_turn(turn: &Result<Entry, NotTaken>) -> Option<LineFault>
     }
 }
 
-/// Whether a fault, if there is one, tells of want of memory.
+/// Returns whether a fault, if there is one, reports want of memory.
 pub fn tells_want(fault: Option<LineFault>) -> bool
     ensures { result ≡ tells_want fault }
 {
@@ -103,7 +103,7 @@ pub fn tells_want(fault: Option<LineFault>) -> bool
     }
 }
 
-// How many lines of an input lie before a line of its script: those of the scenario, and the line
+// Returns the number of lines of an input before its script: those of the scenario, and the line
 // `---`.
 fn lines_before(opened: &Opened) -> u64 {
     let mut lines: u64 = 1;
@@ -115,8 +115,8 @@ fn lines_before(opened: &Opened) -> u64 {
     lines
 }
 
-/// Tells on standard error which line of a script is at fault, and why. If standard error takes
-/// nothing, there is nobody to tell.
+/// Reports on standard error which line of a script is at fault, and why. A failure of standard
+/// error is ignored.
 pub fn tell_fault<H: Eprint>(host: &H, opened: &Opened, fault: &ScriptFault) {
     let (number, why) = (fault.number, fault.why);
     let whole = number.saturating_add(lines_before(opened));

@@ -5,30 +5,30 @@
 //! - A [`Subject`] is a protocol with its name, its type of nodes and the names of their probes. A
 //!   program plays a list of subjects: [`Shipped`], or a list of its own, made by [`With`] and
 //!   [`Only`].
-//! - A [`Task`] is what is done over nodes of any type, as [`Playing`]. [`Subjects`] carries it out
-//!   over the nodes of the protocol that a scenario names, and [`open`] reads that scenario.
+//! - A [`Task`] is done over nodes of any type, as [`Playing`]. [`Subjects`] carries it out over
+//!   the nodes of the protocol that a scenario names, and [`open`] reads that scenario.
 //! - [`answer_lines`] is the loop over the lines of a script, on a book of the caller's.
 //! - [`play_strictly`] is a play that ends with the answer to the first line of its script that is
-//!   at fault: a [`ScriptFault`], which [`tell_fault`] tells on standard error.
+//!   at fault: a [`ScriptFault`], which [`tell_fault`] reports on standard error.
 //! - [`Status`] says how a play ended; its number is the exit status of the program.
-//! - [`explain_fault`] tells on standard error why a text is no scenario; [`open`] calls it.
+//! - [`explain_fault`] explains on standard error why a text is no scenario; [`open`] calls it.
 //! - [`write_text`] writes a text and flushes the writer, as for the line of a scenario's fault.
 //!
-//! The contract of `play` holds for every reader and writer whose bytes contracts can name. Where
+//! The contract of `play` holds for every reader and writer whose bytes contracts can name. If
 //! memory suffices and neither fails, the output is a function of the input: `out` in
 //! `specs/Play.antt`. If a line reports want of memory, the output is the text of some list of
 //! turns, each as the book's contract allows. If the writer fails or memory is wanted outside a
-//! command, it is a beginning of such a text. If the reader fails, it is the text for all whole
-//! lines that were read.
+//! command, the output is a beginning of such a text. If the reader fails, it is the text for all
+//! whole lines that were read.
 //!
 //! Why it is built this way:
 //!
-//! - A play is session 0 of a book and has no state of its own. What is kept, how fast a `back` is
-//!   and what want of memory leaves are the book's contracts.
+//! - A play is session 0 of a book and has no state of its own. The history, the speed of a `back`
+//!   and what remains after want of memory are matters of the book's contracts.
 //! - The definitions speak of `Nodes`: the rules of a run and the names of probes. A list of
 //!   subjects gives the `Nodes` of each place, so one definition and one body serve every type of
 //!   nodes.
-//! - A list of subjects is a type and no value. So each task is compiled for each type of nodes,
+//! - A list of subjects is a type and not a value. So each task is compiled for each type of nodes,
 //!   and no call goes through a pointer. `Subjects::carry_out` is the one place where a protocol
 //!   becomes a type of nodes: a new task needs no `match` over protocols.
 //! - The crate needs no threads and no clock. Searches and sweeps, which do, are in `sim_perform`.

@@ -1,4 +1,4 @@
-//! What comes before a task: the scenario is read, and its fault is told.
+//! Reads the scenario before a task, and reports its fault.
 ghost use Rattle.std.specs.Prelude.{◌≡◌, ◌≤◌, ◌<◌, ℕ, List, Some, length, map, vec_len};
 ghost use Rattle.std.specs.Prelude.{IfOk, IfErr, string_bytes};
 ghost use Rattle.std.specs.Io.KnownBytes.{prepend_known};
@@ -24,8 +24,8 @@ use sim_world::Scenario;
 use std::alloc::Global;
 use std::io::{Read, Write};
 
-/// The scenario of a run and the names, by what was read and the names of the probes, in the order
-/// of their numbers.
+/// Returns the scenario of a run and its names, from the text that was read and the names of the
+/// probes in the order of their numbers.
 pub fn set_up(text: ScenarioText, probes: Vec<String>) -> (Scenario, Names)
     requires numbered { IsNumbered text.names }
     requires within { IsWithinLimits (seen text) }
@@ -53,8 +53,7 @@ pub fn set_up(text: ScenarioText, probes: Vec<String>) -> (Scenario, Names)
     (scenario, Names::new(text.names, probes))
 }
 
-/// Writes a text, and flushes the writer. If the writer fails, it was given a part from the text's
-/// front.
+/// Writes `text` and flushes the writer. If the writer fails, it has taken some front of the text.
 pub fn write_text<W: Write>(writer: &mut W, text: &[u8]) -> Answered
     ensures { Writes (W.contents writer.old) (W.contents writer.new) text.now result }
 {
@@ -78,8 +77,8 @@ fn write_fault<W: Write>(writer: &mut W, line: &[u8]) -> Status
     }
 }
 
-// What a scenario that was read from this text says, for nodes of its protocol. The only error is
-// want of memory.
+// Returns the scenario that was read from `text`, with the names for nodes of its protocol. Fails
+// only for want of memory.
 fn ready<L: Subjects>(alloc: Global, said: ScenarioText, text: Vec<u8>) -> Result<Opened, Status>
     requires numbered { IsNumbered said.names }
     requires within { IsWithinLimits (seen said) }
@@ -105,10 +104,10 @@ fn ready<L: Subjects>(alloc: Global, said: ScenarioText, text: Vec<u8>) -> Resul
     })
 }
 
-/// Reads a scenario that names one of the subjects, up to the line `---` after it. An error is the
-/// status with which a program ends that has no scenario. Then the line of the scenario's fault was
-/// written, or a part of it if the writer failed, or nothing if the reader failed or memory was
-/// wanted. The fault is also explained on standard error, by `explain_fault`.
+/// Reads a scenario that names one of the subjects, up to the line `---` after it. Otherwise fails
+/// with the exit status of the program. Then it has written the line of the scenario's fault, or a
+/// part of it if the writer failed, or nothing if the reader failed or memory was wanted.
+/// `explain_fault` also explains the fault on standard error.
 pub fn open<L: Subjects, H: Eprint, R: Read, W: Write>(
     host: &H,
     alloc: Global,

@@ -1,4 +1,4 @@
-//! A scenario and a script are played over any reader and any writer.
+//! Plays a scenario and a script over any reader and any writer.
 ghost use Rattle.std.specs.Prelude.{◌≡◌, ◌≤◌, ℕ, List, Some, length};
 ghost use Rattle.sim_cli.specs.Play.{Ended, IsWithinReads, Played};
 ghost use Rattle.sim_cli.specs.Subjects.{PlaysScript, nodes_by};
@@ -76,12 +76,11 @@ fn play_scenario<L: Subjects, H: Eprint, R: Read, W: Write>(
     }
 }
 
-/// Plays what the reader gives, a scenario and a script, over the nodes of the subject that the
-/// scenario names, and writes a line for each command. What is written is a function of what is
-/// read where memory is ample, and where it is not, the lines tell so. A scenario that is not read
-/// is explained on standard error. At most 2^40 reads are made,
-/// of at most 4,096 bytes each; a reader that has more to give counts as failed. There are at most
-/// 255 subjects.
+/// Reads a scenario and a script, plays the script over the nodes of the subject that the scenario
+/// names, and writes a line for each command. If memory suffices, the output is a function of the
+/// input; if not, the lines say so. A fault of the scenario is explained on standard error. Makes
+/// at most 2^40 reads, of at most 4,096 bytes each; a reader that has more counts as failed. There
+/// are at most 255 subjects.
 pub fn play<L: Subjects, H: Eprint, R: Read, W: Write>(
     host: &H,
     alloc: Global,

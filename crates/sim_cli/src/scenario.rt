@@ -8,16 +8,16 @@ use std::alloc::Global;
 /// The longest text of a scenario (bytes).
 pub const MAX_TEXT: usize = 65_536;
 
-/// A scenario that was read, or why there is none.
+/// A scenario that was read, or the reason why there is none.
 #[derive(Drop)]
 pub enum WasRead {
     Scenario(ScenarioText),
-    /// The line that tells the fault.
+    /// The line of the fault.
     Fault(String),
     NoMemory,
 }
 
-/// The line that tells a fault of a scenario.
+/// Returns the line of a fault of a scenario.
 fn tell_fault(alloc: Global, number: u8, key: &str) -> WasRead
     ensures { TellsFault (record { number = number; key = key.now }) result }
 {
@@ -27,7 +27,7 @@ fn tell_fault(alloc: Global, number: u8, key: &str) -> WasRead
     }
 }
 
-/// Reads the bytes of a scenario's text, which names one of these protocols.
+/// Reads the bytes of a scenario's text, which may name any of these protocols.
 pub fn read_scenario<P: Protocols>(alloc: Global, bytes: &[u8]) -> WasRead
     requires few { length P.listed ≤ 255 }
     ensures reads { Reads P.listed bytes.now result }
@@ -42,7 +42,7 @@ pub fn read_scenario<P: Protocols>(alloc: Global, bytes: &[u8]) -> WasRead
     match sim_scenario::read::<P>(alloc, text) {
         Ok(scenario) => WasRead::Scenario(scenario),
         Err(fault) => {
-            // Want of memory is no fault of the text, and has the number 0.
+            // Want of memory is no fault of the text, and has number 0.
             let number = fault.number();
             if number == 0 {
                 WasRead::NoMemory

@@ -1,28 +1,28 @@
-//! How a play or another job ended, as the exit status of a program says it.
+//! How a play or another job ended, as an exit status.
 ghost use Rattle.std.specs.Prelude.{◌≡◌};
 ghost use Rattle.sim_cli.specs.Statuses.{status_number};
 
 /// How a play ended.
 #[derive(Clone, Copy, Debug, PartialEq, Eq)]
 pub enum Status {
-    /// The whole script was answered, whatever was refused in it.
+    /// The whole script was answered, even if commands were refused.
     Well,
     /// There is no scenario; the line of its fault was written.
     BadScenario,
-    /// What was asked for can't be done.
+    /// The request cannot be carried out.
     BadRequest,
-    /// The reader failed, or still gave bytes after 2^40 reads. All whole lines that were read were
+    /// The reader failed, or still had bytes after 2^40 reads. All whole lines that were read were
     /// answered.
     ReaderFailed,
     /// The writer failed, and nothing more was written.
     WriterFailed,
-    /// There was no memory outside a command.
+    /// Memory was wanted outside a command.
     MemoryWanted,
 }
 
 impl Status {
-    /// The number with which the program ends, 0 to 4. A reader's and a writer's failure have the
-    /// same.
+    /// Returns the exit status of the program, 0 to 4. Failures of the reader and of the writer
+    /// have the same.
     pub fn number(self) -> u8
         ensures { result ≡ status_number self }
     {
@@ -41,6 +41,6 @@ impl Status {
 pub enum Answered {
     Well,
     WriterFailed,
-    /// There was no memory for the answer.
+    /// Memory was wanted for the answer.
     MemoryWanted,
 }

@@ -31,11 +31,11 @@ pub(crate) enum Halt {
     /// The line that was just answered is at fault.
     Fault(LineFault),
     WriterFailed,
-    /// There was no memory for a command or its answer.
+    /// Memory was wanted for a command or its answer.
     MemoryWanted,
 }
 
-/// Answers a command by a turn of the book. Where the turn wants memory nothing is told.
+/// Answers a command by a turn of the book. If the turn wants memory, hands nothing over.
 fn answer_asked<N: Node, W: Write>(
     alloc: Global,
     book: &mut Book<N>,
@@ -69,7 +69,7 @@ fn answer_asked<N: Node, W: Write>(
     }
 }
 
-/// Answers a line of a script. The text is room for the answer, to be used again.
+/// Answers a line of a script. `text` is a buffer for the answer.
 fn answer_strictly<N: Node, W: Write>(
     alloc: Global,
     book: &mut Book<N>,
@@ -99,7 +99,7 @@ fn answer_strictly<N: Node, W: Write>(
     }
 }
 
-/// Ends a strict play after a line, which has this number and of which this text is kept.
+/// Ends a strict play after the line with this number and this text.
 fn end_at<W: Write>(
     outlet: &mut Outlet,
     writer: &mut W,
@@ -121,8 +121,8 @@ fn end_at<W: Write>(
 }
 
 /// Answers the lines of a script by turns of the book, as `answer_lines` does, up to the first line
-/// that is at fault. The error is that line; its answer is the last that was written. Where a
-/// command wants memory its answer is not written, and the play ends with `MemoryWanted`.
+/// that is at fault. The error is that line; its answer is the last that was written. If a command
+/// wants memory, its answer is not written, and the play ends with `MemoryWanted`.
 pub fn answer_lines_strictly<N: Node, R: Read, W: Write>(
     alloc: Global,
     book: &mut Book<N>,
@@ -172,7 +172,7 @@ pub fn answer_lines_strictly<N: Node, R: Read, W: Write>(
     }
 }
 
-/// The task to play a script strictly: the first line at fault is told on standard error.
+/// The task to play a script strictly; it reports the first line at fault on standard error.
 #[derive(Drop)]
 pub struct PlayingStrictly<'a, H: Eprint> {
     pub alloc: Global,
@@ -210,10 +210,9 @@ impl<'a, H: Eprint> Task for PlayingStrictly<'a, H> {
     }
 }
 
-/// Plays what the reader gives, a scenario and a script, as `play` does, up to the first line of
-/// the script that is at fault: one that is no command, or whose command is refused or not taken.
-/// Such a line is told on standard error, its answer is the last that is written, and the play ends
-/// with `BadRequest`.
+/// Plays a scenario and a script as `play` does, up to the first line of the script that is at
+/// fault: one that is no command, or whose command is refused or not taken. Reports that line on
+/// standard error and ends with `BadRequest`; the answer to that line is the last that it writes.
 pub fn play_strictly<L: Subjects, H: Eprint, R: Read, W: Write>(
     host: &H,
     alloc: Global,

@@ -20,19 +20,20 @@ use std::fmt::Debug;
 use std::io::{Read, Write};
 use std::marker::PhantomData;
 
-/// What is done over nodes of any type: a play, or a search.
+/// A task over nodes of any type: a play, or a search.
 pub trait Task {
     ghost use Rattle.sim_cli.specs.declared.status.Status.{Status};
 
-    /// What must hold of the task.
+    /// The condition that the task must meet.
     ghost can: { Self → Type 0 };
 
-    /// What is done, by the rules of the nodes and the names of hosts and probes, from an input and
-    /// an output to those that are left.
+    /// What the task does with an input and an output, by the rules of the nodes and the names of
+    /// hosts and probes.
     ghost does: { {State Msg : Type 0} → Self → Rules State Msg → NamesValue → Ports → Ports
         → Status → Type 0 };
 
-    /// Does it over nodes of one type, in a scenario that was read. The reader gives the script.
+    /// Carries it out over nodes of one type, in a scenario that was read. The reader gives the
+    /// script.
     fn carry_out<N: Node<Meter = Tally> + Send + Sync + Debug, R: Read, W: Write>(
         &self,
         opened: &Opened,
@@ -61,21 +62,21 @@ pub trait Subject {
     /// The records of the nodes' reactions.
     type Undo: Send + Sync + Drop;
 
-    /// The protocol's name in a scenario, and how many servers it needs.
+    /// The protocol's name in a scenario, and the number of servers that it needs.
     ghost protocol: { Protocol };
 
     /// The names of the probes.
     ghost probes: { List Text };
 
-    /// The protocol's name in a scenario.
+    /// Returns the protocol's name in a scenario.
     fn name() -> &'static str
         ensures { result.now ≡ protocol.name };
 
-    /// How many servers the protocol needs.
+    /// Returns the number of servers that the protocol needs.
     fn least_servers() -> usize
         ensures { result ≡ protocol.least_servers };
 
-    /// The names of the probes, in the order of their numbers: at most 255.
+    /// Returns the names of the probes, in the order of their numbers: at most 255.
     fn probe_names() -> &'static [&'static str]
         ensures names { map (λ name. name.now) result.now ≡ probes }
         ensures few { length result.now ≤ 255 };
@@ -86,11 +87,11 @@ pub trait Subjects: Protocols {
     /// The nodes of the protocol at a place, in a scenario.
     ghost nodes: { ℕ → ScenarioValue → Nodes };
 
-    /// The name of the protocol at a place, or none past the end of the list.
+    /// Returns the name of the protocol at a place, or `None` past the end of the list.
     fn protocol_name(place: usize) -> Option<&'static str>
         ensures { option_copied result ≡ option_map (λ p. p.name) (slice_get Self.listed place) };
 
-    /// The names of the probes of the protocol at a place, in the order of their numbers.
+    /// Returns the names of the probes of the protocol at a place, in the order of their numbers.
     fn probe_names(alloc: Global, place: usize) -> Result<Vec<String>, AllocError>
         requires { place < length Self.listed }
         ensures names { IfOk result (λ probes. (s : ScenarioValue) →
@@ -118,7 +119,7 @@ pub struct Only<S> {
     of: PhantomData<S>,
 }
 
-/// A list that begins with the subject `S`, and goes on as the list `L`.
+/// A list that begins with the subject `S` and continues with the list `L`.
 pub struct With<S, L> {
     of: PhantomData<(S, L)>,
 }
@@ -157,7 +158,7 @@ impl<S: Subject, L: Subjects> Protocols for With<S, L> {
     }
 }
 
-/// The texts as strings of their own.
+/// Returns owned copies of the texts.
 fn owned(alloc: Global, texts: &[&str]) -> Result<Vec<String>, AllocError>
     ensures texts { IfOk result (λ owned. map string_bytes owned.items
         ≡ map (λ text. text.now) texts.now) }

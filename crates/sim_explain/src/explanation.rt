@@ -1,4 +1,4 @@
-//! A fault of a scenario's text in a sentence.
+//! Explains a fault of a scenario's text in a sentence.
 use crate::hosts::{
     explain_clients, explain_equal_names, explain_host_count, explain_no_tables, explain_servers,
 };
@@ -10,23 +10,23 @@ use std::alloc::Global;
 use std::fmt;
 use toml::Table;
 
-/// A protocol that a scenario may name, and how many servers it needs.
+/// A protocol that a scenario may name, and the number of servers that it needs.
 #[derive(Clone, Copy)]
 pub struct KnownProtocol<'a> {
     pub name: &'a str,
     pub least_servers: usize,
 }
 
-// What is looked at to explain a fault.
+// What the explanation of a fault is made from.
 #[derive(Drop)]
 enum Source {
-    /// The table that the text says.
+    /// The table that the text contains.
     Table(Table),
-    /// The text is no TOML, from this place on.
+    /// The text is not TOML, from this place on.
     NotToml(Position, toml::de::Error),
-    /// There is no value behind the `=` before this place.
+    /// No value follows the `=` before this place.
     NoValue(Position),
-    /// The fault is looked at alone.
+    /// The fault alone.
     Fault,
 }
 
@@ -59,7 +59,8 @@ impl<'a> Explanation<'a> {
     }
 }
 
-// Whether a line ends at a place, behind an `=`. The library has no word of its own for that.
+// Returns whether a line ends at a place, after an `=`. The library has no error of its own for
+// that.
 fn is_value_missing(text: &[u8], place: usize) -> bool {
     let before = text.iter().take(place);
     let last = before.rev().find(|byte| !matches!(byte, b' ' | b'\t'));

@@ -11,7 +11,7 @@ use toml::{Table, Value};
 /// The most hosts of a scenario.
 const MAX_HOSTS: usize = 32;
 
-/// The items of an array at a key, or none where there is no array.
+/// Returns the items of an array at a key, or none if there is no array.
 pub fn items_at<'a>(table: &'a Table, key: &str) -> &'a [Value] {
     match table.get(key) {
         Some(Value::Array(items)) => items.as_slice(),
@@ -38,8 +38,8 @@ pub fn explain_no_tables<W: fmt::Write>(
     }
 }
 
-/// Writes which server has no name: its item is no string if `types`, else it is a string that is
-/// no name.
+/// Writes which server has no name: its item is not a string if `types`, else it is a string that
+/// is not a name.
 pub fn explain_servers<W: fmt::Write>(
     f: &mut fmt::Formatter<W>,
     table: &Table,
@@ -62,7 +62,7 @@ pub fn explain_servers<W: fmt::Write>(
     }
 }
 
-// A client's name, if it is none.
+// Returns the flaw of a client's name, if it is not a name.
 fn no_name(table: &Table) -> Option<Flaw<'_>> {
     let found = table.get("name");
     match found.and_then(Value::as_str) {
@@ -75,7 +75,7 @@ fn no_name(table: &Table) -> Option<Flaw<'_>> {
     }
 }
 
-// The first thing that is wrong with a client.
+// Returns the first flaw of a client.
 fn client_flaw(item: &Value) -> Option<Flaw<'_>> {
     let table = item.as_table()?;
     if let Some(key) = unknown_key(table, &["name", "ops"]) {
@@ -98,7 +98,7 @@ pub fn explain_clients<W: fmt::Write>(f: &mut fmt::Formatter<W>, table: &Table) 
     explain_no_tables(f, table, Key::Client)
 }
 
-/// The name of the host with a number, the servers first, or none past the last host.
+/// Returns the name of the host with a number, the servers first, or `None` past the last host.
 pub fn host_name(table: &Table, number: usize) -> Option<&str> {
     let servers = items_at(table, "servers");
     if number < servers.len() {
@@ -108,7 +108,7 @@ pub fn host_name(table: &Table, number: usize) -> Option<&str> {
     client.as_table()?.get("name")?.as_str()
 }
 
-/// The number of the first host with a name.
+/// Returns the number of the first host with this name.
 pub fn host_with(table: &Table, name: &str) -> Option<usize> {
     (0..MAX_HOSTS).find(|number| host_name(table, *number) == Some(name))
 }
@@ -154,7 +154,7 @@ pub fn explain_equal_names<W: fmt::Write>(f: &mut fmt::Formatter<W>, table: &Tab
     Ok(())
 }
 
-/// Writes how many hosts there are, and how many there have to be.
+/// Writes how many hosts there are, and how many there must be.
 pub fn explain_host_count<W: fmt::Write>(
     f: &mut fmt::Formatter<W>,
     table: &Table,

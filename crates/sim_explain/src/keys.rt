@@ -5,16 +5,16 @@ use sim_scenario::Key;
 use std::fmt;
 use toml::{Table, Value};
 
-/// The keys of both formats but the last, as a list in words.
+/// The keys of both formats but the last one, as a list in words.
 const KEYS: &str =
     "format, seed, protocol, tick, latency_min, latency_max, loss, servers, checkpoint, window";
 
-// A whole number from one to another.
+// Returns that a whole number from `low` to `high` is wanted.
 fn number(low: u32, high: u32, unit: &'static str) -> Wanted {
     Wanted::Number { low, high, unit }
 }
 
-// What a key of a scenario has to be.
+// Returns what a key of a scenario must be.
 fn wanted(table: &Table, key: Key) -> Wanted {
     match key {
         Key::Format => Wanted::Words("1 or 2"),
@@ -32,7 +32,7 @@ fn wanted(table: &Table, key: Key) -> Wanted {
     }
 }
 
-/// Writes what stands at a key of a scenario, and what has to stand there.
+/// Writes what is at a key of a scenario, and what must be there.
 pub fn explain_key<W: fmt::Write>(
     f: &mut fmt::Formatter<W>,
     table: &Table,
@@ -74,7 +74,7 @@ pub fn explain_seed<W: fmt::Write>(f: &mut fmt::Formatter<W>, table: &Table) -> 
     f.write_str("; it has to be a string of 64 of them")
 }
 
-/// Writes which protocol was named, and which there are.
+/// Writes which protocol was named, and which ones exist.
 pub fn explain_protocol<W: fmt::Write>(
     f: &mut fmt::Formatter<W>,
     table: &Table,

@@ -1,16 +1,16 @@
 //! Says in a sentence why a text is no scenario: what was found, and what is allowed.
 //!
 //! [`Explanation::new`] takes the text, the fault that `sim_scenario::read` returned for it, and
-//! the protocols that a scenario may name. What it prints is one line without its end:
+//! the protocols that a scenario may name. It prints as one line without its end:
 //!
 //! ```text
 //! tick is 0; it has to be a whole number from 1 to 60,000 (ms)
 //! line 3, column 8: invalid string; up to the line `---` the text has to be TOML
 //! ```
 //!
-//! Nothing is proved of the words. They are made afresh from the text, so the reader and its proof
-//! know nothing of them, and the fault decides what is looked for. If memory is refused, the
-//! sentence is that of the fault alone.
+//! Nothing is proved of the words. They are made anew from the text, so the reader and its proof do
+//! not know them, and the fault decides what is looked for. If memory is refused, the sentence is
+//! that of the fault alone.
 //!
 //! - `sentences`: the small parts of a sentence: a quoted text, a value that was found, what is
 //!   wanted in its place.

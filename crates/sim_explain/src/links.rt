@@ -10,7 +10,7 @@ use toml::{Table, Value};
 /// The keys of a link.
 static KEYS: [&str; 5] = ["source", "target", "latency_min", "latency_max", "loss"];
 
-// A host of a link, if it is no string.
+// Returns the flaw of a host of a link, if it is not a string.
 fn no_string<'a>(table: &'a Table, key: &'static str) -> Option<Flaw<'a>> {
     let found = table.get(key);
     match found.and_then(Value::as_str) {
@@ -23,7 +23,7 @@ fn no_string<'a>(table: &'a Table, key: &'static str) -> Option<Flaw<'a>> {
     }
 }
 
-// What is wrong with the latencies and the loss of a link.
+// Returns the flaw of the latencies and the loss of a link.
 fn way_flaw(table: &Table) -> Option<Flaw<'_>> {
     if let Some(flaw) = no_number(table, "latency_min", 0, 60_000, "ms") {
         return Some(flaw);
@@ -34,7 +34,7 @@ fn way_flaw(table: &Table) -> Option<Flaw<'_>> {
     }
 }
 
-// The first thing that is wrong with a link by itself.
+// Returns the first flaw of a link by itself.
 fn link_flaw(item: &Value) -> Option<Flaw<'_>> {
     let table = item.as_table()?;
     if let Some(key) = unknown_key(table, &KEYS) {
@@ -60,7 +60,7 @@ pub fn explain_links<W: fmt::Write>(f: &mut fmt::Formatter<W>, table: &Table) ->
     explain_no_tables(f, table, Key::Link)
 }
 
-// The name at a key of a link.
+// Returns the name at a key of a link, or an empty text.
 fn end_of<'a>(item: &'a Value, key: &str) -> &'a str {
     match item.as_table() {
         Some(table) => table.get(key).and_then(Value::as_str).unwrap_or(""),
@@ -79,14 +79,14 @@ fn write_hosts<W: fmt::Write>(f: &mut fmt::Formatter<W>, table: &Table) -> fmt::
     Ok(())
 }
 
-// The end of a link that is no host, if there is one.
+// Returns the key of the first end of a link that is not a host, if there is one.
 fn no_host(table: &Table, item: &Value) -> Option<&'static str> {
     ["source", "target"]
         .into_iter()
         .find(|key| host_with(table, end_of(item, key)).is_none())
 }
 
-/// Writes which link has an end that is no host, or two ends that are one host.
+/// Writes which link has an end that is not a host, or two ends that are the same host.
 pub fn explain_bad_link<W: fmt::Write>(f: &mut fmt::Formatter<W>, table: &Table) -> fmt::Result {
     for (i, item) in items_at(table, "link").iter().enumerate() {
         let which = Ordinal(i);
@@ -109,13 +109,13 @@ pub fn explain_bad_link<W: fmt::Write>(f: &mut fmt::Formatter<W>, table: &Table)
     Ok(())
 }
 
-// Whether two links go from one host to one other.
+// Returns whether two links go from the same host to the same other.
 fn is_same_direction(link: &Value, other: &Value) -> bool {
     end_of(link, "source") == end_of(other, "source")
         && end_of(link, "target") == end_of(other, "target")
 }
 
-/// Writes which two links have one direction.
+/// Writes which two links have the same direction.
 pub fn explain_repeated_link<W: fmt::Write>(
     f: &mut fmt::Formatter<W>,
     table: &Table,

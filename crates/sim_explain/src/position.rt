@@ -9,7 +9,7 @@ pub struct Position {
 }
 
 impl Position {
-    /// The place behind the first bytes of a text.
+    /// Returns the position after the first `bytes` bytes of a text.
     pub fn behind(text: &[u8], bytes: usize) -> Position {
         let mut line: usize = 1;
         let mut column: usize = 1;

@@ -8,8 +8,8 @@ const MAX_SHOWN: usize = 64;
 /// What a name is.
 pub const NAME: &str = "a name: 1 to 16 lower-case letters and digits, the first a letter";
 
-/// A text in quotes on one line. A control character is shown as `?`, and what follows the first 64
-/// characters as `..`.
+/// A text in quotes on one line, with `?` for each control character, and `..` for all after the
+/// first 64 characters.
 #[derive(Clone, Copy)]
 pub struct Quoted<'a>(pub &'a str);
 
@@ -26,7 +26,7 @@ impl fmt::Display for Quoted<'_> {
     }
 }
 
-/// An ordinal number, by how many come before: 1st for 0.
+/// An ordinal number, by the count of those before it: 1st for 0.
 #[derive(Clone, Copy)]
 pub struct Ordinal(pub usize);
 
@@ -44,7 +44,7 @@ impl fmt::Display for Ordinal {
     }
 }
 
-/// How many of a thing there are: `1 server`, `2 servers`.
+/// A count of things: `1 server`, `2 servers`.
 #[derive(Clone, Copy)]
 pub struct Counted(pub usize, pub &'static str);
 
@@ -97,16 +97,16 @@ impl fmt::Display for Found<'_> {
     }
 }
 
-/// What a key has to be.
+/// What a key must be.
 #[derive(Clone, Copy)]
 pub enum Wanted {
-    /// A whole number from one to another, and what it counts.
+    /// A whole number from `low` to `high`, and its unit.
     Number {
         low: u32,
         high: u32,
         unit: &'static str,
     },
-    /// A whole number that is at least this `latency_min`.
+    /// A whole number of at least this `latency_min`.
     LatencyMax(u32),
     /// What these words say.
     Words(&'static str),
@@ -128,7 +128,7 @@ impl fmt::Display for Wanted {
     }
 }
 
-/// A key that is missing, or whose value is another than it has to be.
+/// A key that is missing, or has a value other than it must have.
 #[derive(Clone, Copy)]
 pub struct Mismatch<'a> {
     pub key: &'static str,
@@ -143,8 +143,7 @@ impl fmt::Display for Mismatch<'_> {
     }
 }
 
-/// What is wrong with a table of a client or a link: it has a key that is not known, or one of its
-/// keys is wrong.
+/// What is wrong with a table of a client or a link: an unknown key, or a wrong value at a key.
 #[derive(Clone, Copy)]
 pub enum Flaw<'a> {
     UnknownKey { key: &'a str, known: &'static str },
@@ -163,7 +162,7 @@ impl fmt::Display for Flaw<'_> {
     }
 }
 
-/// The first key of a table that is not among some.
+/// Returns the first key of a table that is not among `known`.
 pub fn unknown_key<'a>(table: &'a Table, known: &[&str]) -> Option<&'a str> {
     for (key, _) in table.iter() {
         if !known.iter().any(|other| key.as_str() == *other) {
@@ -173,7 +172,7 @@ pub fn unknown_key<'a>(table: &'a Table, known: &[&str]) -> Option<&'a str> {
     None
 }
 
-/// A key of a table that should be a whole number from one to another, if it is none.
+/// Returns the flaw of a key that must be a whole number from `low` to `high`, if it is not.
 pub fn no_number<'a>(
     table: &'a Table,
     key: &'static str,
@@ -189,7 +188,7 @@ pub fn no_number<'a>(
     }
 }
 
-/// The `latency_min` of a table, or 0 where it has none that is in its range.
+/// Returns the `latency_min` of a table, or 0 if it has none in its range.
 pub fn latency_min(table: &Table) -> u32 {
     match table.get("latency_min").and_then(Value::as_integer) {
         Some(number) if 0 <= number && number <= 60_000 => number as u32,
@@ -197,7 +196,8 @@ pub fn latency_min(table: &Table) -> u32 {
     }
 }
 
-/// The `latency_max` of a table, if it is no whole number from its `latency_min` to 60,000.
+/// Returns the flaw of the `latency_max` of a table, if it is not a whole number from its
+/// `latency_min` to 60,000.
 pub fn no_latency_max(table: &Table) -> Option<Flaw<'_>> {
     let low = latency_min(table);
     let key = "latency_max";

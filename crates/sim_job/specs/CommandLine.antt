@@ -51,7 +51,7 @@ at_end = flag (codes "at-end")
 abbrev pub json : Rule
 json = flag (codes "json")
 
--- an option with a number of 64 bits, which may be left out; its long name is its id
+-- an option with a number of 64 bits; its long name is its id
 abbrev pub optional_number : Text → Rule
 optional_number id = record (new_rule id) {
   long = Some id;
@@ -59,7 +59,7 @@ optional_number id = record (new_rule id) {
   parser = Some (parser.Unsigned 0 18446744073709551615);
 }
 
--- an option with a word, which may be left out
+-- an option with a word
 abbrev pub optional_word : Text → Rule
 optional_word id = record (new_rule id) { long = Some id; value_names = 1 }
 
@@ -87,7 +87,7 @@ number id = record (new_rule id) {
 abbrev pub word : Text → Rule
 word id = record (new_rule id) { value_names = 1; required = true }
 
--- the file with the input, a word that may be left out
+-- the file with the input, an optional word
 abbrev pub input : Rule
 input = record (new_rule (codes "file")) { value_names = 1 }
 
@@ -140,7 +140,7 @@ bare = record {
   subs = [];
 }
 
--- the program, with its version, which wants a subcommand; clap adds one named `help`
+-- the program, with its version, which requires a subcommand; clap adds one named `help`
 abbrev pub program : App
 program = record {
   top = record (new_shape (codes "simback")) {
@@ -151,7 +151,7 @@ program = record {
   subs = play ∷ search ∷ sweep ∷ script ∷ shrink ∷ log ∷ page ∷ walk ∷ [];
 }
 
--- a value of clap's is this argument, which is its own command's alone
+-- a value of clap's is this argument, which belongs to its own command alone
 pub record IsArgument (rule : Rule) (arg : Arg) : Type 0 where
   pub is : rule_of arg ≡ rule
   pub own : arg.global ≡ false
@@ -163,8 +163,8 @@ pub record IsCommand (shape : Shape) (made : Command) : Type 0 where
 
 -- ---- the job
 
--- a value is there, and is read as the number: decimal digits, a plus sign before them or none,
--- below 2^64
+-- a value is read as the number: decimal digits, with or without a plus sign before them, below
+-- 2^64
 abbrev pub IsRead : Text → ℕ → Type 0
 IsRead text n =
     (IsNumeral 10 (without_leading_plus text) × (digits_value 10 (without_leading_plus text)
@@ -174,7 +174,7 @@ IsRead text n =
 abbrev pub HasNumber : Text → List Row → ℕ → Type 0
 HasNumber id rows n = (text : Text) × (one_of id rows ≡ Some text) × IsRead text n
 
--- an option that may be left out: it has no value, or one that is read as the number
+-- an option: it has no value, or one that is read as the number
 abbrev pub HasOption : Text → List Row → Option ℕ → Type 0
 HasOption id rows None = one_of id rows ≡ None
 HasOption id rows (Some n) = HasNumber id rows n
@@ -182,17 +182,17 @@ HasOption id rows (Some n) = HasNumber id rows n
 abbrev pub HasWord : Text → List Row → Text → Type 0
 HasWord id rows text = first_of id rows ≡ Some text
 
--- an option that may be left out: it has no value, or this text
+-- an option: it has no value, or this text
 abbrev pub HasOptionalWord : Text → List Row → Option (Bor (List ℕ)) → Type 0
 HasOptionalWord id rows text = option_map (λ s. s.now) text ≡ first_of id rows
 
--- a flag is set where its value is `true`, and not where it is `false` or there is none
+-- a flag is set if its value is `true`, and not if it is `false` or it has none
 pub record HasFlag (id : Text) (rows : List Row) (is_set : Bool) : Type 0 where
   pub yes : one_of id rows ≡ Some (codes "true") → is_set ≡ true
   pub no : one_of id rows ≡ Some (codes "false") → is_set ≡ false
   pub none : one_of id rows ≡ None → is_set ≡ false
 
--- so many workers, which are 1 to 16
+-- the number of workers, 1 to 16
 abbrev pub HasWorkers : List Row → ℕ → Type 0
 HasWorkers rows n = HasNumber (codes "workers") rows n × (1 ≤ n) × (n ≤ 16)
 
@@ -204,7 +204,7 @@ pub record HasFaultPlan (rows : List Row) (plan : FaultPlan) : Type 0 where
   pub faults : HasOption (codes "faults") rows plan.faults
   pub quiet : HasNumber (codes "quiet") rows plan.quiet
 
--- the subcommand with its matches asks for the job
+-- the subcommand with its matches makes the job
 abbrev pub Asks : Text → List Row → Job → Type 0
 Asks name rows (job.Play strict) = (name ≡ codes "play") × HasFlag (codes "strict") rows strict
 Asks name rows (job.Search team strict lo hi cond) = (name ≡ codes "search") × HasTeam rows team
@@ -240,7 +240,7 @@ HasFewWorkers (job.Page _ _) = ⊤
 HasFewWorkers job.Walk = ⊤
 
 -- The words make the request: clap finds no fault in them, its matches are the job's, and the file
--- is clap's value of the argument, or none where it has no value.
+-- is clap's value of the argument, or none if it has no value.
 pub record IsRequestOf (words : List Text) (asked : Request) : Type 0 where
   pub sound : fault_of program words ≡ []
   pub name : Text
@@ -251,7 +251,7 @@ pub record IsRequestOf (words : List Text) (asked : Request) : Type 0 where
 
 -- ---- the faults
 
--- help or the version is asked for
+-- the words ask for help or the version
 abbrev pub AsksText : Kinds → Type 0
 AsksText kinds = IsAmong kind.DisplayHelp kinds ⊎ IsAmong kind.DisplayVersion kinds
 
@@ -260,8 +260,8 @@ abbrev pub HasMistake : Kinds → Type 0
 HasMistake kinds =
     (k : ErrorKind) × IsAmong k kinds × (k ≢ kind.DisplayHelp) × (k ≢ kind.DisplayVersion)
 
--- Help is told where it is asked for, and usage where clap finds a mistake, or finds none and a
--- value is missing.
+-- Help is for words that ask for it; usage is for words in which clap finds a mistake, or finds
+-- none although a value is missing.
 abbrev pub IsFault : List Text → LineError → Type 0
 IsFault words (line_fault.Help text) = AsksText (fault_of program words)
 IsFault words (line_fault.Usage text) = HasMistake (fault_of program words)

@@ -23,7 +23,7 @@ fn workers<'a>(alloc: Global) -> Arg<'a>
         .help("How many workers share the work, 1 to 16")
 }
 
-/// A flag, whose long name is its id.
+/// A flag; its long name is its id.
 fn flag<'a>(alloc: Global, id: &'a str, help: &'a str) -> Arg<'a>
     ensures { IsArgument (line.flag id.entry.now) result }
 {
@@ -56,7 +56,7 @@ fn faults<'a>(alloc: Global) -> Arg<'a>
     )
 }
 
-/// An option with a number, whose long name is its id.
+/// An option with a number; its long name is its id.
 fn optional_number<'a>(alloc: Global, id: &'a str, name: &'a str, help: &'a str) -> Arg<'a>
     ensures { IsArgument (line.optional_number id.entry.now) result }
 {
@@ -67,7 +67,7 @@ fn optional_number<'a>(alloc: Global, id: &'a str, name: &'a str, help: &'a str)
         .help(help)
 }
 
-/// An option with a word, whose long name is its id.
+/// An option with a word; its long name is its id.
 fn optional_word<'a>(alloc: Global, id: &'a str, name: &'a str, help: &'a str) -> Arg<'a>
     ensures { IsArgument (line.optional_word id.entry.now) result }
 {
@@ -115,7 +115,7 @@ fn strict<'a>(alloc: Global) -> Arg<'a>
     )
 }
 
-/// A number that has to be given.
+/// A required number.
 fn number<'a>(alloc: Global, id: &'a str, name: &'a str, help: &'a str) -> Arg<'a>
     ensures { IsArgument (line.number id.entry.now) result }
 {
@@ -126,7 +126,7 @@ fn number<'a>(alloc: Global, id: &'a str, name: &'a str, help: &'a str) -> Arg<'
         .help(help)
 }
 
-/// The condition, which has to be given.
+/// The condition, which is required.
 fn cond<'a>(alloc: Global) -> Arg<'a>
     ensures { IsArgument (line.word (codes "cond")) result }
 {
@@ -136,7 +136,7 @@ fn cond<'a>(alloc: Global) -> Arg<'a>
         .help("The condition, as one word, such as \"w.next <= 3\"")
 }
 
-/// `FILE`, the last word of each command, which may be left out.
+/// `FILE`, the last word of each command, which is optional.
 fn input<'a>(alloc: Global) -> Arg<'a>
     ensures { IsArgument line.input result }
 {
@@ -145,7 +145,7 @@ fn input<'a>(alloc: Global) -> Arg<'a>
         .help("The file with the input; without it standard input")
 }
 
-/// `FILE`, which has to be given.
+/// `FILE`, which is required.
 fn named_input<'a>(alloc: Global) -> Arg<'a>
     ensures { IsArgument (line.word (codes "file")) result }
 {

@@ -16,9 +16,9 @@ use std::convert::AsStr;
 /// Why a command line makes no request.
 #[derive(Debug, Drop)]
 pub enum LineError {
-    /// Help or the version was asked for: its text.
+    /// The words ask for help or the version: its text.
     Help(String),
-    /// The words are wrong: what is wrong, and how the program is called.
+    /// The words are wrong: the mistake, and how to call the program.
     Usage(String),
     NoMemory,
 }
@@ -26,8 +26,8 @@ pub enum LineError {
 impl LineError {
     ghost use Rattle.sim_job.specs.Status.{status_of};
 
-    /// The exit status of the program: 0 for help, 2 for a mistake, and 4 where there was not
-    /// enough memory.
+    /// Returns the exit status of the program: 0 for help, 2 for a mistake, and 4 for want of
+    /// memory.
     pub fn status(&self) -> u8
         ensures { result ≡ status_of self.now }
     {
@@ -39,7 +39,7 @@ impl LineError {
     }
 }
 
-/// The number that an argument has, or none.
+/// Returns the number of an argument, or `None`.
 fn number_of(matches: &ArgMatches<'_>, id: &str) -> Option<u64>
     ensures { MatchOption result ((n : ℕ) → ¬ HasNumber id.now (rows_of (found_of matches.now)) n)
         (HasNumber id.now (rows_of (found_of matches.now))) }
@@ -47,7 +47,8 @@ fn number_of(matches: &ArgMatches<'_>, id: &str) -> Option<u64>
     matches.get_one::<u64>(id)
 }
 
-/// The number that an option has, or that it was not given; none where its value is no number.
+/// Returns the number of an option, or `Some(None)` if it has none, or `None` if its value is no
+/// number.
 fn option_of(matches: &ArgMatches<'_>, id: &str) -> Option<Option<u64>>
     ensures { MatchOption result ((n : Option ℕ) → ¬ HasOption id.now
         (rows_of (found_of matches.now)) n)
@@ -56,21 +57,21 @@ fn option_of(matches: &ArgMatches<'_>, id: &str) -> Option<Option<u64>>
     matches.try_get_one::<u64>(id).ok()
 }
 
-/// The word that an argument has, or none.
+/// Returns the word of an argument, or `None`.
 fn word_of<'a>(matches: &ArgMatches<'a>, id: &str) -> Option<&'a str>
     ensures { option_map (λ s. s.now) result ≡ first_of id.now (rows_of (found_of matches.now)) }
 {
     matches.get_str(id)
 }
 
-/// Whether a flag is set.
+/// Returns whether a flag is set.
 fn flag_of(matches: &ArgMatches<'_>, id: &str) -> bool
     ensures { HasFlag id.now (rows_of (found_of matches.now)) result }
 {
     matches.get_flag(id)
 }
 
-/// How many workers there are to be, from 1 to 16, or none.
+/// Returns the number of workers, 1 to 16, or `None`.
 fn workers_of(matches: &ArgMatches<'_>) -> Option<u64>
     ensures { MatchOption result ((n : ℕ) → ¬ HasWorkers (rows_of (found_of matches.now)) n)
         (HasWorkers (rows_of (found_of matches.now))) }
@@ -83,7 +84,7 @@ fn workers_of(matches: &ArgMatches<'_>) -> Option<u64>
     }
 }
 
-/// The workers that are asked for, or none where their number is missing.
+/// Returns the workers, or `None` if their number is missing.
 fn team_of(matches: &ArgMatches<'_>) -> Option<Team>
     ensures { MatchOption result ((team : Team) → ¬ HasTeam (rows_of (found_of matches.now)) team)
         (HasTeam (rows_of (found_of matches.now))) }
@@ -94,7 +95,7 @@ fn team_of(matches: &ArgMatches<'_>) -> Option<Team>
     })
 }
 
-/// The faults that are asked for, or none where a value is missing.
+/// Returns the plan of faults, or `None` if a value is missing.
 fn fault_plan_of(matches: &ArgMatches<'_>) -> Option<FaultPlan>
     ensures { MatchOption result ((plan : FaultPlan) → ¬ HasFaultPlan
         (rows_of (found_of matches.now)) plan)
@@ -106,7 +107,7 @@ fn fault_plan_of(matches: &ArgMatches<'_>) -> Option<FaultPlan>
     })
 }
 
-/// The play that is asked for.
+/// Returns the play that the words ask for.
 fn play_of<'a>(matches: &ArgMatches<'a>) -> Job<'a>
     ensures { Asks (codes "play") (rows_of (found_of matches.now)) result }
 {
@@ -115,7 +116,7 @@ fn play_of<'a>(matches: &ArgMatches<'a>) -> Job<'a>
     }
 }
 
-/// The search that is asked for, or none where a value is missing.
+/// Returns the search that the words ask for, or `None` if a value is missing.
 fn search_of<'a>(matches: &ArgMatches<'a>) -> Option<Job<'a>>
     ensures { MatchOption result ((asked : Job) → ¬ Asks (codes "search")
         (rows_of (found_of matches.now)) asked)
@@ -130,7 +131,7 @@ fn search_of<'a>(matches: &ArgMatches<'a>) -> Option<Job<'a>>
     })
 }
 
-/// The sweep that is asked for, or none where a value is missing.
+/// Returns the sweep that the words ask for, or `None` if a value is missing.
 fn sweep_of<'a>(matches: &ArgMatches<'a>) -> Option<Job<'a>>
     ensures { MatchOption result ((asked : Job) → ¬ Asks (codes "sweep")
         (rows_of (found_of matches.now)) asked)
@@ -150,7 +151,7 @@ fn sweep_of<'a>(matches: &ArgMatches<'a>) -> Option<Job<'a>>
     })
 }
 
-/// The script that is asked for, or none where a value is missing.
+/// Returns the script that the words ask for, or `None` if a value is missing.
 fn script_of<'a>(matches: &ArgMatches<'a>) -> Option<Job<'a>>
     ensures { MatchOption result ((asked : Job) → ¬ Asks (codes "script")
         (rows_of (found_of matches.now)) asked)
@@ -163,7 +164,7 @@ fn script_of<'a>(matches: &ArgMatches<'a>) -> Option<Job<'a>>
     })
 }
 
-/// The shrinking that is asked for, or none where a value is missing.
+/// Returns the shrinking that the words ask for, or `None` if a value is missing.
 fn shrink_of<'a>(matches: &ArgMatches<'a>) -> Option<Job<'a>>
     ensures { MatchOption result ((asked : Job) → ¬ Asks (codes "shrink")
         (rows_of (found_of matches.now)) asked)
@@ -175,7 +176,7 @@ fn shrink_of<'a>(matches: &ArgMatches<'a>) -> Option<Job<'a>>
     })
 }
 
-/// The log that is asked for, or none where a value is missing.
+/// Returns the log that the words ask for, or `None` if a value is missing.
 fn log_of<'a>(matches: &ArgMatches<'a>) -> Option<Job<'a>>
     ensures { MatchOption result ((asked : Job) → ¬ Asks (codes "log")
         (rows_of (found_of matches.now)) asked)
@@ -188,7 +189,7 @@ fn log_of<'a>(matches: &ArgMatches<'a>) -> Option<Job<'a>>
     })
 }
 
-/// The page that is asked for.
+/// Returns the page that the words ask for.
 fn page_of<'a>(matches: &ArgMatches<'a>) -> Job<'a>
     ensures { Asks (codes "page") (rows_of (found_of matches.now)) result }
 {
@@ -198,7 +199,7 @@ fn page_of<'a>(matches: &ArgMatches<'a>) -> Job<'a>
     }
 }
 
-/// The job of a subcommand, or none where a value is missing.
+/// Returns the job of a subcommand, or `None` if a value is missing.
 fn asked_by<'a>(name: &str, matches: &ArgMatches<'a>) -> Option<Job<'a>>
     ensures { MatchOption result ((asked : Job) → ¬ Asks name.now (rows_of (found_of matches.now))
         asked)
@@ -217,7 +218,7 @@ fn asked_by<'a>(name: &str, matches: &ArgMatches<'a>) -> Option<Job<'a>>
     }
 }
 
-/// The request of the matches, or none where a value is missing.
+/// Returns the request of the matches, or `None` if a value is missing.
 fn asked_in<'a>(matches: &ArgMatches<'a>) -> Option<Request<'a>>
     ensures { MatchOption result
         ((name : _) (rows : _) (asked : Job) → subcommand_rows_of matches.now ≡ Some (name, rows)
@@ -233,7 +234,7 @@ fn asked_in<'a>(matches: &ArgMatches<'a>) -> Option<Request<'a>>
     })
 }
 
-/// What a fault of clap's is here.
+/// Returns the error for a fault that clap found.
 fn line_fault(alloc: Global, error: &Error) -> LineError
     ensures help { IsHelp result → (kind_of error.now ≡ ErrorKind.DisplayHelp)
         ⊎ (kind_of error.now ≡ ErrorKind.DisplayVersion) }
@@ -256,7 +257,7 @@ fn line_fault(alloc: Global, error: &Error) -> LineError
     }
 }
 
-/// What is told where clap takes the words and yet a value is missing.
+/// Returns the error if clap accepts the words but a value is missing.
 fn missing_value(alloc: Global) -> LineError
     ensures { ¬ IsHelp result }
 {
@@ -266,7 +267,7 @@ fn missing_value(alloc: Global) -> LineError
     }
 }
 
-/// The request that the words of a command line make, the first of which names the program.
+/// Returns the request that the words of a command line make. The first word names the program.
 pub fn request<'a, S: AsStr>(alloc: Global, words: &'a [S]) -> Result<Request<'a>, LineError>
     ensures answer { MatchResult result (IsRequestOf (map S.text words.entry.now))
         (IsFault (map S.text words.entry.now)) }

@@ -1,6 +1,6 @@
-//! What a command line can ask for.
+//! The requests that a command line can make.
 
-/// How many workers share the work, 1 to 16, and whether they report their progress.
+/// The number of workers, 1 to 16, and whether they report their progress.
 #[derive(Clone, Copy, Debug, PartialEq, Eq)]
 pub struct Team {
     pub workers: u64,
@@ -10,29 +10,29 @@ pub struct Team {
 /// How faults are planned for a run.
 #[derive(Clone, Copy, Debug, PartialEq, Eq)]
 pub struct FaultPlan {
-    /// One event in so many is a fault or a healing; with none, no fault is planned.
+    /// One event in this many is a fault or a healing; with `None`, no fault is planned.
     pub faults: Option<u64>,
-    /// How many steps the quiet end has, 0 where the words give no number.
+    /// The number of steps of the quiet end, 0 if the words give none.
     pub quiet: u64,
 }
 
-/// What the program is to do, and with which input.
+/// What the program must do, and with which input.
 #[derive(Clone, Copy, Debug, PartialEq, Eq)]
 pub struct Request<'a> {
     pub job: Job<'a>,
-    /// The name of the file with the input, or none where that is standard input.
+    /// The name of the file with the input, or `None` for the standard input.
     pub file: Option<&'a str>,
 }
 
-/// What the program is to do.
+/// What the program must do.
 #[derive(Clone, Copy, Debug, PartialEq, Eq)]
 pub enum Job<'a> {
     /// Plays a script: with `strict` up to the first line at fault.
     Play {
         strict: bool,
     },
-    /// Plays a script, and looks for the first place from `lo` to `hi` where the condition fails.
-    /// With `strict` no line of the script may be at fault.
+    /// Plays a script, and searches for the first place from `lo` to `hi` where the condition
+    /// fails. With `strict` no line of the script may be at fault.
     Search {
         team: Team,
         strict: bool,
@@ -40,10 +40,10 @@ pub enum Job<'a> {
         hi: u64,
         cond: &'a str,
     },
-    /// Looks for the first of `count` seeds from `first` on whose run fails the condition: at a
-    /// place of its first `events` events and its quiet end, or with `at_end` at its last place.
-    /// With `script` each run begins with the events that the script leaves, of which with `strict`
-    /// no line may be at fault. With `json` the answer is a JSON object.
+    /// Searches for the first of `count` seeds, from `first` on, whose run fails the condition: at
+    /// a place of its first `events` events and its quiet end, or with `at_end` at its last place.
+    /// With `script` each run begins with the events that the script leaves, and with `strict` no
+    /// line of the script may be at fault. With `json` the answer is a JSON object.
     Sweep {
         team: Team,
         plan: FaultPlan,
@@ -62,8 +62,8 @@ pub enum Job<'a> {
         seed: u64,
         events: u64,
     },
-    /// Writes a line for each event of the run that a script leaves, from one event to another: the
-    /// first and the last where there is no number. With `json` each is a JSON object.
+    /// Writes a line for each event of the run that a script leaves, from one event to another;
+    /// without numbers, from the first to the last. With `json` each is a JSON object.
     Log {
         from: Option<u64>,
         to: Option<u64>,
@@ -75,7 +75,8 @@ pub enum Job<'a> {
         title: Option<&'a str>,
         watch: Option<&'a str>,
     },
-    /// Makes the run that a script leaves as small as the condition still fails in it.
+    /// Makes the run that a script leaves as small as possible, with the condition still failing in
+    /// it.
     Shrink {
         progress: bool,
         cond: &'a str,

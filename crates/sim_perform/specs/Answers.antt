@@ -1,4 +1,4 @@
--- What a search and a sweep answer, and the lines that tell it.
+-- The answers of a search and a sweep, and their lines.
 use Rattle.std.specs.Prelude.{ℕ, codes, List, [], ◌++◌, Option, Some, None, Result, Ok, Err, ◌≡◌}
 use Rattle.std.specs.Fmt.{decimal}
 use Rattle.serde_json.specs.Data.{Data, null, number, object, member, no_members, unsigned}
@@ -26,7 +26,7 @@ abbrev pub optional : Option ℕ → Data
 optional None = null
 optional (Some n) = number (unsigned n)
 
--- what a sweep found, with its numbers; the keys are in the order of their names
+-- the result of a sweep, with its numbers; the keys are in the order of their names
 abbrev pub swept_value : Swept → Option ℕ → Option ℕ → Data
 swept_value swept seed place = object
     (member (codes "count") (number (unsigned swept.count))
@@ -36,7 +36,7 @@ swept_value swept seed place = object
     (member (codes "seed") (optional seed)
     no_members)))))
 
--- JSON tells what a sweep found; all else is told in words
+-- the result of a sweep is in JSON; all else is in words
 abbrev pub swept_text : Swept → Answer → List ℕ
 swept_text swept (Seed i p) = compact_text (swept_value swept (Some i) (Some p))
 swept_text swept Nowhere = compact_text (swept_value swept None None)
@@ -46,12 +46,12 @@ abbrev pub answer_text : Form → Answer → List ℕ
 answer_text Words a = answer_words a
 answer_text (Json swept) a = swept_text swept a
 
--- A line of the script that is at fault is told elsewhere.
+-- A line of the script at fault is reported elsewhere.
 abbrev pub answer_line : Form → Answer → List ℕ
 answer_line form BadScript = []
 answer_line form a = answer_text form a ++ codes "\n"
 
--- the status after an answer: a wrong request is told apart
+-- the status after an answer: that of a wrong request differs
 abbrev pub status_of : Answer → Status
 status_of BadRange = BadRequest
 status_of BadCondition = BadRequest
@@ -68,7 +68,7 @@ abbrev pub at_seed : Option (ℕ × ℕ) → Answer
 at_seed (Some found) = Seed found.0 found.1
 at_seed None = Nowhere
 
--- what was found is told, or the fault; want of memory is no answer
+-- the answer is the result, or the fault; want of memory is no answer
 abbrev pub Tells : {A : Type 0} → (A → Answer) → Result A SearchFault → Answer → Type 0
 Tells tell (Ok found) a = a ≡ tell found
 Tells tell (Err fault.BadRange) a = a ≡ BadRange

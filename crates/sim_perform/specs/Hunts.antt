@@ -1,4 +1,5 @@
--- What a search and a sweep find, by the definitions of a first failing place and of their faults.
+-- The results of a search and a sweep, by the definitions of a first failing place and of their
+-- faults.
 use Rattle.std.specs.Prelude.{◌≡◌, ℕ, zero, suc, ◌≤◌, ◌==◌, ◌&&◌, Bool, not, is_none, List, [], ◌∷◌}
 use Rattle.std.specs.Prelude.{length, Option, None, Some, Result, Ok, Err, ⊤, if◌then◌else◌}
 use Rattle.std.specs.Str.Lines.{lines}
@@ -33,11 +34,11 @@ use Rattle.sim_perform.specs.declared.hunting.Area.TheVariants.{Places, Seeds, P
 use Rattle.sim_perform.specs.declared.hunting.PlannedRuns.{PlannedRuns}
 use Rattle.sim_perform.specs.Answers.{at_place, at_seed}
 
--- so many workers can share a hunt
+-- 1 to 16 workers can share a hunt
 abbrev pub IsTeam : ℕ → Type 0
 IsTeam workers = (1 ≤ workers) × (workers ≤ 16)
 
--- the fault is told, or what was found where there is none
+-- the answer of a fault, or the result if there is no fault
 abbrev pub answer_by : Option SearchFault → Answer → Answer
 answer_by None found = found
 answer_by (Some fault.BadRange) found = BadRange
@@ -60,11 +61,12 @@ planned_runs plan at_end script strict first count events = record {
   strict = strict;
 }
 
--- how the runs of a sweep are planned
+-- the plan of the runs of a sweep
 abbrev pub plan_of : PlannedRuns → Plan
 plan_of runs = plan_with runs.plan.faults runs.events runs.plan.quiet runs.at_end
 
--- A sweep is of steps alone where nothing else is asked. Without a script none is at fault.
+-- A sweep is of steps alone if the command line asks for nothing else. Without a script no line is
+-- at fault.
 abbrev pub is_plain : PlannedRuns → Bool
 is_plain runs =
     is_none runs.plan.faults && ((runs.plan.quiet == 0) && (not runs.at_end && not runs.script))
@@ -83,7 +85,7 @@ module _ {State Msg : Type 0} (r : Rules State Msg) where
       answer_by (sweep_fault first count events r.scenario.setup.hosts r.probes c)
       (at_seed (first_failing_seed r.node r.probes r.scenario c events first count))
 
-  -- of runs that are planned, each after the same given events
+  -- the answer of a sweep over planned runs, each after the same given events
   abbrev pub planned_answer : Cond → List Event → PlannedRuns → Answer
   planned_answer c given runs =
       answer_by (planned_sweep_fault runs.first runs.count (length given) (plan_of runs)
@@ -91,12 +93,12 @@ module _ {State Msg : Type 0} (r : Rules State Msg) where
       (at_seed (first_failing_planned_seed r.node r.probes r.scenario given (plan_of runs) c
       runs.first runs.count))
 
-  -- what was found, or that a line of the script is at fault, where that is asked
+  -- the result, or that a line of the script is at fault, if `strict`
   abbrev pub if_well : Bool → Names → Text → Answer → Answer
   if_well strict names script found =
       if strict && not (are_well r names beginning (lines script)) then BadScript else found
 
-  -- what is found in a range of places of the run that a script leaves, or in a range of seeds
+  -- the result in a range of places of the run that a script leaves, or in a range of seeds
   abbrev pub found_on : Names → Area → Text → Cond → Answer
   found_on names (Places lo hi strict) script c =
       if_well strict names script (search_answer c (first_events r names script) lo hi)
@@ -104,12 +106,12 @@ module _ {State Msg : Type 0} (r : Rules State Msg) where
   found_on names (Planned runs) script c = if_well (runs.script && runs.strict) names script
       (planned_answer c (given_events r runs.script names script) runs)
 
-  -- the same, where the words of the condition are none or this condition
+  -- the same, if the words are this condition, or none
   abbrev pub found_for : Names → Area → Text → Option Cond → Answer
   found_for names area script None = BadCondition
   found_for names area script (Some c) = found_on names area script c
 
-  -- what a hunt answers: the words of the condition are read first
+  -- the answer of a hunt: the words of the condition are read first
   abbrev pub hunt_answer : Names → Area → Text → Text → Answer
   hunt_answer names area cond script = found_for names area script (condition names (words cond))
 
@@ -119,7 +121,7 @@ Has k [] = ⊥
 Has zero (p ∷ ps) = ⊤
 Has (suc k) (p ∷ ps) = Has k ps
 
--- The nodes at a place are nodes with these laws: what is found over them is the same.
+-- The result over the nodes at a place is that over nodes with these laws and probes.
 abbrev pub Serves : {State Msg : Type 0} → (Scenario → Nodes) → NodeLaws State Msg → ℕ → Type 0
 Serves nodes node probes = (s : Scenario) (names : Names) (area : Area) (script : Text) (c : Cond)
     → found_on (nodes s).rules names area script c

@@ -1,4 +1,4 @@
--- What a job writes, and the status with which it ends.
+-- The output of a job, and its status.
 use Rattle.std.specs.Prelude.{◌≡◌, ℕ, Bool, true, false, List, [], ◌++◌, Option, Result, Ok, Err}
 use Rattle.std.specs.Prelude.{◌⊎◌}
 use Rattle.std.specs.Borrow.{Bor}
@@ -43,7 +43,7 @@ log_range from to json = record { from = from; to = to; json = json }
 abbrev pub page_request : Option (Bor Text) → Option (Bor Text) → PageRequest
 page_request title watch = record { title = title; watch = watch }
 
--- the status and the line with which a hunt ends where the reader, the writer and memory serve
+-- the status and the line of a hunt if the reader, the writer and memory do not fail
 pub record Outcome : Type 0 where
   pub status : Status
   pub line : Text
@@ -54,13 +54,13 @@ faulty why = record { status = BadScenario; line = fault_line why }
 abbrev pub answered : Form → Answer → Outcome
 answered form a = record { status = status_of a; line = answer_line form a }
 
--- a sweep is answered in words, or as JSON with its numbers
+-- the answer of a sweep is in words, or in JSON with its numbers
 abbrev pub form_of : Bool → ℕ → ℕ → ℕ → Form
 form_of false first count events = Words
 form_of true first count events =
     Json (record { first = first; count = count; events = events })
 
--- what was written of an outcome, by the status: its line, or nothing, or a beginning of the line
+-- the output for an outcome, by the status: its line, or nothing, or a beginning of the line
 abbrev pub EndsBy : Outcome → Status → Text → Type 0
 EndsBy o Well written = (o.status ≡ Well) × (written ≡ o.line)
 EndsBy o BadScenario written = (o.status ≡ BadScenario) × (written ≡ o.line)
@@ -69,8 +69,8 @@ EndsBy o ReaderFailed written = written ≡ []
 EndsBy o WriterFailed written = (more : Text) × (o.line ≡ written ++ more)
 EndsBy o MemoryWanted written = written ≡ []
 
--- a line was written and its status given, or the writer failed and has a part from the line's
--- front
+-- the line was written and the status is the outcome's, or the writer failed and has a front of the
+-- line
 abbrev pub WritesOutcome : Option Text → Option Text → Outcome → Status → Type 0
 WritesOutcome held holds o ended =
     ((ended ≡ o.status) × Appends held holds o.line)
@@ -82,7 +82,7 @@ WritesAnswer held holds form a ended =
     WritesOutcome held holds (answered form a) ended ⊎ ((ended ≡ MemoryWanted)
     × Appends held holds [])
 
--- A scenario names one of these protocols, and stands for the nodes of a run.
+-- A scenario names one of these protocols, and determines the nodes of a run.
 module _ (protocols : List Protocol) (nodes_of : ScenarioText → Nodes) where
   module _ (form : Form) (area : Area) (cond : Text) where
     -- the answer to a hunt, or the fault of the scenario
@@ -91,22 +91,22 @@ module _ (protocols : List Protocol) (nodes_of : ScenarioText → Nodes) where
     outcome_of (Ok s) script =
         answered form (hunt_answer (nodes_of s).rules (names_of nodes_of s) area cond script)
 
-    -- The outcome of a hunt for an input. The scenario is what stands before the first line `---`,
-    -- and the script follows it. A sweep does not depend on the script.
+    -- The outcome of a hunt for an input. The scenario is the text before the first line `---`, and
+    -- the script follows it. A sweep depends on the script only with `script`.
     abbrev pub outcome : Text → Outcome
     outcome input = outcome_of (read_scenario protocols (head_of input).0) (head_of input).1
 
-    -- what a hunt writes for what is given, by its status
+    -- the output of a hunt for an input, by its status
     abbrev pub Hunted : Text → Status → Text → Type 0
     Hunted given ended written = EndsBy (outcome given) ended written
 
-  -- what a play writes, which may be strict
+  -- the output of a play, strict or not
   abbrev pub PlayedBy : Bool → Text → Option Text → Status → Text → Type 0
   PlayedBy false given left ended written = Played protocols nodes_of given left ended written
   PlayedBy true given left ended written =
       PlayedStrictly protocols nodes_of given left ended written
 
-  -- what a job writes for what is given, and what is left of it, by its status
+  -- the output of a job for an input, and what is left of it, by its status
   abbrev pub Performed : Job → Text → Option Text → Status → Text → Type 0
   Performed (jobs.Play strict) given left ended written =
       PlayedBy strict given left ended written

@@ -1,4 +1,4 @@
-//! What a search or a sweep is answered, and the line that tells it.
+//! The answer of a search or a sweep, and its line.
 ghost use Rattle.std.specs.Prelude.{◌≡◌, ◌++◌, Some, Err, IfOk, OnErr, codes, string_bytes};
 ghost use Rattle.serde_json.specs.View.{view};
 ghost use Rattle.serde_json.specs.Written.{compact_text};
@@ -25,7 +25,7 @@ pub enum Answer {
     BadRange,
     /// The words are no condition, or the scenario has no such host or probe.
     BadCondition,
-    /// A line of the script is at fault. That is told on standard error, and no line is written.
+    /// A line of the script is at fault. It is reported on standard error, and no line is written.
     BadScript,
 }
 
@@ -45,7 +45,7 @@ impl fmt::Display for Answer {
 }
 
 impl Answer {
-    /// The status with which a hunt ends after its answer was written.
+    /// Returns the status with which a hunt ends after its answer was written.
     pub fn status(self) -> Status
         ensures { result ≡ status_of self }
     {
@@ -61,8 +61,8 @@ impl Answer {
 pub enum Form {
     /// In words.
     Words,
-    /// What a sweep found as a JSON object, which has the numbers of the sweep too. Why there is
-    /// no such answer is told in words.
+    /// The result of a sweep as a JSON object, with the numbers of the sweep. The reason why there
+    /// is no result is in words.
     Json(Swept),
 }
 
@@ -74,7 +74,7 @@ pub struct Swept {
     pub events: u64,
 }
 
-// A number, or null.
+// Returns a number, or null.
 fn optional(number: Option<u64>) -> Value
     ensures { view result ≡ optional number }
 {
@@ -84,7 +84,8 @@ fn optional(number: Option<u64>) -> Value
     }
 }
 
-// What a sweep found: the first seed and its first failing place, or none.
+// Returns the result of a sweep as a JSON value: the first seed and its first failing place, or
+// none. Fails only for want of memory.
 fn swept_value(
     alloc: Global,
     swept: Swept,
@@ -103,7 +104,7 @@ fn swept_value(
     })
 }
 
-// The same as a line.
+// Returns the same as a line.
 fn swept_line(
     alloc: Global,
     swept: Swept,
@@ -118,7 +119,7 @@ fn swept_line(
     Ok(line)
 }
 
-/// The line of an answer.
+/// Returns the line of an answer. Fails only for want of memory.
 pub fn line_of(alloc: Global, form: Form, answer: Answer) -> Result<String, NoMemory>
     ensures { IfOk result (λ s. string_bytes s ≡ answer_text form answer ++ codes "\n") }
 {
@@ -131,7 +132,7 @@ pub fn line_of(alloc: Global, form: Form, answer: Answer) -> Result<String, NoMe
     }
 }
 
-/// What a search answers. The only error is want of memory.
+/// Returns the answer of a search. Fails only for want of memory.
 pub fn of_search(found: Result<Option<u32>, SearchFault>) -> Result<Answer, NoMemory>
     ensures told { IfOk result (Tells at_place found) }
     ensures wants { OnErr result (found ≡ Err SearchFault.NoMemory) }
@@ -145,7 +146,7 @@ pub fn of_search(found: Result<Option<u32>, SearchFault>) -> Result<Answer, NoMe
     }
 }
 
-/// What a sweep answers. The only error is want of memory.
+/// Returns the answer of a sweep. Fails only for want of memory.
 pub fn of_sweep(found: Result<Option<(u64, u32)>, SearchFault>) -> Result<Answer, NoMemory>
     ensures told { IfOk result (Tells at_seed found) }
     ensures wants { OnErr result (found ≡ Err SearchFault.NoMemory) }

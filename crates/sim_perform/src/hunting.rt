@@ -1,4 +1,4 @@
-//! A condition is hunted for in the run that a script leaves, or in the runs of many seeds.
+//! Hunts for a condition in the run that a script leaves, or in the runs of many seeds.
 ghost use Rattle.std.specs.Prelude.{◌≡◌, ◌<◌, ℕ, List, IfOk, IfErr, Some, Ok, vec_len};
 ghost use Rattle.std.specs.Io.KnownBytes.{prepend_known};
 ghost use Rattle.sim_world.specs.Events.{rules};
@@ -24,7 +24,7 @@ use std::rt::Clock;
 use std::sync::Wait;
 use std::thread::Threads;
 
-/// What a command line asks for: a condition in words, where to look for it, and who looks.
+/// The request of a command line: a condition in words, where to look for it, and the workers.
 #[derive(Clone, Copy)]
 pub struct Hunt<'a> {
     pub area: Area,
@@ -49,10 +49,10 @@ pub enum Area {
 pub struct PlannedRuns {
     pub first: u64,
     pub count: u64,
-    /// How many events are planned before the quiet end.
+    /// The number of events planned before the quiet end.
     pub events: u64,
     pub plan: FaultPlan,
-    /// Whether the last place of each run is looked at alone.
+    /// Whether the condition is tested only at the last place of each run.
     pub at_end: bool,
     /// Whether each run begins with the events that the script leaves.
     pub script: bool,
@@ -60,8 +60,8 @@ pub struct PlannedRuns {
     pub strict: bool,
 }
 
-/// A hunt in a scenario that was read: the condition's words are read too, by the names of the
-/// scenario's hosts and probes.
+/// A hunt in a scenario that was read, with the condition, read by the names of the scenario's
+/// hosts and probes.
 #[derive(Drop)]
 pub struct Quest<'a> {
     pub opened: &'a Opened,
@@ -69,7 +69,7 @@ pub struct Quest<'a> {
     pub hunt: &'a Hunt<'a>,
 }
 
-/// A meter for each worker. The only error is want of memory.
+/// Returns a meter for each worker. Fails only for want of memory.
 pub fn meters(alloc: Global, workers: u64) -> Result<Vec<Tally>, NoMemory>
     ensures { IfOk result (λ v. vec_len v ≡ workers) }
 {
@@ -80,7 +80,7 @@ pub fn meters(alloc: Global, workers: u64) -> Result<Vec<Tally>, NoMemory>
     Ok(meters)
 }
 
-// How many pieces the places have, or 0 if the range is bad.
+// Returns the number of pieces of the places from `lo` to `hi`, or 0 if the range is bad.
 fn pieces_of<N: Node>(frozen: &Frozen<N>, lo: u64, hi: u64) -> u64 {
     if hi < lo || u64::from(frozen.events().len()) < hi {
         return 0;
@@ -88,7 +88,7 @@ fn pieces_of<N: Node>(frozen: &Frozen<N>, lo: u64, hi: u64) -> u64 {
     pieces(lo as u32, hi as u32, frozen.interval())
 }
 
-// Looks for the first place of a run at which the condition fails.
+// Searches for the first place of a run at which the condition fails.
 fn search_run<N: Node<Meter = Tally> + Send + Sync, H: Threads + Wait + Sync + Clock + Eprint>(
     rt: &H,
     alloc: Global,
@@ -113,7 +113,7 @@ where
     }
 }
 
-// Looks for the first seed under which the condition fails.
+// Searches for the first seed under which the condition fails.
 fn sweep_seeds<N: Node<Meter = Tally> + Send + Sync, H: Threads + Wait + Sync + Clock + Eprint>(
     rt: &H,
     alloc: Global,
@@ -145,7 +145,7 @@ where
     }
 }
 
-// The answer, or that memory was wanted.
+// Returns the answer; after want of memory fails with its status.
 fn told(answer: Result<Answer, NoMemory>) -> Result<Answer, Status>
     ensures ok { IfOk result (λ a. answer ≡ Ok a) }
     ensures stops { IfErr result Stops }
@@ -156,8 +156,8 @@ fn told(answer: Result<Answer, NoMemory>) -> Result<Answer, Status>
     }
 }
 
-// How a hunt ends whose script was not carried out to its end. A line at fault is told on standard
-// error.
+// Returns how a hunt ends if its script was not carried out to its end. Reports a line at fault on
+// standard error.
 fn at_stop<H: Eprint>(rt: &H, opened: &Opened, stop: ScriptStop) -> Result<Answer, Status>
     ensures { StopIs stop result }
 {
@@ -170,7 +170,8 @@ fn at_stop<H: Eprint>(rt: &H, opened: &Opened, stop: ScriptStop) -> Result<Answe
     }
 }
 
-/// Hunts over nodes of a type. The script's answers are not written, and a sweep reads no script.
+/// Hunts over nodes of one type. Writes no answers of the script; a sweep without `script` reads
+/// none.
 pub fn hunt_nodes<
     N: Node<Meter = Tally> + Send + Sync,
     H: Threads + Wait + Sync + Clock + Eprint,

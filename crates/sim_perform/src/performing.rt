@@ -1,4 +1,4 @@
-//! A job is carried out over any reader and any writer.
+//! Carries out a job over any reader and any writer.
 ghost use Rattle.std.specs.Prelude.{◌≡◌, ◌<◌, ◌≤◌, ℕ, Bool, false, List, Some, IfOk, IfErr, length};
 ghost use Rattle.std.specs.Io.KnownBytes.{prepend_known};
 ghost use Rattle.sim_job.specs.CommandLine.{HasFewWorkers};
@@ -27,7 +27,7 @@ use std::rt::Clock;
 use std::sync::Wait;
 use std::thread::Threads;
 
-// Hunts over the nodes of the protocol that the scenario names, one of the first four.
+// Hunts over the nodes of the scenario's protocol, one of the first four.
 fn hunt_first_four<L: Searchable, H: Threads + Wait + Sync + Clock + Eprint, R: Read>(
     rt: &H,
     alloc: Global,
@@ -57,7 +57,7 @@ fn hunt_first_four<L: Searchable, H: Threads + Wait + Sync + Clock + Eprint, R: 
     }
 }
 
-// Hunts over the nodes of the protocol that the scenario names, one of the next four.
+// Hunts over the nodes of the scenario's protocol, one of the next four.
 fn hunt_next_four<L: Searchable, H: Threads + Wait + Sync + Clock + Eprint, R: Read>(
     rt: &H,
     alloc: Global,
@@ -87,7 +87,7 @@ fn hunt_next_four<L: Searchable, H: Threads + Wait + Sync + Clock + Eprint, R: R
     }
 }
 
-// Hunts over the nodes of the protocol that the scenario names.
+// Hunts over the nodes of the scenario's protocol.
 fn hunt_protocol<L: Searchable, H: Threads + Wait + Sync + Clock + Eprint, R: Read>(
     rt: &H,
     alloc: Global,
@@ -112,7 +112,7 @@ fn hunt_protocol<L: Searchable, H: Threads + Wait + Sync + Clock + Eprint, R: Re
     }
 }
 
-// Hunts in the runs of a scenario that was read. The condition's words are read first.
+// Hunts in the runs of a scenario that was read. Reads the words of the condition first.
 fn hunt_runs<L: Searchable, H: Threads + Wait + Sync + Clock + Eprint, R: Read>(
     rt: &H,
     alloc: Global,
@@ -150,7 +150,7 @@ fn end_with<W: Write>(writer: &mut W, line: &[u8], status: Status) -> Status
     }
 }
 
-// Writes the line of an answer, or nothing where the script was told to be at fault.
+// Writes the line of an answer, or nothing if a line of the script is at fault.
 fn write_answer<W: Write>(alloc: Global, writer: &mut W, form: Form, answer: Answer) -> Status
     ensures { WritesAnswer (W.contents writer.old) (W.contents writer.new) form answer result }
 {
@@ -189,8 +189,8 @@ fn hunt_scenario<L: Searchable, H: Threads + Wait + Sync + Clock + Eprint, R: Re
     }
 }
 
-// Where a sweep looks: in runs of steps alone, or in planned runs if anything more is asked of
-// them.
+// Returns where a sweep looks: in runs of steps alone, or in planned runs if the command line asks
+// for anything more.
 fn area_of(runs: PlannedRuns) -> Area
     ensures { result ≡ area_of runs }
 {
@@ -206,7 +206,7 @@ fn area_of(runs: PlannedRuns) -> Area
     }
 }
 
-// How a sweep is answered.
+// Returns the form of a sweep's answer.
 fn form_of(json: bool, swept: Swept) -> Form
     ensures { result ≡ form_of json swept.first swept.count swept.events }
 {
@@ -214,15 +214,15 @@ fn form_of(json: bool, swept: Swept) -> Form
 }
 
 /// Carries out a job with 1 to 16 workers over a reader and a writer, for the protocols of a list.
-/// A play writes one line for each command of the script. A search or a sweep writes one line: what
-/// it found, or why it was refused. A sweep can tell what it found as JSON. A fault of the scenario
-/// is reported first, then words that are no condition, then a bad range, and last a host or probe
-/// of the condition that the scenario does not have. If the reader fails or memory is wanted, a
-/// search or a sweep writes nothing.
+/// A play writes one line for each command of the script. A search or a sweep writes one line: its
+/// result, or why it was refused. A sweep can write its result as JSON. A fault of the scenario is
+/// reported first, then words that are no condition, then a bad range, and last a host or probe of
+/// the condition that the scenario does not have. If the reader fails or memory is wanted, a search
+/// or a sweep writes nothing.
 ///
 /// A strict play ends with the answer to the first line of its script that is at fault: one that is
 /// no command, or whose command is refused or not taken. A strict search or sweep, and each
-/// shrinking, writes nothing then. The line is told on standard error, and the status is
+/// shrinking, writes nothing then. The line is reported on standard error, and the status is
 /// `BadRequest`. Progress, if asked for, is reported on standard error at most twice a second.
 pub fn perform<L: Searchable, H: Threads + Wait + Sync + Clock + Eprint, R: Read, W: Write>(
     rt: &H,
@@ -314,7 +314,7 @@ pub fn perform<L: Searchable, H: Threads + Wait + Sync + Clock + Eprint, R: Read
             let asked = PageRequest { title, watch };
             write_page::<L, H, R, W>(rt, alloc, asked, reader, writer)
         }
-        // A walk reads its commands from a reader of its own.
+        // A walk reads its commands from another reader, so it is no job for this call.
         Job::Walk => Status::BadRequest,
     }
 }

@@ -16,8 +16,8 @@ use std::rt::Clock;
 use std::sync::Wait;
 use std::thread::Threads;
 
-/// Looks for the first seed whose planned run fails the condition. Each run begins with the given
-/// events. The only error is want of memory.
+/// Searches for the first seed whose planned run fails the condition. Each run begins with the
+/// given events. Fails only for want of memory.
 pub fn sweep_runs<N: Node<Meter = Tally> + Send + Sync, H: Threads + Wait + Sync + Clock + Eprint>(
     rt: &H,
     alloc: Global,

@@ -14,7 +14,7 @@ use std::sync::Wait;
 use std::thread::Threads;
 use std::{env, io};
 
-// A file that is read, and why the last read that failed did.
+// An input file, and the error of the last read that failed.
 #[derive(Drop)]
 struct InputFile<F: Read + Drop> {
     file: F,
@@ -36,7 +36,7 @@ impl<F: Read + Drop> Read for InputFile<F> {
     }
 }
 
-// The words of the command line, the first of which names the program.
+// Returns the words of the command line; the first names the program.
 fn words<R: Env + AllocGlobal>(rt: &R) -> io::Result<Vec<String>> {
     let mut words = Vec::new(rt.alloc());
     for word in env::args(rt)? {
@@ -45,8 +45,8 @@ fn words<R: Env + AllocGlobal>(rt: &R) -> io::Result<Vec<String>> {
     Ok(words)
 }
 
-// Tells why there is no job: help on the standard output, a mistake on the standard error. Where
-// that takes nothing, there is nobody to tell.
+// Prints why there is no job: help on the standard output, a mistake on standard error. Ignores a
+// failure of either. Returns the exit status.
 fn tell<R: Print + Eprint>(rt: &R, fault: &LineError) -> u8 {
     let _told = match fault {
         LineError::Help(text) => print!(rt; "{text}"),
@@ -56,12 +56,12 @@ fn tell<R: Print + Eprint>(rt: &R, fault: &LineError) -> u8 {
     fault.status()
 }
 
-// Tells that a file cannot be read, and why.
+// Reports that a file cannot be read, and why.
 fn tell_unread<R: Eprint>(rt: &R, name: &str, fault: &io::Error) {
     let _told = eprintln!(rt; "error: cannot read {name:?}: {fault}");
 }
 
-// The file of this name. If it cannot be opened, that is told.
+// Opens the file of this name. If it cannot be opened, reports that.
 fn opened<R: Files + Eprint>(rt: &R, name: &str) -> Result<InputFile<R::File>, Status> {
     match File::open(rt, name) {
         Ok(file) => Ok(InputFile { file, fault: None }),
@@ -72,7 +72,7 @@ fn opened<R: Files + Eprint>(rt: &R, name: &str) -> Result<InputFile<R::File>, S
     }
 }
 
-// Tells why the file of this name could not be read to its end, if it could not.
+// Reports why the file of this name could not be read to its end, if it could not.
 fn tell_fault<R: Eprint, F: Read + Drop>(rt: &R, name: &str, input: &InputFile<F>, ended: Status) {
     if let Some(fault) = &input.fault {
         if ended == Status::ReaderFailed {
@@ -124,7 +124,7 @@ where
     ended
 }
 
-// Carries out what the words ask for, and answers the exit status.
+// Carries out the request of the words, and returns the exit status.
 fn run_words<
     L: Searchable,
     R: Threads + Wait + Sync + Clock + Files + Input + Print + Eprint + AllocGlobal,
@@ -150,10 +150,10 @@ where
     ended.number()
 }
 
-/// Carries out what the command line asks for, for the protocols of a list, which are at most
-/// eight, over the file that it names, or the standard input, and the standard output. If the file
-/// cannot be opened or read, its name and the reason are told on standard error. The result is the
-/// exit status, 0 to 4. It is all that a `main` does.
+/// Carries out the request of the command line, for a list of at most eight protocols, over the
+/// file that it names, or the standard input, and the standard output. If the file cannot be opened
+/// or read, reports its name and the reason on standard error. Returns the exit status, 0 to 4. It
+/// is all that a `main` does.
 pub fn run<
     L: Searchable,
     R: Threads + Wait + Sync + Clock + Env + Files + Input + Print + Eprint + AllocGlobal,

@@ -23,7 +23,7 @@ pub struct Progress<'a, H: Clock + Eprint> {
 }
 
 impl<'a, H: Clock + Eprint> Progress<'a, H> {
-    /// The work begins. If the clock cannot be read, nothing is reported.
+    /// Begins the work. If the clock cannot be read, nothing is reported.
     pub fn new(host: &'a H, pieces: u64) -> Self {
         Progress {
             host,
@@ -34,14 +34,14 @@ impl<'a, H: Clock + Eprint> Progress<'a, H> {
         }
     }
 
-    // How long the work has taken (ms), or none if the clock cannot be read.
+    // Returns how long the work has taken (ms), or `None` if the clock cannot be read.
     fn so_far(&self) -> Option<u64> {
         let start = self.start?;
         let passed = start.elapsed(self.host).ok()?;
         u64::try_from(passed.as_millis()).ok()
     }
 
-    // Claims the next line if it is due. Of several workers that find it due, one claims it.
+    // Claims the next line if it is due. If several workers find it due, one claims it.
     fn claims_line(&self, now: u64) -> bool {
         let last = self.told.load(SeqCst);
         last.saturating_add(PAUSE) <= now

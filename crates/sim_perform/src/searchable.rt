@@ -4,10 +4,10 @@ ghost use Rattle.sim_perform.specs.Hunts.{Has, Serves};
 
 use sim_cli::{Only, Subject, Subjects, With};
 
-/// A list of protocols over which conditions are searched for. It has at most eight, since a
-/// function that starts threads must be able to name the type of the nodes that they share: a list
-/// names the subject at each of its first eight places. Places past its end repeat the last
-/// subject, and nothing is searched there.
+/// A list of at most eight protocols over which conditions are searched for. A function that starts
+/// threads must name the type of the nodes that they share, so a list names the subject at each of
+/// its first eight places. Places past its end repeat the last subject, and nothing is searched
+/// there.
 pub trait Searchable: Subjects {
     type Subject0: Subject;
 

@@ -13,14 +13,15 @@ use Rattle.sim_log.specs.Lines.{AreLines}
 abbrev pub most_told : ℕ
 most_told = 20
 
--- how many events are told of a way: those that it passes, 20 at most; of a way back the next one
+-- the number of lines in the account of a way: one for each event that it passes, at most 20; for a
+-- way back, one for the next event
 abbrev pub told_count : ℕ → ℕ → ℕ
 told_count from to = if nat_lt to from then 1 else min most_told (to - from)
 
 module _ {State Msg : Type 0} (r : Rules State Msg) where
   -- The account of the way of a branch to a place: a line in words for each event that it passes,
-  -- 20 at most; of a way back the line of the next event. Where more events are kept than there
-  -- were, the way begins at the first new one.
+  -- at most 20; for a way back, the line of the next event. If more events are kept than before,
+  -- the way begins at the first new one.
   pub record IsAccount (kept : ℕ) (events : List Event) (to : ℕ) (told : Text) : Type 0 where
     pub from : ℕ
     pub added : kept < length events → from ≡ kept
@@ -31,12 +32,12 @@ module _ {State Msg : Type 0} (r : Rules State Msg) where
   AccountsFor kept events (Moved place clock why) told = IsAccount kept events place told
   AccountsFor kept events _ told = told ≡ []
 
-  -- the account of a turn, which is nothing where it was not taken
+  -- the account of a turn; it is empty if the turn was not taken
   abbrev pub Accounts : ℕ → List Event → Result Entry NotTaken → Text → Type 0
   Accounts kept events (Ok e) told = AccountsFor kept events e.reply told
   Accounts kept events (Err why) told = told ≡ []
 
--- a reply names a place among these events, if it names one
+-- the place that a reply names, if any, is within the run of these events
 abbrev pub IsWithinBy : Reply → List Event → Type 0
 IsWithinBy (Moved place clock why) events = place ≤ length events
 IsWithinBy _ events = Unit {0}

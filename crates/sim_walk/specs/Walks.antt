@@ -1,4 +1,4 @@
--- What an order does to the book of a walk, and what is written for it.
+-- What an order does to the book of a walk, and its output.
 use Rattle.std.specs.Prelude.{◌≡◌, ◌⊎◌, ◌++◌, ℕ, [], length, codes, Option, Result, Ok, Err, IfOk}
 use Rattle.std.specs.Prelude.{string_bytes}
 use Rattle.std.specs.Io.KnownBytes.{Appends}
@@ -27,18 +27,18 @@ no_memory = codes "there was not enough memory\n"
 abbrev pub account_text : Account → Text
 account_text a = string_bytes a.lead ++ a.told.items ++ string_bytes a.said
 
--- what is written for an answer
+-- the output for an answer
 abbrev pub text_of : Answer → Text
 text_of a = string_bytes a.reply ++ account_text a.account
 
--- what is written for an order, if there was memory for an answer or not
+-- the output for an order, with memory for an answer or without
 abbrev pub text_by : {E : Type 0} → Result Answer E → Text
 text_by (Ok a) = text_of a
 text_by (Err e) = no_memory
 
 module _ {State Msg : Type 0} (r : Rules State Msg) (names : Names) where
-  -- A command was taken by a turn of the book. The answer has the line that tells the turn, and its
-  -- account; without memory there is no answer.
+  -- A turn of the book carried out a command. The answer has the line of the turn, and its account;
+  -- without memory there is no answer.
   pub record TakesTurn {E : Type 0} (old : Course) (asked : Command) (answer : Result Answer E)
       (new : Course) : Type 0 where
     pub turn : Result Entry NotTaken
@@ -52,8 +52,8 @@ module _ {State Msg : Type 0} (r : Rules State Msg) (names : Names) where
   abbrev pub Stays : {E : Type 0} → Course → Result Answer E → Course → Type 0
   Stays old answer new = (new ≡ old) × IfOk answer (λ a. string_bytes a.reply ≡ [])
 
-  -- A line of a script is a turn of the book. What is sought is a place to which the branch goes by
-  -- a turn, or there is none. Nothing else changes the book.
+  -- A line of a script is a turn of the book. A place that is sought is found, and the branch goes
+  -- there by a turn, or there is none. Nothing else changes the book.
   abbrev pub Walks : {E : Type 0} → Course → ℕ → Order → Result Answer E → Course → Type 0
   Walks old b (Asked asked) answer new = TakesTurn old asked answer new
   Walks old b (Sought sought) answer new =

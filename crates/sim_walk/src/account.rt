@@ -14,21 +14,21 @@ use sim_script::Names;
 use std::alloc::Global;
 use std::fmt::Debug;
 
-/// At most this many events are told after a move.
+/// The most events whose lines follow a move.
 const MAX_TOLD: u32 = 20;
 
 /// A branch before a turn.
 #[derive(Clone, Copy, Debug, PartialEq, Eq)]
 pub(crate) struct Departure {
-    /// How many events it keeps.
+    /// The number of events that it keeps.
     pub(crate) kept: u32,
     /// Its place.
     pub(crate) place: u32,
 }
 
 impl Departure {
-    // The place from which its way is told, if `len` events are kept now: if events were added,
-    // they are the way.
+    // Returns the place where the account of its way begins, if `len` events are kept now: if
+    // events were added, they are the way.
     fn start(self, len: u32) -> u32
         ensures within { result ≤ len }
         ensures added { self.kept < len → result ≡ self.kept }
@@ -41,7 +41,8 @@ impl Departure {
     }
 }
 
-/// A branch before a turn; one that is not there keeps no event. The only error is want of memory.
+/// Returns a branch before a turn; one that does not exist keeps no events. Fails only for want of
+/// memory.
 pub(crate) fn departure_of<N: Node<Meter = Tally>>(
     alloc: Global,
     book: &Book<N>,
@@ -58,7 +59,7 @@ pub(crate) fn departure_of<N: Node<Meter = Tally>>(
     Ok(Departure { kept, place })
 }
 
-/// What is told of a turn: the lines of events, and words before and after them.
+/// The account of a turn: the lines of events, and words before and after them.
 #[derive(Drop)]
 pub(crate) struct Account {
     pub(crate) lead: String,
@@ -67,7 +68,7 @@ pub(crate) struct Account {
 }
 
 impl Account {
-    /// Words alone.
+    /// Returns an account of words alone.
     pub(crate) fn of_words(alloc: Global, said: String) -> Account
         ensures { result.told.items ≡ [] }
     {
@@ -79,7 +80,7 @@ impl Account {
     }
 }
 
-// How many events are told of a way.
+// Returns the number of lines in the account of a way.
 fn told_count(from: u32, to: u32) -> u32
     ensures value { result ≡ told_count from to }
     ensures within { min from to + result ≤ max from to }
@@ -91,7 +92,7 @@ fn told_count(from: u32, to: u32) -> u32
     }
 }
 
-// The lines of the events of a way.
+// Returns the lines of the events of a way.
 fn way_lines<N: Node<Meter = Tally> + Debug>(
     alloc: Global,
     run: &Run<'_, N>,
@@ -112,7 +113,7 @@ where
     run.lines(least + 1, least + count)
 }
 
-// Words before the lines of a way: of a way back how long it was.
+// Returns the words before the lines of a way: the length of a way back.
 fn lead_of(alloc: Global, from: u32, to: u32) -> Result<String, NoMemory> {
     if to < from {
         let count = from - to;
@@ -121,7 +122,7 @@ fn lead_of(alloc: Global, from: u32, to: u32) -> Result<String, NoMemory> {
     Ok(String::new(alloc))
 }
 
-// Words after the lines of a way: how many events they leave out.
+// Returns the words after the lines of a way: the number of events that they omit.
 fn rest_of(alloc: Global, from: u32, to: u32) -> Result<String, NoMemory> {
     let last = from.saturating_add(MAX_TOLD);
     if last < to {
@@ -131,7 +132,7 @@ fn rest_of(alloc: Global, from: u32, to: u32) -> Result<String, NoMemory> {
     Ok(String::new(alloc))
 }
 
-/// The account of the way of a branch to a place. The only error is want of memory.
+/// Returns the account of the way of a branch to a place. Fails only for want of memory.
 pub(crate) fn account_of<N: Node<Meter = Tally> + Debug>(
     alloc: Global,
     names: &Names,

@@ -1,4 +1,4 @@
-//! What is answered to an order, and what it does to the book.
+//! Answers an order, and carries it out on the book.
 ghost use Rattle.std.specs.Prelude.{◌≡◌, ◌≤◌, [], length, IfOk, string_bytes};
 ghost use Rattle.sim_world.specs.Events.{rules};
 ghost use Rattle.sim_book.specs.Book.{branch as branch_in, branch_of};
@@ -30,8 +30,8 @@ use std::fmt::Debug;
 /// The session of a walk.
 const SESSION: u8 = 0;
 
-/// What is written for an order: the line that replies to a turn of the book, if there was one, and
-/// what is told.
+/// The answer to an order: the line that replies to a turn of the book, if there was one, and an
+/// account.
 #[derive(Drop)]
 pub(crate) struct Answer {
     pub(crate) reply: String,
@@ -39,7 +39,7 @@ pub(crate) struct Answer {
 }
 
 impl Answer {
-    // Words alone.
+    // Returns an answer of words alone.
     fn of_words(alloc: Global, said: String) -> Answer
         ensures reply { string_bytes result.reply ≡ [] }
     {
@@ -49,14 +49,14 @@ impl Answer {
     }
 }
 
-/// What a walk has at hand.
+/// The parts of a walk that answers need.
 #[derive(Drop)]
 pub(crate) struct Desk<'a> {
     pub(crate) alloc: Global,
     pub(crate) opened: &'a Opened,
 }
 
-// The first of the events of a list.
+// Returns the first `place` events of a list.
 fn events_before(alloc: Global, list: &EventList, place: u32) -> Result<Vec<Event>, NoMemory> {
     let mut events = Vec::new(alloc);
     for i in 0..place {
@@ -67,7 +67,7 @@ fn events_before(alloc: Global, list: &EventList, place: u32) -> Result<Vec<Even
     Ok(events)
 }
 
-// The branch of which a command speaks.
+// Returns the branch of a command.
 fn branch_of(command: &Command) -> u32
     ensures { result ≡ branch_of command.now }
 {
@@ -82,7 +82,7 @@ fn branch_of(command: &Command) -> u32
     }
 }
 
-// Takes a command. Where it moved the branch, the place is one of the branch.
+// Carries out a command. If it moved the branch, the place is one of the branch.
 fn turn_on<N: Node>(alloc: Global, book: &mut Book<N>, command: Command) -> Result<Entry, NotTaken>
     ensures takes { Takes (rules N.laws N.PROBES book.old.scenario) (course_of book.old)
         command result (course_of book.new) }
@@ -94,7 +94,7 @@ fn turn_on<N: Node>(alloc: Global, book: &mut Book<N>, command: Command) -> Resu
 }
 
 impl Desk<'_> {
-    // The names that are known, with so many probes.
+    // Returns the names of the scenario, with this number of probes.
     fn known(&self, probes: u8) -> Known<'_> {
         Known {
             alloc: self.alloc,
@@ -104,7 +104,7 @@ impl Desk<'_> {
         }
     }
 
-    // The account of a turn on a branch.
+    // Returns the account of a turn on a branch.
     fn account<N: Node<Meter = Tally> + Debug>(
         &self,
         book: &Book<N>,
@@ -133,7 +133,7 @@ impl Desk<'_> {
         Ok(Account::of_words(self.alloc, said))
     }
 
-    // The answer where a place was not found.
+    // Returns the answer if no place was found.
     fn answer_nowhere(&self, probes: u8, error: SeekError) -> Result<Answer, NoMemory>
         ensures { IfOk result (λ a. string_bytes a.reply ≡ []) }
     {
@@ -146,7 +146,7 @@ impl Desk<'_> {
         Ok(Answer::of_words(self.alloc, said))
     }
 
-    // The line that tells a turn.
+    // Returns the line that replies to a turn.
     fn reply_to(&self, turn: &Result<Entry, NotTaken>) -> Result<String, NoMemory>
         ensures { IfOk result (λ reply. string_bytes reply
             ≡ turn_line self.now.opened.now.names turn.now) }
@@ -156,7 +156,7 @@ impl Desk<'_> {
         Ok(reply)
     }
 
-    // Takes a command.
+    // Carries out a command.
     fn take<N: Node<Meter = Tally> + Debug>(
         &self,
         book: &mut Book<N>,
@@ -176,7 +176,7 @@ impl Desk<'_> {
         Ok(Answer { reply, account })
     }
 
-    // Why what is sought can't be asked for, or nothing.
+    // Returns why a place cannot be sought, or `None` if it can.
     fn refusal(&self, probes: u8, sought: &Sought) -> Option<Refusal> {
         let hosts = self.opened.scenario.hosts();
         match sought {
@@ -190,7 +190,7 @@ impl Desk<'_> {
         }
     }
 
-    // The place that is looked for, and where the branch is.
+    // Returns the place that `sought` describes, from that of the branch.
     fn find<N: Node<Meter = Tally> + Debug>(
         &self,
         book: &Book<N>,
@@ -210,7 +210,7 @@ impl Desk<'_> {
         seek(self.alloc, &run, here, sought)
     }
 
-    // Tells which terms of the condition of what was sought fail at the place.
+    // Appends which terms of the condition that was sought fail at the place.
     fn tell_found<N: Node>(
         &self,
         book: &Book<N>,
@@ -224,7 +224,7 @@ impl Desk<'_> {
         Ok(())
     }
 
-    // Goes to a place of a branch that was looked for.
+    // Goes to a place of a branch that was sought and found.
     fn go_to<N: Node<Meter = Tally> + Debug>(
         &self,
         book: &mut Book<N>,
@@ -244,7 +244,7 @@ impl Desk<'_> {
         Ok(answer)
     }
 
-    // Looks for a place, and goes there.
+    // Finds a place, and goes there.
     fn look_for<N: Node<Meter = Tally> + Debug>(
         &self,
         book: &mut Book<N>,
@@ -264,7 +264,7 @@ impl Desk<'_> {
         }
     }
 
-    // Tells the input that leads to a place of a run.
+    // Appends the input that leads to a place of a run.
     fn tell_script<N: Node<Meter = Tally> + Debug>(
         &self,
         run: &Run<'_, N>,
@@ -285,7 +285,7 @@ impl Desk<'_> {
         }
     }
 
-    // Tells what is there at the place of a branch.
+    // Appends what is present at the place of a branch.
     fn tell_sight<N: Node<Meter = Tally> + Debug>(
         &self,
         sight: &Sight<'_, N>,
@@ -307,7 +307,7 @@ impl Desk<'_> {
         }
     }
 
-    // Tells what is shown of a branch.
+    // Appends what `shown` asks for about a branch.
     fn tell_branch<N: Node<Meter = Tally> + Debug>(
         &self,
         book: &Book<N>,
@@ -341,7 +341,7 @@ impl Desk<'_> {
         }
     }
 
-    // Shows something of a branch.
+    // Returns the answer to a request to show something of a branch.
     fn show<N: Node<Meter = Tally> + Debug>(
         &self,
         book: &Book<N>,
@@ -360,7 +360,7 @@ impl Desk<'_> {
         Ok(Answer::of_words(self.alloc, said))
     }
 
-    // Says where a branch is.
+    // Returns the answer that names the place of a branch.
     fn say_branch<N: Node<Meter = Tally>>(
         &self,
         book: &Book<N>,
@@ -380,7 +380,7 @@ impl Desk<'_> {
         Ok(Answer::of_words(self.alloc, said))
     }
 
-    /// Carries out an order on a book. The only error is want of memory.
+    /// Carries out an order on a book. Fails only for want of memory.
     pub(crate) fn answer<N: Node<Meter = Tally> + Debug>(
         &self,
         book: &mut Book<N>,

@@ -1,4 +1,4 @@
-//! What a line of a walk asks for.
+//! The requests that a line of a walk can make.
 use crate::topic::{Kind, Topic, topic_of};
 use sim_book::Command;
 use sim_script::{Ask, Expected, LineMistake, Names, ScriptLine, line_of, mistake_of};
@@ -6,10 +6,10 @@ use sim_watch::SharedCond;
 use sim_world::Fault;
 use std::alloc::{AllocError, Global};
 
-/// A place of a branch that is looked for among its kept events.
+/// A place to find among the kept events of a branch.
 #[derive(Drop)]
 pub(crate) enum Sought {
-    /// The first place at which the clock is this or later (ms).
+    /// The first place at which the clock is at this time or later (ms).
     At(u32),
     /// The place before the event that queued what happens next.
     Cause,
@@ -21,7 +21,7 @@ pub(crate) enum Sought {
     Held(SharedCond),
 }
 
-/// What is told of a branch at its place.
+/// What to show of a branch at its place.
 #[derive(Drop)]
 pub(crate) enum Shown {
     Pending,
@@ -37,7 +37,7 @@ pub(crate) enum Shown {
     Help(Option<&'static Topic>),
 }
 
-/// What a line asks for.
+/// The request of a line.
 #[derive(Drop)]
 pub(crate) enum Order {
     /// A comment, or a line of spaces.
@@ -46,24 +46,24 @@ pub(crate) enum Order {
     Asked(Command),
     Sought(Sought),
     Shown(Shown),
-    /// A branch for the lines that name none.
+    /// Makes this the branch of the lines that name none.
     Branch,
     Quit,
 }
 
-/// What a line asks for, and of which branch.
+/// The request of a line, and its branch.
 #[derive(Drop)]
 pub(crate) struct Request {
     pub(crate) branch: u32,
     pub(crate) order: Order,
 }
 
-/// Why a line asks for nothing.
+/// Why a line makes no request.
 #[derive(Clone, Copy, Debug, PartialEq, Eq)]
 pub(crate) enum OrderError {
-    /// This word is not what should stand there.
+    /// This word is not what is expected there.
     Mistake(LineMistake),
-    /// The line is no UTF-8.
+    /// The line is not UTF-8.
     NotText,
     NoMemory,
 }
@@ -76,7 +76,7 @@ impl From<AllocError> for OrderError {
     }
 }
 
-/// The first word of a text, or nothing, and what follows it.
+/// Returns the first word of a text, or an empty one, and the rest of the text.
 pub(crate) fn first_word(text: &str) -> (&str, &str) {
     let text = text.trim_matches(' ');
     match text.split_once(' ') {
@@ -92,18 +92,18 @@ struct Reading<'a> {
     names: &'a Names,
     // The branch of the line.
     branch: u32,
-    // How many words lie before the command.
+    // The number of words before the command.
     taken: u32,
 }
 
 impl Reading<'_> {
-    // That something else should stand at a word, counted from the command's own.
+    // Returns the mistake at a word, counted from the command's own.
     fn mistake(&self, word: u32, expected: Expected) -> OrderError {
         let word = word.saturating_add(self.taken);
         OrderError::Mistake(LineMistake { word, expected })
     }
 
-    // What a line of a script asks that begins with these words.
+    // Returns what a line of a script asks for that begins with these words.
     fn line(&self, begin: &str, rest: &str) -> Result<Ask, OrderError> {
         let line = format!(in self.alloc; "{begin} {rest}")?;
         match line_of(self.names, line.as_bytes()) {
@@ -117,13 +117,13 @@ impl Reading<'_> {
         }
     }
 
-    // The command of such a line.
+    // Returns the command of such a line.
     fn command(&self, begin: &str, rest: &str) -> Result<Command, OrderError> {
         let ask = self.line(begin, rest)?;
         Ok(ask.into_command(self.alloc)?)
     }
 
-    // A line of a script, on the branch of the line.
+    // Reads a line of a script, on the branch of the line.
     fn on_branch(&self, name: &str, rest: &str) -> Result<Order, OrderError> {
         let command = self.command(name, rest)?;
         if self.branch == 0 {
@@ -134,13 +134,13 @@ impl Reading<'_> {
         Ok(Order::Asked(self.command(begin.as_str(), rest)?))
     }
 
-    // No more words.
+    // Fails if any words are left.
     fn alone(&self, rest: &str) -> Result<(), OrderError> {
         let _step = self.line("step", rest)?;
         Ok(())
     }
 
-    // A number, and no more words.
+    // Reads a number, and no more words.
     fn number(&self, rest: &str) -> Result<u32, OrderError> {
         match self.command("goto", rest)? {
             Command::Goto(_, number) => Ok(number),
@@ -148,7 +148,7 @@ impl Reading<'_> {
         }
     }
 
-    // A host, and no more words.
+    // Reads a host, and no more words.
     fn host(&self, rest: &str) -> Result<u16, OrderError> {
         match self.command("crash", rest)? {
             Command::Fault(_, Fault::Crash(host)) => Ok(host),
@@ -156,7 +156,7 @@ impl Reading<'_> {
         }
     }
 
-    // A condition, and no more words.
+    // Reads a condition, and no more words.
     fn condition(&self, rest: &str) -> Result<SharedCond, OrderError> {
         match self.command("watch", rest)? {
             Command::Watch(_, cond) => Ok(cond),
@@ -164,7 +164,7 @@ impl Reading<'_> {
         }
     }
 
-    // A number, or nothing.
+    // Reads a number, if there is one.
     fn maybe_number(&self, rest: &str) -> Result<Option<u32>, OrderError> {
         if rest.is_empty() {
             return Ok(None);
@@ -172,7 +172,7 @@ impl Reading<'_> {
         Ok(Some(self.number(rest)?))
     }
 
-    // The events of a log.
+    // Reads the range of a log.
     fn log(&self, rest: &str) -> Result<Order, OrderError> {
         let (first, rest) = first_word(rest);
         let from = self.maybe_number(first)?;
@@ -186,7 +186,7 @@ impl Reading<'_> {
         Ok(Order::Shown(Shown::Log(from, to)))
     }
 
-    // The command that is told.
+    // Reads the command to explain, if there is one.
     fn help(&self, rest: &str) -> Result<Order, OrderError> {
         if rest.is_empty() {
             return Ok(Order::Shown(Shown::Help(None)));
@@ -198,7 +198,7 @@ impl Reading<'_> {
         }
     }
 
-    // A place that is looked for.
+    // Reads the place to find.
     fn sought(&self, kind: Kind, rest: &str) -> Result<Order, OrderError> {
         let sought = match kind {
             Kind::At => Sought::At(self.number(rest)?),
@@ -213,7 +213,7 @@ impl Reading<'_> {
         Ok(Order::Sought(sought))
     }
 
-    // What is told without a number or a host.
+    // Reads a command without words: one that shows something, or the end of the walk.
     fn told_alone(&self, kind: Kind, rest: &str) -> Result<Order, OrderError> {
         self.alone(rest)?;
         Ok(match kind {
@@ -224,7 +224,7 @@ impl Reading<'_> {
         })
     }
 
-    // What a command asks for, by its words.
+    // Returns the order of a command, by its words.
     fn order(&self, topic: &Topic, rest: &str) -> Result<Order, OrderError> {
         match topic.kind {
             Kind::Line => self.on_branch(topic.name, rest),
@@ -244,7 +244,7 @@ impl Reading<'_> {
         }
     }
 
-    // What a line asks for without its branch, and whether it names one.
+    // Returns the request of a line without its branch, and whether the line names one.
     fn request(&self, text: &str) -> Result<Request, OrderError> {
         let (word, rest) = first_word(text);
         let branch = self.branch;
@@ -263,7 +263,7 @@ impl Reading<'_> {
     }
 }
 
-/// What a line asks for, where it is of this branch if it names none.
+/// Returns the request of a line. If the line names no branch, it is for `branch`.
 pub(crate) fn order_of(
     alloc: Global,
     names: &Names,

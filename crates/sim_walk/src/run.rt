@@ -1,4 +1,4 @@
-//! The kept events of a branch, told one after the other.
+//! The kept events of a branch, described one after the other.
 ghost use Rattle.std.specs.Prelude.{◌≡◌, ◌+◌, ◌-◌, false, length, IfOk, IsTrue, OnOk};
 ghost use Rattle.std.specs.Option.{option_map};
 ghost use Rattle.sim_world.specs.Events.{rules};
@@ -16,7 +16,7 @@ use sim_world::{Event, World};
 use std::alloc::Global;
 use std::fmt::Debug;
 
-/// The kept events of a branch, with where in them each occurrence was queued and happened.
+/// The kept events of a branch, and the places where each occurrence was queued and happened.
 #[derive(Drop)]
 pub(crate) struct Run<'a, N: Node> {
     alloc: Global,
@@ -25,8 +25,8 @@ pub(crate) struct Run<'a, N: Node> {
     pub(crate) places: Places,
 }
 
-/// All kept events of a branch, or none if there is no such branch. The only error is want of
-/// memory.
+/// Returns all kept events of a branch, or `None` if there is no such branch. Fails only for want
+/// of memory.
 pub(crate) fn frozen_of<N: Node>(
     alloc: Global,
     book: &Book<N>,
@@ -40,9 +40,9 @@ pub(crate) fn frozen_of<N: Node>(
     }
 }
 
-/// The place and the clock (ms) of a branch, or none if there is no such branch. A branch without
-/// its world in hand is one that was just made, and so at its end; or memory was wanted to move it,
-/// and its place is known again once it has moved. The only error is want of memory.
+/// Returns the place and the clock (ms) of a branch, or `None` if there is no such branch. A cold
+/// branch was just made, and so is at its end; or memory was wanted to move it, and its place is
+/// known again once it has moved. Fails only for want of memory.
 pub(crate) fn whereabouts<N: Node<Meter = Tally>>(
     alloc: Global,
     book: &Book<N>,
@@ -59,7 +59,7 @@ pub(crate) fn whereabouts<N: Node<Meter = Tally>>(
     Ok(Some((end, tape.clock())))
 }
 
-/// The place of a branch, or none if there is no such branch, or no memory to find it.
+/// Returns the place of a branch, or `None` if there is no such branch or not enough memory.
 pub(crate) fn place_of<N: Node<Meter = Tally>>(
     alloc: Global,
     book: &Book<N>,
@@ -71,7 +71,7 @@ pub(crate) fn place_of<N: Node<Meter = Tally>>(
     }
 }
 
-/// Walks a tape past its next event, if there is one. The tape is warm then.
+/// Walks a tape past its next event, if there is one, and leaves it warm.
 pub(crate) fn pass<N: Node>(
     alloc: Global,
     tape: &mut Tape<N>,
@@ -86,7 +86,7 @@ pub(crate) fn pass<N: Node>(
     }
 }
 
-/// What is asked of a world at a place, to tell an event that leads there or away.
+/// The serials of a world at a place, to describe an event that leads there or away.
 #[derive(Clone, Copy, Debug, PartialEq, Eq)]
 pub(crate) struct Serials {
     /// The serial of the first pending occurrence.
@@ -108,8 +108,8 @@ impl<'a, N: Node<Meter = Tally> + Debug> Run<'a, N>
 where
     N::Msg: Debug,
 {
-    /// The kept events of a branch, or none if there is no such branch. The only error is want of
-    /// memory.
+    /// Returns the kept events of a branch, or `None` if there is no such branch. Fails only for
+    /// want of memory.
     pub(crate) fn of(
         alloc: Global,
         names: &'a Names,
@@ -131,14 +131,15 @@ where
         }))
     }
 
-    /// How many events are kept.
+    /// Returns the number of kept events.
     pub(crate) fn len(&self) -> u32
         ensures { result ≡ length self.now.frozen.events }
     {
         self.frozen.events().len()
     }
 
-    /// The event that leads to a place, or none if there is no such place or it is the start.
+    /// Returns the event that leads to a place, or `None` if there is no such place or it is the
+    /// start.
     pub(crate) fn event(&self, place: u32) -> Option<Event> {
         if place == 0 {
             return None;
@@ -146,15 +147,15 @@ where
         self.frozen.events().get(place - 1)
     }
 
-    /// The serials at a place, or at the end if there is no such place. The only error is want of
-    /// memory.
+    /// Returns the serials at a place, or at the end if there is no such place. Fails only for want
+    /// of memory.
     pub(crate) fn serials(&self, place: u32) -> Result<Serials, NoMemory> {
         let place = place.min(self.len());
         let tape = self.frozen.tape(self.alloc, place, &mut Tally::new())?;
         Ok(serials_of(tape.here()))
     }
 
-    /// The lines of the events from one to another. The only error is want of memory.
+    /// Returns the lines of the events from `first` to `last`. Fails only for want of memory.
     pub(crate) fn lines(&self, first: u32, last: u32) -> Result<Vec<u8>, NoMemory>
         requires { IsRange first last (length self.now.frozen.events) }
         ensures { IfOk result (λ log. AreLines
@@ -169,8 +170,8 @@ where
         teller.lines(&self.frozen, false, first, last, &mut Tally::new())
     }
 
-    /// Tells the events from one to another, those that there are. The only error is want of
-    /// memory.
+    /// Appends the lines of the events from `from` to `to`, as far as they exist. Fails only for
+    /// want of memory.
     pub(crate) fn tell(&self, from: u32, to: u32, said: &mut String) -> Result<(), NoMemory> {
         let (first, last) = (from.max(1), to.min(self.len()));
         if last < first {
@@ -180,7 +181,7 @@ where
         said.push_str(str::from_utf8(lines.as_slice()).unwrap_or(""))
     }
 
-    // Tells the events at which what has one of these serials happens.
+    // Appends the events in which the occurrences with these serials happen.
     fn tell_steps(&self, from: u64, to: u64, said: &mut String) -> Result<(), NoMemory> {
         for serial in from..to {
             if let Some(place) = self.places.step_of(serial) {
@@ -191,7 +192,7 @@ where
         Ok(())
     }
 
-    // Tells which event queued what happens at a step, from this place on.
+    // Appends the event that queued what happens at the next step.
     fn tell_cause(&self, before: Serials, said: &mut String) -> Result<(), NoMemory> {
         let Some(serial) = before.first else {
             return Ok(());
@@ -205,8 +206,8 @@ where
         }
     }
 
-    /// Tells the event that leads to a place, what caused it and what it led to. The only error is
-    /// want of memory.
+    /// Appends the event that leads to a place, its cause and its consequences. Fails only for want
+    /// of memory.
     pub(crate) fn tell_event(&self, place: u32, said: &mut String) -> Result<(), NoMemory> {
         let Some(event) = self.event(place) else {
             let len = self.len();

@@ -1,4 +1,4 @@
-//! Sentences: why a command was refused, and why a line is none.
+//! Sentences: why a command was refused, and why a line is no command.
 use crate::order::{OrderError, first_word};
 use crate::topic::tell_names;
 use sim_book::{NotTaken, Refusal};
@@ -6,7 +6,7 @@ use sim_node::NoMemory;
 use sim_script::{Expected, LineMistake, Names};
 use std::alloc::Global;
 
-/// The names that a walk knows, and how many of them there are.
+/// The names that a walk knows, and their numbers.
 #[derive(Drop)]
 pub(crate) struct Known<'a> {
     pub(crate) alloc: Global,
@@ -15,7 +15,7 @@ pub(crate) struct Known<'a> {
     pub(crate) probes: u8,
 }
 
-// Why a command was refused, in a sentence.
+// Returns in a sentence why a command was refused.
 fn refusal_sentence(why: Refusal) -> &'static str {
     match why {
         Refusal::UnknownBranch => "there is no such branch; `branch P` makes one",
@@ -37,7 +37,7 @@ fn refusal_sentence(why: Refusal) -> &'static str {
     }
 }
 
-// Why a command was not taken, in a sentence.
+// Returns in a sentence why a command was not taken.
 fn not_taken_sentence(why: NotTaken) -> &'static str {
     match why {
         NotTaken::HistoryFull => "65536 commands were taken, and no more can be",
@@ -46,7 +46,7 @@ fn not_taken_sentence(why: NotTaken) -> &'static str {
 }
 
 impl Known<'_> {
-    /// Tells the names of the hosts.
+    /// Appends the names of the hosts.
     pub(crate) fn tell_hosts(&self, said: &mut String) -> Result<(), NoMemory> {
         said.push_str("hosts:")?;
         for host in 0..self.hosts {
@@ -56,7 +56,7 @@ impl Known<'_> {
         said.push('\n')
     }
 
-    /// Tells the names of the probes.
+    /// Appends the names of the probes.
     pub(crate) fn tell_probes(&self, said: &mut String) -> Result<(), NoMemory> {
         said.push_str("probes:")?;
         for probe in 0..self.probes {
@@ -66,7 +66,7 @@ impl Known<'_> {
         said.push('\n')
     }
 
-    /// Tells why a command was refused.
+    /// Appends why a command was refused.
     pub(crate) fn tell_refusal(&self, why: Refusal, said: &mut String) -> Result<(), NoMemory> {
         let sentence = refusal_sentence(why);
         writeln!(said, "{sentence}")?;
@@ -77,7 +77,7 @@ impl Known<'_> {
         }
     }
 
-    // Tells the names that may stand where a mistake is.
+    // Appends the names that are possible in place of a mistake.
     fn tell_expected(
         &self,
         word: &str,
@@ -96,7 +96,7 @@ impl Known<'_> {
         }
     }
 
-    // Tells which word of a line should be another.
+    // Appends which word of a line is wrong.
     fn tell_mistake(
         &self,
         line: &str,
@@ -113,7 +113,7 @@ impl Known<'_> {
         self.tell_expected(word, expected, said)
     }
 
-    /// Tells why a line asks for nothing. The only error is want of memory.
+    /// Appends why a line makes no request. Fails only for want of memory.
     pub(crate) fn tell_error(
         &self,
         line: &[u8],
@@ -130,13 +130,13 @@ impl Known<'_> {
     }
 }
 
-/// Tells why a command was not taken.
+/// Appends why a command was not taken.
 pub(crate) fn tell_not_taken(why: NotTaken, said: &mut String) -> Result<(), NoMemory> {
     let sentence = not_taken_sentence(why);
     writeln!(said, "{sentence}")
 }
 
-// The word of a line with this number, from 1, or nothing past the last.
+// Returns the word of a line with this number, from 1, or an empty text past the last.
 fn word_of(line: &str, number: u32) -> &str {
     let (mut word, mut rest) = first_word(line);
     for _ in 1..number {

@@ -1,4 +1,4 @@
-//! Places that are looked for among the kept events of a branch.
+//! Finds places among the kept events of a branch.
 use crate::order::Sought;
 use crate::run::{Run, pass};
 use crate::terms::{fails_of, holds_of};
@@ -14,9 +14,9 @@ use std::fmt::Debug;
 /// Why there is no such place.
 #[derive(Clone, Copy, Debug, PartialEq, Eq)]
 pub(crate) enum SeekError {
-    /// None is so, and this says why.
+    /// No place passes the test, for this reason.
     Nowhere(&'static str),
-    /// It can't be asked for.
+    /// The request is refused.
     Refused(Refusal),
     NoMemory,
 }
@@ -29,10 +29,10 @@ impl From<AllocError> for SeekError {
     }
 }
 
-// What is asked of each place.
+// The test of a place.
 #[derive(Clone, Copy)]
 enum Test<'a> {
-    /// The clock is this or later (ms).
+    /// The clock is at this time or later (ms).
     Time(u64),
     Fails(&'a Cond),
     Holds(&'a Cond),
@@ -40,14 +40,14 @@ enum Test<'a> {
     Acts(u16),
 }
 
-// The first and the last place at which something is so.
+// The first and the last place that pass a test.
 #[derive(Clone, Copy)]
 struct Span {
     first: Option<u32>,
     last: Option<u32>,
 }
 
-// Whether an event is one of a host: what happens to it, or its crash or bounce.
+// Returns whether an event is one of a host: a step that happens to it, or its crash or bounce.
 fn is_of_host<N: Node>(world: &World<N>, event: Event, host: u16) -> bool {
     match event {
         Event::Step => match world.first() {
@@ -60,7 +60,7 @@ fn is_of_host<N: Node>(world: &World<N>, event: Event, host: u16) -> bool {
 }
 
 impl Test<'_> {
-    // Whether it is so in a world, of which this is the next event.
+    // Returns whether a world passes the test; `next` is its next event.
     fn is_so<N: Node>(self, world: &World<N>, next: Option<Event>) -> bool {
         match self {
             Test::Time(time) => time <= world.clock(),
@@ -74,7 +74,7 @@ impl Test<'_> {
     }
 }
 
-// The first and the last place before `end` at which something is so. The only error is want of
+// Returns the first and the last place before `end` that pass a test. Fails only for want of
 // memory.
 fn span_of<N: Node<Meter = Tally>>(
     alloc: Global,
@@ -99,7 +99,7 @@ fn span_of<N: Node<Meter = Tally>>(
     Ok(span)
 }
 
-// The place before the event that queued what happens next from a place on.
+// Returns the place before the event that queued what happens next from `place` on.
 fn cause_of<N: Node<Meter = Tally> + Debug>(run: &Run<'_, N>, place: u32) -> Result<u32, SeekError>
 where
     N::Msg: Debug,
@@ -121,7 +121,7 @@ where
     }
 }
 
-/// The place that is looked for, among those of a run, from a place.
+/// Returns the place of a run that `sought` describes, seen from `here`.
 pub(crate) fn seek<N: Node<Meter = Tally> + Debug>(
     alloc: Global,
     run: &Run<'_, N>,

@@ -1,4 +1,4 @@
-//! What is there at a place: what is pending, the hosts, their disks, and the links.
+//! Shows a place: pending occurrences, the hosts, their disks, and the links.
 ghost use Rattle.std.specs.Prelude.{◌<◌};
 
 use sim_disk::Disk;
@@ -10,7 +10,7 @@ use sim_world::{Occurrence, World};
 use std::alloc::Global;
 use std::fmt::Debug;
 
-/// A world at a place, told by names.
+/// A world at a place, to be described by names.
 #[derive(Drop)]
 pub(crate) struct Sight<'a, N: Node> {
     pub(crate) alloc: Global,
@@ -19,8 +19,8 @@ pub(crate) struct Sight<'a, N: Node> {
     pub(crate) world: &'a World<N>,
 }
 
-// What is pending, for a host or for all: the due and the serial of each, in the order in which it
-// happens.
+// Returns the pending occurrences, for a host or for all: the due and the serial of each, in the
+// order in which they happen.
 fn pending_of<N: Node>(
     alloc: Global,
     world: &World<N>,
@@ -28,7 +28,7 @@ fn pending_of<N: Node>(
 ) -> Result<Vec<(u64, u64)>, NoMemory> {
     let mut found = Vec::new(alloc);
     let mut from = 0;
-    // Each turn passes a serial.
+    // Each round passes a serial.
     for _ in 0..world.next_serial() {
         let Some(serial) = world.next_pending(from) else {
             break;
@@ -44,12 +44,12 @@ fn pending_of<N: Node>(
     Ok(found)
 }
 
-// The end of a noun behind a number.
+// Returns the ending of a noun after a number.
 fn plural(count: usize) -> &'static str {
     if count == 1 { "" } else { "s" }
 }
 
-// What a link does, in a word.
+// Returns the state of a link in a word.
 fn state_name(state: LinkState) -> &'static str {
     match state {
         LinkState::Through => "open",
@@ -58,7 +58,7 @@ fn state_name(state: LinkState) -> &'static str {
     }
 }
 
-// Tells bytes in hexadecimal, 16 in a row behind the number of the first.
+// Appends bytes in hexadecimal, 16 in a row after the number of the first.
 fn tell_bytes(bytes: &[u8], said: &mut String) -> Result<(), NoMemory> {
     for (offset, byte) in bytes.iter().enumerate() {
         if offset % 16 == 0 {
@@ -75,7 +75,7 @@ fn tell_bytes(bytes: &[u8], said: &mut String) -> Result<(), NoMemory> {
     Ok(())
 }
 
-// Tells bytes in hexadecimal, in a line.
+// Appends bytes in hexadecimal, in a line.
 fn tell_row(bytes: &[u8], said: &mut String) -> Result<(), NoMemory> {
     for byte in bytes {
         write!(said, " {byte:02x}")?;
@@ -83,7 +83,7 @@ fn tell_row(bytes: &[u8], said: &mut String) -> Result<(), NoMemory> {
     said.push('\n')
 }
 
-// Tells the writes of a disk that are not stable.
+// Appends the writes of a disk that are not stable.
 fn tell_writes(disk: &Disk, said: &mut String) -> Result<(), NoMemory> {
     let covered = disk.unsynced().saturating_sub(disk.not_asked());
     for place in 0..disk.unsynced() {
@@ -105,7 +105,7 @@ impl<N: Node + Debug> Sight<'_, N>
 where
     N::Msg: Debug,
 {
-    // Tells what is pending, with its serial.
+    // Appends a pending occurrence with its serial.
     fn tell_occurrence(
         &self,
         serial: u64,
@@ -131,8 +131,8 @@ where
         }
     }
 
-    /// Tells what is pending, for a host or for all, in the order in which it happens. The only
-    /// error is want of memory.
+    /// Appends the pending occurrences, for a host or for all, in the order in which they happen.
+    /// Fails only for want of memory.
     pub(crate) fn tell_pending(
         &self,
         host: Option<u16>,
@@ -151,7 +151,7 @@ where
         Ok(())
     }
 
-    // Tells the state and the probes of a node.
+    // Appends the state and the probes of a node.
     fn tell_node(&self, node: &N, said: &mut String) -> Result<(), NoMemory> {
         writeln!(said, "state: {node:?}")?;
         said.push_str("probes:")?;
@@ -163,9 +163,9 @@ where
         said.push('\n')
     }
 
-    /// Tells a host: whether it runs and is done, its state and its probes, what is pending for it,
-    /// and how much is on its disk. It tells nothing of a host that is not there. The only error is
-    /// want of memory.
+    /// Appends a host: whether it runs and is done, its state and its probes, what is pending for
+    /// it, and the sizes on its disk. For an unknown host it appends nothing. Fails only for want
+    /// of memory.
     pub(crate) fn tell_host(&self, host: u16, said: &mut String) -> Result<(), NoMemory> {
         if host >= self.world.hosts() {
             return Ok(());
@@ -191,8 +191,8 @@ where
         self.tell_pending(Some(host), said)
     }
 
-    /// Tells the disk of a host: its stable bytes, and the writes that are not stable. It tells
-    /// nothing of a host that is not there. The only error is want of memory.
+    /// Appends the disk of a host: its stable bytes, and the writes that are not stable. For an
+    /// unknown host it appends nothing. Fails only for want of memory.
     pub(crate) fn tell_disk(&self, host: u16, said: &mut String) -> Result<(), NoMemory> {
         if host >= self.world.hosts() {
             return Ok(());
@@ -207,7 +207,7 @@ where
         tell_writes(disk, said)
     }
 
-    // Tells a direction if it is not open. Whether it is.
+    // Appends a direction if it is not open. Returns whether it is open.
     fn tell_direction(&self, from: u16, to: u16, said: &mut String) -> Result<bool, NoMemory>
         requires from { from < 32 }
         requires to { to < 32 }
@@ -227,7 +227,7 @@ where
         Ok(false)
     }
 
-    // Tells the directions from a host that are not open. Whether all are.
+    // Appends the directions from a host that are not open. Returns whether all are open.
     fn tell_links_of(&self, from: u16, said: &mut String) -> Result<bool, NoMemory>
         requires { from < 32 }
     {
@@ -240,7 +240,7 @@ where
         Ok(are_open)
     }
 
-    /// Tells the links that are not open, with the messages that they hold. The only error is want
+    /// Appends the links that are not open, with the messages that they hold. Fails only for want
     /// of memory.
     pub(crate) fn tell_links(&self, said: &mut String) -> Result<(), NoMemory> {
         let mut are_open = true;

@@ -1,11 +1,11 @@
-//! Which terms of a condition fail, with the values of which they speak.
+//! Finds which terms of a condition fail, and shows the values that they name.
 use sim_input::push_condition;
 use sim_node::{NoMemory, Node};
 use sim_script::Names;
 use sim_watch::{Comparison, Cond, Term, Value, holds};
 use sim_world::World;
 
-/// Whether a condition can be asked of a world, and holds of it.
+/// Returns whether a condition is usable in a world and holds there.
 pub(crate) fn holds_of<N: Node>(cond: &Cond, world: &World<N>) -> bool {
     match cond.check(world.hosts(), N::PROBES) {
         Ok(()) => holds(cond, world),
@@ -13,7 +13,7 @@ pub(crate) fn holds_of<N: Node>(cond: &Cond, world: &World<N>) -> bool {
     }
 }
 
-/// Whether a condition can be asked of a world, and fails there.
+/// Returns whether a condition is usable in a world and fails there.
 pub(crate) fn fails_of<N: Node>(cond: &Cond, world: &World<N>) -> bool {
     match cond.check(world.hosts(), N::PROBES) {
         Ok(()) => !holds(cond, world),
@@ -21,7 +21,7 @@ pub(crate) fn fails_of<N: Node>(cond: &Cond, world: &World<N>) -> bool {
     }
 }
 
-// The probe with whose value something is compared.
+// Returns the probe of a comparison's right side, if it is a probe.
 fn shown_probe(to: Comparison) -> Option<u8> {
     match to.value {
         Value::Number(_) => None,
@@ -29,7 +29,7 @@ fn shown_probe(to: Comparison) -> Option<u8> {
     }
 }
 
-// The probes of which a term speaks.
+// Returns the probes that a term names.
 fn probes_of(term: Term) -> (Option<u8>, Option<u8>) {
     match term {
         Term::Cmp(_, probe, to)
@@ -49,7 +49,7 @@ fn probes_of(term: Term) -> (Option<u8>, Option<u8>) {
     }
 }
 
-// Tells the values of a probe of the hosts of which a condition speaks.
+// Appends the values of a probe of the hosts that a condition names.
 fn tell_values<N: Node>(
     names: &Names,
     world: &World<N>,
@@ -72,7 +72,7 @@ fn tell_values<N: Node>(
     Ok(())
 }
 
-// Tells a term that fails.
+// Appends a term that fails.
 fn tell_term<N: Node>(
     names: &Names,
     world: &World<N>,
@@ -94,7 +94,7 @@ fn tell_term<N: Node>(
     said.push('\n')
 }
 
-/// Tells which terms of a condition fail. The only error is want of memory.
+/// Appends which terms of a condition fail. Fails only for want of memory.
 pub(crate) fn tell_failing<N: Node>(
     names: &Names,
     world: &World<N>,

@@ -1,8 +1,8 @@
-//! The commands of a walk, with their short names and what `help` says of them.
+//! The commands of a walk, with their short names and their help.
 use std::alloc::{AllocError, Global};
 use strsim::osa_distance;
 
-/// What a command is, by its first word.
+/// The kind of a command, by its first word.
 #[derive(Clone, Copy, Debug, PartialEq, Eq)]
 pub(crate) enum Kind {
     /// A line of a script.
@@ -28,7 +28,7 @@ pub(crate) enum Kind {
 /// A command.
 pub(crate) struct Topic {
     pub(crate) name: &'static str,
-    /// A short name, or nothing.
+    /// A short name, or an empty text.
     pub(crate) short: &'static str,
     /// The words that follow it.
     pub(crate) words: &'static str,
@@ -285,7 +285,7 @@ static TOPICS: [Topic; 35] = [
     },
 ];
 
-/// What a condition is, for `help first` and its like.
+/// An explanation of conditions, for `help first` and its like.
 const CONDITION: &str = "\
 COND is 1 to 8 terms, joined by `and` and `or`. A term is one of:
   HOST.PROBE OP VALUE          up HOST      not up HOST
@@ -296,7 +296,7 @@ COND is 1 to 8 terms, joined by `and` and `or`. A term is one of:
 OP is <, <=, =, !=, >= or >; VALUE is a number or HOST.PROBE.
 ";
 
-/// The command with this name or short name.
+/// Returns the command with this name or short name.
 pub(crate) fn topic_of(word: &str) -> Option<&'static Topic> {
     for topic in &TOPICS {
         if word == topic.name || word == topic.short {
@@ -306,14 +306,14 @@ pub(crate) fn topic_of(word: &str) -> Option<&'static Topic> {
     None
 }
 
-// Tells a command in a line.
+// Appends a command in a line.
 fn tell_topic(topic: &Topic, said: &mut String) -> Result<(), AllocError> {
     let (name, words) = (topic.name, topic.words);
     let (short, what) = (topic.short, topic.what);
     writeln!(said, "{name:>12} {words:<9} {short:<2} {what}")
 }
 
-/// Tells all commands, or one, in place of the help for it.
+/// Appends the help for all commands, or for one.
 pub(crate) fn tell_help(
     about: Option<&'static Topic>,
     said: &mut String,
@@ -334,8 +334,8 @@ pub(crate) fn tell_help(
     Ok(())
 }
 
-// The command whose name is nearest to a word: at most two letters are changed, and of a short word
-// one or none.
+// Returns the command whose name is nearest to a word: at most two letters differ, and in a short
+// word at most one or none.
 fn nearest(alloc: Global, word: &str) -> Result<Option<&'static str>, AllocError> {
     let mut found = None;
     let mut least = match word.len() {
@@ -353,7 +353,7 @@ fn nearest(alloc: Global, word: &str) -> Result<Option<&'static str>, AllocError
     Ok(found)
 }
 
-/// Tells the command that is near to a word, or else the names of all.
+/// Appends the command nearest to a word, or else the names of all commands.
 pub(crate) fn tell_names(alloc: Global, word: &str, said: &mut String) -> Result<(), AllocError> {
     if let Some(name) = nearest(alloc, word)? {
         return writeln!(said, "`{name}` is near; `help` lists the commands");

@@ -1,4 +1,4 @@
-//! A scenario and a script are read, and commands are answered one after the other.
+//! Reads a scenario and a script, and then answers commands one after the other.
 ghost use Rattle.std.specs.Prelude.{◌≡◌, ◌<◌, ◌≤◌, ◌++◌, ℕ, List, Some, length, string_bytes};
 ghost use Rattle.std.specs.Io.KnownBytes.{Appends};
 ghost use Rattle.sim_world.specs.Events.{rules};
@@ -64,7 +64,7 @@ impl<N: Node<Meter = Tally> + Debug> Walker<'_, N>
 where
     N::Msg: Debug,
 {
-    // The prompt: the branch, its place, and the clock.
+    // Returns the prompt: the branch, its place, and the clock.
     fn prompt_text(&self) -> Result<String, NoMemory> {
         let (alloc, branch) = (self.desk.alloc, self.branch);
         match whereabouts(alloc, &self.book, branch)? {
@@ -86,7 +86,7 @@ where
         }
     }
 
-    // Writes what a walk begins with on a terminal.
+    // Writes the opening of a walk, on a terminal.
     fn greet<W: Write>(&self, writer: &mut W) -> Turned
         ensures { Grows (W.contents writer.old) (W.contents writer.new) }
     {
@@ -96,7 +96,7 @@ where
         say(writer, b"`help` lists the commands.\n")
     }
 
-    // Writes the end of the walk: on a terminal the line of the last prompt is ended.
+    // Writes the end of the walk: on a terminal, the end of the line of the last prompt.
     fn end<W: Write>(&self, writer: &mut W) -> Status
         ensures { Grows (W.contents writer.old) (W.contents writer.new) }
     {
@@ -109,7 +109,7 @@ where
         }
     }
 
-    // Keeps a line to be repeated; an empty one becomes the last.
+    // Keeps a line for repetition; an empty line becomes the last one.
     fn line_or_last(&mut self, line: &mut Vec<u8>) -> Result<(), NoMemory> {
         if line.is_empty() {
             return line.extend_from_slice(self.last.as_slice());
@@ -139,7 +139,7 @@ where
         Ok(text)
     }
 
-    // What a line asks for, or the words that say why it asks for nothing.
+    // Returns the request of a line, or the words that say why it makes none.
     fn request(&self, line: &[u8]) -> Result<Request, String> {
         let (alloc, opened) = (self.desk.alloc, self.desk.opened);
         match order_of(alloc, &opened.names, self.branch, line) {
@@ -179,7 +179,7 @@ where
         }
     }
 
-    // Answers a line; an empty one is the last again.
+    // Answers a line; an empty line repeats the last one.
     fn answer<W: Write>(&mut self, line: &mut Vec<u8>, writer: &mut W) -> Turned
         ensures { Grows (W.contents writer.old) (W.contents writer.new) }
     {
@@ -198,7 +198,7 @@ where
     }
 }
 
-// Writes the reply of a turn, and then what is said in words.
+// Writes the reply of a turn, and then the account.
 fn write_answer<W: Write>(answer: &Answer, writer: &mut W) -> Turned
     ensures grows { Grows (W.contents writer.old) (W.contents writer.new) }
     ensures on { result ≡ Turned.On → Appends (W.contents writer.old) (W.contents writer.new)
@@ -255,7 +255,7 @@ where
     }
 }
 
-// Answers the lines of commands up to their end.
+// Answers the lines of commands up to the end of the reader.
 fn walk_lines<N: Node<Meter = Tally> + Debug, R: Read, W: Write>(
     walk: &mut Walker<'_, N>,
     reader: &mut R,
@@ -289,8 +289,8 @@ struct Walking<'a, H: Eprint> {
 }
 
 impl<'a, H: Eprint> Walking<'a, H> {
-    // The book that the script leaves, carried out strictly: the first line at fault is told on
-    // standard error, and its status is `BadRequest`.
+    // Carries out the script and returns the book that it leaves. Reports the first line at fault,
+    // if any, on standard error, and then fails with `BadRequest`.
     fn book<N: Node<Meter = Tally>>(&self, opened: &Opened) -> Result<Book<N>, Status> {
         let alloc = self.alloc;
         let Ok(mut book) = Book::<N>::new(alloc, &opened.scenario, Tally::new()) else {
@@ -348,7 +348,7 @@ impl<'a, H: Eprint> Task for Walking<'a, H> {
     }
 }
 
-// All bytes that a reader has left.
+// Returns all bytes that a reader has left.
 fn rest_of<F: Read>(alloc: Global, reader: &mut F, ahead: &mut Ahead) -> Result<Vec<u8>, Status> {
     let mut script = Vec::new(alloc);
     loop {
@@ -364,10 +364,10 @@ fn rest_of<F: Read>(alloc: Global, reader: &mut F, ahead: &mut Ahead) -> Result<
     }
 }
 
-/// Walks a run: reads a scenario and, behind a line `---`, a script; carries the script out; and
+/// Walks a run: reads a scenario and, after a line `---`, a script; carries the script out; and
 /// then answers commands, a line each, up to their end.
 ///
-/// If a line of the script is no command, or its command is refused or not taken, it tells that on
+/// If a line of the script is no command, or its command is refused or not taken, reports that on
 /// standard error and ends with status 2. There are at most 255 subjects.
 pub fn walk<L: Subjects, H: Eprint, F: Read, R: Read, W: Write>(
     host: &H,

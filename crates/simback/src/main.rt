@@ -2,12 +2,12 @@
 //!
 //! ```text
 //! simback play [FILE]                            plays a script and writes a line for each command
-//! simback search LO HI COND [FILE]               finds the first place of that run where COND fails
+//! simback search LO HI COND [FILE]               finds the first place of a run where COND fails
 //! simback sweep FIRST COUNT EVENTS COND [FILE]   finds the first seed with such a place
 //! simback script I EVENTS [FILE]                 writes the run of a seed as an input for a play
 //! simback shrink COND [FILE]                     drops the faults that a failure does not need
-//! simback walk FILE                              walks that run forward and back, by commands in a terminal
-//! simback log [FILE]                             tells in words what each event of a run did
+//! simback walk FILE                              walks that run, by commands in a terminal
+//! simback log [FILE]                             writes in words what each event of a run did
 //! simback page [FILE]                            writes a run as a page to walk back and forth
 //! simback help                                   lists the commands and their options
 //! ```
@@ -16,10 +16,10 @@
 //! docs/SCENARIO.md, docs/SCRIPT.md, docs/SEARCH.md, docs/WALK.md, docs/LOG.md and docs/PAGE.md
 //! describe them.
 //!
-//! This crate has no logic of its own: `sim_perform::run` does all. It ends with the status that
-//! this returns: 0, or 1 for a bad scenario, 2 for a wrong command line or a request that cannot be
-//! carried out, 3 if the input or the output failed, 4 for want of memory. A crate is a library or
-//! a program, so everything that can be proved or tested over any reader and writer is in the
+//! This crate has no logic of its own: `sim_perform::run` does all and returns the exit status. It
+//! is 0, or 1 for a bad scenario, 2 for a wrong command line or a request that cannot be carried
+//! out, 3 if the input or the output failed, 4 for want of memory. A crate is a library or a
+//! program, so everything that can be proved or tested over any reader and writer is in the
 //! libraries below.
 #![tactic(auto)]
 

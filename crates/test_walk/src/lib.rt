@@ -1,4 +1,4 @@
-//! Walks of a run, as text in and text out. There is nothing here but tests.
+//! Walks of a run, as text in and text out. The crate has nothing but tests.
 #![tactic(auto)]
 
 #[cfg(test)]

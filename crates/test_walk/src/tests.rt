@@ -1,14 +1,13 @@
-//! Sessions of a walk: the commands, and all that is written.
+//! Sessions of a walk: the commands, and the whole output.
 //!
 //! What each test catches:
-//! - `from_the_failing_place_to_its_cause`: a session on a run that fails, whose answers leave out
-//!   what leads to the cause, or tell another.
-//! - `commands`, `other_commands`: a command whose answer is another one, a short name that is not
-//!   taken, and a mistake that is told as another.
-//! - `a_long_way`: a move that tells more or fewer than 20 events, or leaves the others out in
-//!   silence.
+//! - `from_the_failing_place_to_its_cause`: a session on a run that fails, whose answers omit what
+//!   leads to the cause, or report something else.
+//! - `commands`, `other_commands`: a command with a wrong answer, a short name that is not
+//!   accepted, and a mistake that is reported as another.
+//! - `a_long_way`: a move that reports more or fewer than 20 events, or omits the others silently.
 //! - `a_prompt`: a prompt with another branch, place or clock, or none.
-//! - `a_fault_of_the_script`: a script at fault that is walked nevertheless.
+//! - `a_fault_of_the_script`: a walk over a script at fault.
 use sim_cli::{Shipped, Status};
 use sim_walk::{Style, walk};
 use std::alloc::Global;
@@ -380,7 +379,7 @@ back by 13; next is 1 clock 0: a starts
 > q
 ";
 
-// Twelve times a link is held and let go: 24 events.
+// Holds and releases a link twelve times: 24 events.
 const MANY_HOLDS: &str = "\
 hold a w
 release a w
@@ -437,7 +436,7 @@ place 28 clock 20
 .. and 4 more: `log 25 28` tells them
 ";
 
-// A walk of an input writes this for these commands, and ends well.
+// A walk of this input writes `want` for these commands, and ends well.
 fn is_walked<R: Eprint + Abort>(
     rt: &R,
     alloc: Global,
