@@ -1,4 +1,4 @@
--- The turns of a play, and its output as a function of its input.
+-- The turns of a play, and its output for an input.
 pub mod Turns
 pub mod Lines
 pub mod Play

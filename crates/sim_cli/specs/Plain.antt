@@ -10,7 +10,7 @@ use Rattle.sim_cli.specs.Play.{Nodes, out}
 abbrev pub StandsIn : Text → Text → Type 0
 StandsIn part text = (front : Text) × (rest : Text) × (text ≡ front ++ (part ++ rest))
 
--- some line reports that a command wanted memory
+-- the output reports somewhere that a command wanted memory
 abbrev pub TellsWant : Text → Type 0
 TellsWant written =
     StandsIn (codes "refused 12 NoMemory\n") written ⊎ StandsIn (codes "not taken NoMemory\n")

@@ -24,7 +24,7 @@
 //!   (`Grows` in `specs/Growth.antt`).
 //!
 //! The words are tested and not proved: messages and states are shown by `Debug`, whose texts no
-//! contract can name. That each event happens as its line says is a fact of `sim_log`.
+//! contract can name. The contracts of `sim_log` say how far an account agrees with the events.
 //!
 //! Why it is built this way:
 //!
