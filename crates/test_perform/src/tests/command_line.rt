@@ -181,14 +181,21 @@ fn help_and_version(rt: HostRuntime) {
 fn mistakes(rt: HostRuntime) {
     assert!(rt; blames(&rt, &["simback"], "Usage: simback <COMMAND>"));
     assert_eq!(rt; status_of(&rt, &["simback"]), Some(2));
-    assert!(rt; blames(&rt, &["simback", "walk"], "unrecognized subcommand 'walk'"));
     assert!(rt;
         blames(
             &rt,
-            &["simback", "help", "walk"],
-            "unrecognized subcommand 'walk'"
+            &["simback", "stroll"],
+            "unrecognized subcommand 'stroll'"
         )
     );
+    assert!(rt;
+        blames(
+            &rt,
+            &["simback", "help", "stroll"],
+            "unrecognized subcommand 'stroll'"
+        )
+    );
+    assert!(rt; blames(&rt, &["simback", "walk"], "<FILE>"));
     assert!(rt;
         blames(
             &rt,
