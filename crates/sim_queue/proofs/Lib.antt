@@ -14,3 +14,4 @@ pub mod Sparse
 pub mod Fronts
 pub mod FirstAt
 pub mod Packing
+pub mod Taken

@@ -5,4 +5,5 @@ pub mod Marks
 pub mod Slots
 pub mod Sparse
 pub mod Store
+pub mod Taken
 pub mod Wheel

@@ -6,9 +6,10 @@ ghost use Rattle.std.specs.Prelude.{slice_set, replicate};
 ghost use Rattle.std.specs.Fn.{FnReturnsAt};
 ghost use Rattle.std.specs.Option.{option_map, IsSome};
 ghost use Rattle.sim_queue.specs.Items.{item_of, items_from};
-ghost use Rattle.sim_queue.specs.Pending.{Decides};
-ghost use Rattle.sim_queue.specs.inside.Slots.{at, IsFirstTaken, IsFirstSlot, HasNoItem};
+ghost use Rattle.sim_queue.specs.Pending.{Decides, next_taken};
+ghost use Rattle.sim_queue.specs.inside.Slots.{at, IsFirstSlot, HasNoItem};
 ghost use Rattle.sim_queue.specs.inside.Sparse.{body_at, IsPut, IsTaken, HasSameBodies};
+ghost use Rattle.sim_queue.specs.inside.Taken.{lesser, taken_serial, IsLeastTaken};
 ghost use Rattle.sim_queue.specs.inside.Wheel.{key_at, HasSame};
 
 use crate::link::Link;
@@ -249,21 +250,13 @@ impl<B> Slots<B> {
         Ok(())
     }
 
-    /// Returns the first place, not below `start`, whose body the test accepts.
-    pub(crate) fn first_taken<F: Fn(&B) -> bool>(&self, start: usize, test: &F) -> Option<usize>
+    /// Returns the least serial, not below `from`, of an item whose body the test accepts.
+    pub(crate) fn next_that<F: Fn(&B) -> bool>(&self, from: u64, test: &F) -> Option<u64>
         requires { F.IsAlwaysCallable test.now }
-        ensures within { IfSome result (λ i. i < length self.now.items) }
-        ensures found { (p : B → Bool) → Decides F.Fn test.now p
-            → IsFirstTaken p self.now.items start result }
+        ensures { (p : B → Bool) → Decides F.Fn test.now p → result
+            ≡ next_taken from p (items_from self.now.base self.now.items) }
     {
-        for place in start..self.places.len() {
-            if let Some((_due, body)) = self.get(place) {
-                if test(body) {
-                    return Some(place);
-                }
-            }
-        }
-        None
+        least_taken(&self.wheel, &self.bodies, from, test)
     }
 
     /// Returns the items in the order of their serials, with bodies that `each` copies.
@@ -287,6 +280,62 @@ impl<B> Slots<B> {
             }
         }
         Ok(items)
+    }
+}
+
+// Returns the least serial, not below `from`, of an item whose body the test accepts. Looks at each
+// place once: the places are as many as there were items at one time, and most slots are empty.
+fn least_taken<B, F: Fn(&B) -> bool>(
+    wheel: &Wheel,
+    bodies: &Vec<Option<B>>,
+    from: u64,
+    test: &F,
+) -> Option<u64>
+    requires { F.IsAlwaysCallable test.now }
+    ensures { (p : B → Bool) → Decides F.Fn test.now p
+        → IsLeastTaken p wheel.now bodies.now.items from result }
+{
+    let mut least = None;
+    for at in 0..wheel.places() {
+        least = lesser(least, taken_at(wheel, bodies, at, from, test));
+    }
+    least
+}
+
+// Returns the serial of the item at a place, if it is not below `from` and the test accepts the
+// body.
+#[inline(always)]
+fn taken_at<B, F: Fn(&B) -> bool>(
+    wheel: &Wheel,
+    bodies: &Vec<Option<B>>,
+    at: u32,
+    from: u64,
+    test: &F,
+) -> Option<u64>
+    requires { F.IsAlwaysCallable test.now }
+    ensures { (p : B → Bool) → Decides F.Fn test.now p → result
+        ≡ taken_serial p from (key_at wheel.now at) (body_at bodies.now.items at) }
+{
+    let (_due, serial) = wheel.get(at)?;
+    if serial < from {
+        return None;
+    }
+    let body = bodies.get(at as usize)?.as_ref()?;
+    if test(body) {
+        return Some(serial);
+    }
+    None
+}
+
+// Returns the lesser of two numbers, or the one that there is.
+#[inline(always)]
+fn lesser(one: Option<u64>, other: Option<u64>) -> Option<u64>
+    ensures { result ≡ lesser one other }
+{
+    match (one, other) {
+        (Some(x), Some(y)) => Some(x.min(y)),
+        (one, None) => one,
+        (None, other) => other,
     }
 }
 

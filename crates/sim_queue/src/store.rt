@@ -72,14 +72,11 @@ impl<B> Store<B> {
 
     /// Returns the least serial, not below `serial`, of an item whose body the test accepts.
     pub(crate) fn next_that<F: Fn(&B) -> bool>(&self, serial: u64, test: &F) -> Option<u64>
-        requires small { (pending_in self.now).next_serial ≤ 2 ^ 40 }
-        requires callable { F.IsAlwaysCallable test.now }
+        requires { F.IsAlwaysCallable test.now }
         ensures { (p : B → Bool) → Decides F.Fn test.now p → result
             ≡ next_taken serial p (pending_in self.now).items }
     {
-        let from = serial.saturating_sub(self.slots.base()) as usize;
-        let place = self.slots.first_taken(from, test)?;
-        Some(self.slots.base() + place as u64)
+        self.slots.next_that(serial, test)
     }
 
     /// Returns the serial that the next item gets.

@@ -6,7 +6,7 @@ ghost use Rattle.sim_queue.specs.inside.Wheel.{key_at, HasNone, HasSame, HasSame
 ghost use Rattle.sim_queue.specs.inside.Wheel.{IsFirst, HasMarks, Fits64, IsFrom, IsFloor};
 
 use crate::NoMemory;
-use crate::lists::{LISTS, Lists};
+use crate::lists::{LISTS, Lists, SERIALS};
 use crate::marks::Marks;
 use std::alloc::Global;
 use std::marker::Model;
@@ -104,6 +104,25 @@ impl Wheel {
     {
         let node = self.lists.nodes[(place + LISTS) as usize];
         (node.due, node.serial)
+    }
+
+    /// Returns the number of places: no place from this one on has a key.
+    pub(crate) fn places(&self) -> u32
+        ensures { (k : ℕ) → result ≤ k → key_at self.now k ≡ None }
+    {
+        (self.lists.nodes.len() as u32).saturating_sub(LISTS)
+    }
+
+    /// Returns the due and the serial of the key at a place, if there is one.
+    #[inline(always)]
+    pub(crate) fn get(&self, place: u32) -> Option<(u64, u64)>
+        ensures { result ≡ key_at self.now place }
+    {
+        let node = self.lists.nodes.get(place as usize + LISTS as usize)?;
+        if node.serial >= SERIALS {
+            return None;
+        }
+        Some((node.due, node.serial))
     }
 
     /// Returns the place of the first key.

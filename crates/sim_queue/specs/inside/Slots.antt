@@ -28,8 +28,3 @@ Skips p slots from to = (j : ℕ) → from ≤ j → j < to → takes p (at slot
 -- i is the first place not below `from` whose body p accepts
 abbrev pub IsFound : {B : Type 0} → (B → Bool) → List (Option (ℕ × B)) → ℕ → ℕ → Type 0
 IsFound p slots from i = (from ≤ i) × (takes p (at slots i) ≡ true) × Skips p slots from i
-
--- the result of a search from a place on: the first place whose body p accepts, or none
-abbrev pub IsFirstTaken : {B : Type 0} → (B → Bool) → List (Option (ℕ × B)) → ℕ → Option ℕ → Type 0
-IsFirstTaken p slots from result =
-    MatchOption result (Skips p slots from (length slots)) (λ i. IsFound p slots from i)
