@@ -35,6 +35,10 @@ lesser_right None (Some y) s h = let e : y ≡ s = same_Some y s h in omega arit
 lesser_right (Some x) None s h = absurd (none-some s h)
 lesser_right (Some x) (Some y) s h = let e : y ≡ s = same_Some y s h in omega arith
 
+either_none : (t : Bool) (o : Option ℕ) → o ≡ None → (if t then None else o) ≡ None
+either_none true o h = refl
+either_none false o h = h
+
 -- a serial that passed both tests
 serial_passed : (from m s : ℕ) (t : Bool) → (if nat_lt m from then None else (if t then Some m else None)) ≡ Some s → (from ≤ m) × (t ≡ true) × (m ≡ s)
 serial_passed from m s t h = ⊎_elim
@@ -50,13 +54,14 @@ module _ {B : Type 0} (p : B → Bool) where
   pub no_key : (from : ℕ) (key : Option (ℕ × ℕ)) (body : Option B) → key ≡ None → None ≡ taken_serial p from key body
   no_key from key body h = sym (ap (λ k. taken_serial p from k body) h)
 
-  pub too_low : (from d s : ℕ) (key : Option (ℕ × ℕ)) (body : Option B) → key ≡ Some (d, s) → s < from → None ≡ taken_serial p from key body
-  too_low from d s key None h low = sym (ap (λ k. taken_serial p from k None) h)
-  too_low from d s key (Some b) h low =
-      sym (ap (λ k. taken_serial p from k (Some b)) h ∙ ap (λ t. if t then None else (if p b then Some s else None)) (lt-ltb s from low))
+  pub no_body : (from : ℕ) (key : Option (ℕ × ℕ)) (body : Option B) → body ≡ None → None ≡ taken_serial p from key body
+  no_body from None body h = refl
+  no_body from (Some key) body h = sym (ap (λ b. taken_serial p from (Some key) b) h)
 
-  pub no_body : (from d s : ℕ) (key : Option (ℕ × ℕ)) (body : Option B) → key ≡ Some (d, s) → body ≡ None → None ≡ taken_serial p from key body
-  no_body from d s key body h none = sym (ap (λ k. taken_serial p from k body) h ∙ ap (λ b. taken_serial p from (Some (d, s)) b) none)
+  pub not_accepted : (from : ℕ) (key : Option (ℕ × ℕ)) (body : Option B) (b : B) → body ≡ Some b → p b ≡ false → None ≡ taken_serial p from key body
+  not_accepted from None body b is test = refl
+  not_accepted from (Some key) body b is test =
+      sym (ap (λ x. taken_serial p from (Some key) x) is ∙ either_none (nat_lt key.1 from) _ (ap (λ t. if t then Some key.1 else None) test))
 
   pub by_test : (from d s : ℕ) (key : Option (ℕ × ℕ)) (body : Option B) (b : B) (t : Bool) → key ≡ Some (d, s) → from ≤ s → body ≡ Some b → p b ≡ t
       → (if t then Some s else None) ≡ taken_serial p from key body

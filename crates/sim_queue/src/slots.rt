@@ -302,8 +302,8 @@ fn least_taken<B, F: Fn(&B) -> bool>(
     least
 }
 
-// Returns the serial of the item at a place, if it is not below `from` and the test accepts the
-// body.
+// Returns the serial of the item at a place, if the test accepts its body and it is not below
+// `from`.
 #[inline(always)]
 fn taken_at<B, F: Fn(&B) -> bool>(
     wheel: &Wheel,
@@ -316,15 +316,15 @@ fn taken_at<B, F: Fn(&B) -> bool>(
     ensures { (p : B → Bool) → Decides F.Fn test.now p → result
         ≡ taken_serial p from (key_at wheel.now at) (body_at bodies.now.items at) }
 {
+    let body = bodies.get(at as usize)?.as_ref()?;
+    if !test(body) {
+        return None;
+    }
     let (_due, serial) = wheel.get(at)?;
     if serial < from {
         return None;
     }
-    let body = bodies.get(at as usize)?.as_ref()?;
-    if test(body) {
-        return Some(serial);
-    }
-    None
+    Some(serial)
 }
 
 // Returns the lesser of two numbers, or the one that there is.
