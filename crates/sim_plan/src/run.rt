@@ -48,7 +48,7 @@ pub fn run_of_planner<N: Node>(
             Ok(()) => {}
         }
         run.push(event)?;
-        world = world.apply_over(alloc, event, &mut undo, meter)?;
+        world = world.apply_over(event, &mut undo, meter)?;
     }
     Ok(run)
 }

@@ -41,7 +41,6 @@ impl<'a, N: Node> Watcher<'a, N> {
     // condition.
     fn moved(
         &mut self,
-        alloc: Global,
         world: World<N>,
         event: Event,
         meter: &mut N::Meter,
@@ -59,11 +58,11 @@ impl<'a, N: Node> Watcher<'a, N> {
     {
         match event {
             Event::Step => {
-                let (next, host) = world.step_for_good(alloc, meter)?;
+                let (next, host) = world.step_for_good(meter)?;
                 Ok((next, self.concerned[host as usize]))
             }
             Event::Advance(_) | Event::Fault(_) => {
-                let next = world.apply_over(alloc, event, &mut self.undo, meter)?;
+                let next = world.apply_over(event, &mut self.undo, meter)?;
                 Ok((next, true))
             }
         }
@@ -109,7 +108,6 @@ impl<N: Node> Spot<N> {
     // Returns the spot after an event, or this one if the event cannot happen.
     fn passed(
         self,
-        alloc: Global,
         event: Event,
         watcher: &mut Watcher<N>,
         meter: &mut N::Meter,
@@ -141,7 +139,7 @@ impl<N: Node> Spot<N> {
             place,
             mut fails,
         } = self;
-        let (world, may_change) = watcher.moved(alloc, world, event, meter)?;
+        let (world, may_change) = watcher.moved(world, event, meter)?;
         if may_change {
             fails = !holds(watcher.cond, &world);
         }
@@ -197,7 +195,7 @@ pub fn scan_planned<N: Node>(
         if spot.is_found(at_end) {
             return Ok(Some(spot.place));
         }
-        spot = spot.passed(alloc, event, &mut watcher, meter)?;
+        spot = spot.passed(event, &mut watcher, meter)?;
     }
     Ok(spot.finding())
 }

@@ -152,7 +152,7 @@ impl<N: Node> Ring<N> {
             (N.Meter.work meter.old)) }
         ensures capacity { self.new.capacity ≡ self.old.capacity }
     {
-        let after = world.apply_over(alloc, event, &mut self.slots[self.free], meter)?;
+        let after = world.apply_over(event, &mut self.slots[self.free], meter)?;
         self.free = slot_after(alloc, &mut self.slots, self.capacity, self.free);
         self.len = (self.len + 1).min(self.capacity);
         Ok(after)

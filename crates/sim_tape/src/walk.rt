@@ -70,7 +70,7 @@ fn passed<N: Node>(
 {
     match event {
         Event::Step => {
-            let (after, _) = world.step_for_good(alloc, meter)?;
+            let (after, _) = world.step_for_good(meter)?;
             Ok(after)
         }
         Event::Advance(_) | Event::Fault(_) => ring.apply(alloc, world, event, meter),

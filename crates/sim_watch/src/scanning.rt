@@ -130,7 +130,7 @@ pub fn scan_seed<N: Node>(
             Err(_) => return Ok(None),
             Ok(()) => {}
         }
-        let (next, host) = world.step_for_good(alloc, meter)?;
+        let (next, host) = world.step_for_good(meter)?;
         world = next;
         if concerned[host as usize] && !holds(cond, &world) {
             return Ok(Some(place + 1));

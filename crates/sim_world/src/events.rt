@@ -84,8 +84,8 @@ impl<N: Node> Parts<N> {
             IsTrail N.records undo.new.changes self.old.world self.new.world) }
         ensures acted { OnOk result (
             count_by is_reaction undo.new.changes ≡ reactions_of self.old.world event) }
-        ensures beside { OnOk result (
-            undo.new.beside ≡ beside_of tools.old.index (changing_host event self.old.world)) }
+        ensures token { OnOk result (
+            undo.new.token ≡ beside_of tools.old.index (changing_host event self.old.world)) }
         ensures lawful { OnOk result (
             IsLawfulEvent N.told (rules N.laws N.PROBES sc.now) event self.old.world) }
         ensures index { OnOk result (IsIndex tools.new.index self.new.world) }
@@ -259,7 +259,6 @@ impl<N: Node> World<N> {
     /// After an error the record is unspecified.
     pub fn apply_over(
         self,
-        _alloc: Global,
         event: Event,
         undo: &mut Undo<N>,
         meter: &mut N::Meter,
@@ -291,11 +290,7 @@ impl<N: Node> World<N> {
     /// Also returns the host of the first pending occurrence; no other host changes. Fails only for
     /// want of memory; nothing is left then.
     #[inline(always)]
-    pub fn step_for_good(
-        self,
-        _alloc: Global,
-        meter: &mut N::Meter,
-    ) -> Result<(World<N>, u16), NoMemory>
+    pub fn step_for_good(self, meter: &mut N::Meter) -> Result<(World<N>, u16), NoMemory>
         requires can { IsSome (next (rules N.laws N.PROBES self.scenario) self.world event.Step) }
         requires young { self.age < 65536 }
         ensures next { IfOk result (λ r.

@@ -77,14 +77,19 @@ pub record IsIndexOf {State Msg : Type 0} (flying waiting : ℕ) (serials : List
 abbrev pub IsIndex : {State Msg : Type 0} → Index → World State Msg → Type 0
 IsIndex index w = IsIndexOf index.in_flight index.held index.timers.items w
 
--- After `age` events of a run of the scenario a world is sound, with these index entries; the
--- timers of all hosts but one are those of a later world.
-pub record IsBefore {State Msg : Type 0} (told : State → Setup) (beside : Beside) (s : Scenario)
+-- The token in the record of an event: the index entries of the world before it.
+abbrev pub Token : Type 0
+Token = Beside
+
+-- A token is that of an event that made a later world out of one of this age: the earlier world is
+-- sound, and these are its index entries. The timers of all hosts but one are those of the later
+-- world.
+pub record IsTokenOf {State Msg : Type 0} (told : State → Setup) (token : Token) (s : Scenario)
     (age : ℕ) (before later : World State Msg) : Type 0 where
   pub sound : IsSound told s age before
-  pub there : beside.host < length later.hosts
-  pub in_flight : beside.in_flight ≡ in_flight before
-  pub held : beside.held ≡ held_messages before
-  pub timer : timers_of beside.host before.queue.items ≡ listed beside.timer
-  pub timers : (h : ℕ) → h ≢ beside.host → timers_of h before.queue.items
+  pub there : token.host < length later.hosts
+  pub in_flight : token.in_flight ≡ in_flight before
+  pub held : token.held ≡ held_messages before
+  pub timer : timers_of token.host before.queue.items ≡ listed token.timer
+  pub timers : (h : ℕ) → h ≢ token.host → timers_of h before.queue.items
       ≡ timers_of h later.queue.items

@@ -49,7 +49,7 @@ fn is_passed<N: Node>(
         return Err(Fail::from("too old"));
     }
     copy.can(Event::Step)?;
-    let (passed, host) = copy.step_for_good(alloc, meter)?;
+    let (passed, host) = copy.step_for_good(meter)?;
     let seen = looks(alloc, &passed)?;
     Ok(host < next.hosts() && seen == looks(alloc, next)?)
 }

@@ -94,8 +94,8 @@ returns-clause-leads g c =
     let there = changing_there told laws probes i.scenario.value i.age i.parts.world held.sound c.args.event can in
     let n = held.sound.hosts in
     let lt : changing_host c.args.event i.parts.world < length i.parts.world.hosts = omega arith in
-    subst (λ b. LeadsBack told g.N.Node.records (record { changes = c.event.new.undo.changes; beside = b })
-    (record { world = c.event.new.self.world; scenario = i.scenario.value; age = i.age + 1 })) (sym v.beside)
+    subst (λ b. LeadsBack told g.N.Node.records (record { changes = c.event.new.undo.changes; token = b })
+    (record { world = c.event.new.self.world; scenario = i.scenario.value; age = i.age + 1 })) (sym v.token)
     (applied_leads told laws probes i.scenario.value i.age i.parts.world held.sound c.event.new.self.world c.args.event young can is law
     g.N.Node.records c.event.new.undo.changes v.trail
     i.tools.index (changing_host c.args.event i.parts.world) held.index refl lt)
