@@ -182,6 +182,7 @@ impl<N: Node> Tape<N> {
         requires { IsTrue self.now.warm }
         ensures run { run (rules_of N.laws N.PROBES self.now)
             (take self.now.place self.now.events) ≡ Some result.now.world }
+        ensures age { result.now.age ≡ self.now.place }
         ensures world { result.now.world ≡ world_of (rules_of N.laws N.PROBES self.now) self.now }
         ensures scenario { result.now.scenario ≡ self.now.scenario }
     {
