@@ -2,7 +2,7 @@
 //! or by another implementation of them.
 //!
 //! What each test catches:
-//! - `examples`, `torn`, `rows`: a command that is answered in other words, or by another world, of
+//! - `examples`, `early`, `torn`, `rows`: a command that is answered in other words, or by another world, of
 //!   each protocol, in both formats, for checkpoints and windows from the least to the greatest; a
 //!   play that wants memory for no reason. The examples are those of the folder `examples`.
 //! - `full`: a table that is full early, or takes more than its limit; a trace of 5,000 events or
@@ -20,6 +20,7 @@
 //! - `streams::plays_over_nodes_of_a_type`: a play over a user's node that gives up, or that knows
 //!   other probes.
 //! - `probes::probes_have_names`: a name, or a number, that is left out.
+mod early;
 mod examples;
 mod faults;
 mod full;
