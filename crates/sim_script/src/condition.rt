@@ -49,7 +49,7 @@ fn parse_bound(word: &[u8]) -> Option<u64>
 }
 
 /// Returns the position of the first dot.
-fn first_dot(word: &[u8]) -> Option<usize>
+pub(crate) fn first_dot(word: &[u8]) -> Option<usize>
     ensures is { result ≡ position is_dot word.now }
     ensures within { IfSome result (λ dot. dot < length word.now) }
 {

@@ -4,7 +4,8 @@
 //! bad line, or an [`Ask`]. `Ask::into_command` turns that into a command of a book.
 //! [`condition_of`] reads the words of a condition, also those of a command line. [`Names`] has the
 //! names of hosts and probes with their numbers. [`mistake_of`] says which word makes a line bad,
-//! and what was expected in its place.
+//! and what was expected in its place; [`condition_mistake_of`] says that of a condition.
+//! [`tell_mistake`] and [`tell_bad_condition`] say it in words, with the names that there are.
 //!
 //! ```text
 //! match line_of(&names, b"@1 crash a") {
@@ -14,7 +15,8 @@
 //! ```
 //!
 //! Reading takes no memory, for any line, whatever its bytes. Only a condition needs memory, when
-//! its `Ask` becomes a command, since a command holds it in shared memory.
+//! its `Ask` becomes a command, since a command holds it in shared memory. So do the words about a
+//! mistake, which are tested and not proved.
 //!
 //! The contract of `line_of` is a definition over the list of the line's words: a table of first
 //! words, each with what may follow (`specs/Script.antt`). A condition has two definitions in
@@ -39,10 +41,13 @@ mod condition;
 mod mistake;
 mod names;
 mod script;
+mod telling;
+mod unknown;
 mod words;
 
 pub use ask::Ask;
 pub use condition::condition_of;
-pub use mistake::{Expected, LineMistake, mistake_of};
+pub use mistake::{Expected, LineMistake, condition_mistake_of, mistake_of};
 pub use names::Names;
 pub use script::{ScriptLine, line_of};
+pub use telling::{tell_advice, tell_bad_condition, tell_mistake, word_at};

@@ -1,11 +1,13 @@
 //! Why a line of a script is bad.
 ghost use Rattle.std.specs.Prelude.{◌≡◌, ◌+◌, ◌≤◌, ◌<◌, ◌↔◌, length, IfOk, IfErr, IfSome, IsSome};
+ghost use Rattle.std.specs.Prelude.{None};
 ghost use Rattle.sim_script.specs.Words.{words};
+ghost use Rattle.sim_script.specs.Conditions.{condition};
 ghost use Rattle.sim_script.specs.Script.{script_line};
 ghost use Rattle.sim_script.specs.Mistakes.{IsBetween, total};
 
 use crate::condition::{
-    MAX_DIGITS as MAX_TERM_DIGITS, MAX_TERMS, parse_op, parse_probe, parse_value,
+    MAX_DIGITS as MAX_TERM_DIGITS, MAX_TERMS, condition_of, parse_op, parse_probe, parse_value,
 };
 use crate::names::Names;
 use crate::script::{MAX_DIGITS, MAX_LINE, ScriptLine, line_of};
@@ -243,7 +245,7 @@ fn agreement_shape(rest: &[u8]) -> &'static [Expected]
 }
 
 /// Returns what must follow the first word of a term, or `None` if no term starts with it.
-fn term_shape(names: &Names, word: &[u8], rest: &[u8]) -> Option<&'static [Expected]>
+pub(crate) fn term_shape(names: &Names, word: &[u8], rest: &[u8]) -> Option<&'static [Expected]>
     ensures { IfSome result (λ shape. length shape.now ≤ 5) }
 {
     if word == b"up".as_slice() || word == b"done".as_slice() {
@@ -417,5 +419,31 @@ pub fn mistake_of(names: &Names, line: &[u8]) -> Option<LineMistake>
     match line_of(names, line) {
         ScriptLine::Bad => Some(first_mistake(names, line)),
         ScriptLine::Nothing | ScriptLine::Asked(_) => None,
+    }
+}
+
+/// Returns the first mistake of a text that is no condition: at a word, or at the end of the text.
+fn first_condition_mistake(names: &Names, text: &[u8]) -> LineMistake
+    ensures { IsBetween 0 result.word (length (words text.now)) }
+{
+    let start = At {
+        taken: 0,
+        rest: text,
+    };
+    match walk_condition(names, start) {
+        Ok(at) => mistake_at(at, Expected::End),
+        Err(mistake) => mistake,
+    }
+}
+
+/// Returns why a text is no condition: which word is wrong or missing, and what was expected there.
+/// Returns `None` if it is one. Takes no memory.
+pub fn condition_mistake_of(names: &Names, text: &[u8]) -> Option<LineMistake>
+    ensures bad { IsSome result ↔ (condition names.now (words text.now) ≡ None) }
+    ensures place { IfSome result (λ m. IsBetween 0 m.word (length (words text.now))) }
+{
+    match condition_of(names, text) {
+        None => Some(first_condition_mistake(names, text)),
+        Some(_) => None,
     }
 }

@@ -9,7 +9,7 @@
 //! - `tests.rt`: a script with a line of each kind of event, conditions with each kind of term and
 //!   each sign, and events and conditions that cannot be written.
 //! - `mistakes.rt`: bad lines of each kind, each with the word that makes it bad and what was
-//!   expected there.
+//!   expected there; and the sentences about texts that are no condition.
 //!
 //! The tests have a crate of their own, since a crate with tests is proved twice. Here that is an
 //! empty library.

@@ -1,6 +1,6 @@
 //! Bad lines, and why they are bad.
 use crate::tests::names;
-use sim_script::{Expected, mistake_of};
+use sim_script::{Expected, mistake_of, tell_bad_condition};
 use std::alloc::Global;
 use std::test::Fail;
 
@@ -90,6 +90,42 @@ look
 @3 watch up zz
 ";
 
+/// Texts that are no condition of the scenario, and the last one that is.
+const BAD_CONDITIONS: &str = "
+w.next<=1
+up a and w.next <=1
+agree num
+agree frst unless 0
+up a or not done z
+z.frst = 1
+w.next = w.frst
+agree val by x unless 0
+frst <= 1
+up a w
+up a or up a or up a or up a or up a or up a or up a or up a or up a
+up and and
+up a and w.next <= a.num
+";
+
+const WHY: &str = "\
+a word is missing at the end: expected a term of a condition; hosts: a b1 w; probes: next num val
+word 1, \"w.next<=1\": expected a term of a condition; an operator stands between spaces, as in \
+`w.next <= 3`
+word 5, \"<=1\": expected `<`, `<=`, `=`, `!=`, `>=` or `>`; an operator stands between spaces, as \
+in `w.next <= 3`
+a word is missing at the end: expected `unless` or `by`
+there is no probe frst; probes: next num val
+there is no host z; hosts: a b1 w
+there is no host z; hosts: a b1 w
+there is no probe frst; probes: next num val
+there is no probe x; probes: next num val
+word 1, \"frst\": expected a term of a condition; hosts: a b1 w; probes: next num val
+word 3, \"w\": expected `and`, `or` or the end of the line
+word 24, \"or\": expected the end of the line; a condition has at most 8 terms
+a word is missing at the end: expected a term of a condition; hosts: a b1 w; probes: next num val
+
+";
+
 /// Returns the mistakes of the lines of a text, with `fine` for a line that is not bad.
 fn told(alloc: Global, text: &str) -> Result<String, Fail> {
     let names = names(alloc)?;
@@ -123,5 +159,18 @@ fn a_line_that_is_too_long(rt: HostRuntime) -> Result<(), Fail> {
     let names = names(rt.alloc())?;
     let long = mistake_of(&names, &[b'x'; 257]).ok_or("no mistake")?;
     assert_eq!(rt; long.expected, Expected::ShorterLine);
+    Ok(())
+}
+
+#[test]
+fn bad_conditions(rt: HostRuntime) -> Result<(), Fail> {
+    let alloc = rt.alloc();
+    let names = names(alloc)?;
+    let mut why = String::new(alloc);
+    for text in BAD_CONDITIONS.lines() {
+        tell_bad_condition(&names, text.as_bytes(), &mut why)?;
+        why.push('\n')?;
+    }
+    assert_eq!(rt; why.as_str(), WHY);
     Ok(())
 }

@@ -6,6 +6,8 @@
 //!   refused though it can be written.
 //! * `mistakes::mistakes`: a bad line whose mistake is reported at another word, or for another
 //!   reason.
+//! * `mistakes::bad_conditions`: a condition that is refused with no word about it, or with the
+//!   wrong one; a name that does not exist and is not found.
 ghost use Rattle.std.specs.Prelude.{◌≡◌, codes, [], ◌∷◌, vec_len, IfOk};
 
 use sim_input::{LineError, push_condition, script};
