@@ -12,6 +12,7 @@
 //!   at fault: a [`ScriptFault`], which [`tell_fault`] reports on standard error.
 //! - [`Status`] says how a play ended; its number is the exit status of the program.
 //! - [`explain_fault`] explains on standard error why a text is no scenario; [`open`] calls it.
+//!   [`report_condition`] says there why words are no condition.
 //! - [`write_text`] writes a text and flushes the writer, as for the line of a scenario's fault.
 //!
 //! The contract of `play` holds for every reader and writer whose bytes contracts can name. If
@@ -42,6 +43,7 @@ mod fault;
 mod opened;
 mod opening;
 mod playing;
+mod reasons;
 mod scenario;
 mod shipped;
 mod status;
@@ -54,6 +56,7 @@ pub use fault::{LineFault, ScriptFault, fault_of_turn, tell_fault, tells_want};
 pub use opened::Opened;
 pub use opening::{open, set_up, write_text};
 pub use playing::{Playing, play};
+pub use reasons::report_condition;
 pub use scenario::{WasRead, read_scenario};
 pub use shipped::{AbdSubject, BackupSubject, CommitSubject, EchoSubject, Shipped};
 pub use sim_tally::Tally;

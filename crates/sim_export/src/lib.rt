@@ -22,6 +22,6 @@ mod shrinking;
 
 pub use export::{Export, write_export};
 pub use input::{InputError, input_of};
-pub use planned::{SeedRun, plan_of, write_run};
+pub use planned::{SeedRun, plan_of, report_plan, write_run};
 pub use shrinking::{Shrink, write_shrunk};
 pub use sim_cli::Status;

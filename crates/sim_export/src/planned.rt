@@ -17,7 +17,7 @@ use crate::input::{InputError, input_of};
 use sim_cli::{Opened, Status, Subjects, Tally, Task, open};
 use sim_lines::Ahead;
 use sim_node::{NoMemory, Node};
-use sim_plan::{Plan, run_of};
+use sim_plan::{MAX_PLANNED, MAX_SPACING, Plan, run_of};
 use sim_reseed::{ReseedError, numbered_text};
 use sim_sweep::numbered_seed;
 use sim_world::Event;
@@ -61,6 +61,29 @@ pub fn plan_of(faults: Option<u64>, events: u64, quiet: u64, at_end: bool) -> Op
         quiet: u32::try_from(quiet).ok()?,
         at_end,
     })
+}
+
+/// Reports on standard error which number of a plan is past its limits, if one is: the spacing of
+/// faults, or the sum of the events of the script, the planned events and the steps of the quiet
+/// end. A failure of standard error is ignored.
+pub fn report_plan<H: Eprint>(
+    host: &H,
+    given: usize,
+    events: u64,
+    quiet: u64,
+    faults: Option<u64>,
+) {
+    let spacing = faults.unwrap_or(2);
+    if spacing < 2 || u64::from(MAX_SPACING) < spacing {
+        let _told = eprintln!(host; "range: F is {spacing}; it has to be from 2 to {MAX_SPACING}");
+    }
+    let sum = (given as u64).saturating_add(events).saturating_add(quiet);
+    if MAX_PLANNED < sum {
+        let _told = eprintln!(host;
+            "range: the script has {given} events, EVENTS is {events} and Q is {quiet}; together \
+             they have to be at most {MAX_PLANNED}"
+        );
+    }
 }
 
 // Returns the events of a run whose plan is within the limits. Fails only for want of memory.
@@ -163,8 +186,8 @@ impl<'a> Task for RunWriting<'a> {
 /// the input.
 ///
 /// Writes `bad range` with status 2 if the spacing of faults is not 2 to 65,536 or there are more
-/// than 65,534 events with the quiet end, and `no input` with status 2 if the run has none. Takes
-/// at most 255 subjects.
+/// than 65,534 events with the quiet end (standard error says which), and `no input` with status 2
+/// if the run has none. Takes at most 255 subjects.
 pub fn write_run<L: Subjects, H: Eprint, R: Read, W: Write>(
     host: &H,
     alloc: Global,
@@ -180,6 +203,7 @@ pub fn write_run<L: Subjects, H: Eprint, R: Read, W: Write>(
     let mut ahead = Ahead::new();
     match open::<L, H, R, W>(host, alloc, reader, &mut ahead, writer) {
         Ok(opened) => {
+            report_plan(host, 0, run.events, run.quiet, run.faults);
             let text = opened.text.as_slice();
             let task = RunWriting { alloc, text, run };
             L::carry_out(opened.protocol, &task, &opened, reader, &mut ahead, writer)

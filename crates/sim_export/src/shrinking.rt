@@ -10,7 +10,7 @@ ghost use Rattle.sim_export.specs.Shrinks.{IsShrinkOf, shrink_right};
 
 use crate::export::{Export, write_export};
 use crate::input::{InputError, input_of};
-use sim_cli::{Opened, Status, Subjects, Tally, Task, open, tell_fault};
+use sim_cli::{Opened, Status, Subjects, Tally, Task, open, report_condition, tell_fault};
 use sim_lines::Ahead;
 use sim_node::{NoMemory, Node};
 use sim_replay::{ScriptStop, given_events};
@@ -110,6 +110,15 @@ struct Shrinking<'a, H: Eprint> {
     asked: Shrink<'a>,
 }
 
+impl<'a, H: Eprint> Shrinking<'a, H> {
+    // Reports why the words are no condition of the scenario, if that is the answer.
+    fn report(&self, opened: &Opened, export: &Export) {
+        if let Export::BadCondition = export {
+            report_condition(self.host, self.alloc, &opened.names, self.asked.cond);
+        }
+    }
+}
+
 impl<'a, H: Eprint> Task for Shrinking<'a, H> {
     ghost can = { λ _. Unit {0} };
 
@@ -128,6 +137,7 @@ impl<'a, H: Eprint> Task for Shrinking<'a, H> {
         N::Undo: Send + Sync,
     {
         let Some(cond) = condition_of(&opened.names, self.asked.cond.as_bytes()) else {
+            self.report(opened, &Export::BadCondition);
             return write_export(writer, &Export::BadCondition);
         };
         let events = match given_events::<N, R>(self.alloc, opened, true, true, reader, ahead) {
@@ -152,7 +162,10 @@ impl<'a, H: Eprint> Task for Shrinking<'a, H> {
             events,
             &mut listener,
         ) {
-            Ok(export) => write_export(writer, &export),
+            Ok(export) => {
+                self.report(opened, &export);
+                write_export(writer, &export)
+            }
             Err(_) => Status::MemoryWanted,
         }
     }
@@ -163,8 +176,8 @@ impl<'a, H: Eprint> Task for Shrinking<'a, H> {
 /// that the failure does not need.
 ///
 /// Writes `none` if the condition fails nowhere, `bad condition` with status 2 if the words write
-/// none or the scenario has no such host or probe, and `no input` with status 2 if no line of a
-/// script makes some event of the run. If a line of the script is no command, or its command is
+/// none or the scenario has no such host or probe (standard error says why), and `no input` with
+/// status 2 if no line of a script makes some event of the run. If a line of the script is no command, or its command is
 /// refused or not taken, reports that on standard error and writes nothing, with status 2. If the
 /// reader fails or memory is wanted, writes nothing either. Takes at most 255 subjects.
 pub fn write_shrunk<L: Subjects, H: Eprint, R: Read, W: Write>(

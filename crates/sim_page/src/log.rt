@@ -40,6 +40,20 @@ impl LogRange {
         }
         Some((from as u32, to as u32))
     }
+
+    /// Reports on standard error why a run of `count` events has none of these, if it lacks one. A
+    /// failure of standard error is ignored.
+    pub(crate) fn report<H: Eprint>(self, host: &H, count: u32) {
+        if self.within(count).is_some() {
+            return;
+        }
+        let from = self.from.unwrap_or(1);
+        let to = self.to.unwrap_or(u64::from(count));
+        let _told = eprintln!(host;
+            "range: --from is {from} and --to is {to}; they have to be in order, and within the \
+             {count} events of the run"
+        );
+    }
 }
 
 /// Returns the log of a run, or a bad range if the run has no such event. Fails only for want of

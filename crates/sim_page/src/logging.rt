@@ -50,6 +50,7 @@ impl<'a, H: Eprint> Task for Logging<'a, H> {
                 return write_export(writer, &Export::BadScript);
             }
         };
+        self.range.report(self.host, run.events().len());
         match log_of::<N>(self.alloc, names, &run, self.range) {
             Ok(export) => write_export(writer, &export),
             Err(_) => Status::MemoryWanted,
@@ -61,8 +62,8 @@ impl<'a, H: Eprint> Task for Logging<'a, H> {
 /// branch that is in the range: in words, or as a JSON object with its place, the clock after it,
 /// and its rows.
 ///
-/// Writes `bad range` with status 2 if the run has no such event. If a line of the script is no
-/// command, or its command is refused or not taken, reports that on standard error and writes
+/// Writes `bad range` with status 2 if the run has no such event; standard error says which it has.
+/// If a line of the script is no command, or its command is refused or not taken, reports that on standard error and writes
 /// nothing, with status 2. If the reader fails or memory is wanted, writes nothing either. Takes at
 /// most 255 subjects.
 pub fn write_log<L: Subjects, H: Eprint, R: Read, W: Write>(

@@ -6,7 +6,7 @@ ghost use Rattle.sim_export.specs.Exports.{WritesFor, Written};
 ghost use Rattle.sim_page.specs.Pages.{page_right};
 
 use crate::page::{Frame, Watched, page_of};
-use sim_cli::{Opened, Status, Subjects, Tally, Task, open, tell_fault};
+use sim_cli::{Opened, Status, Subjects, Tally, Task, open, report_condition, tell_fault};
 use sim_export::{Export, write_export};
 use sim_lines::Ahead;
 use sim_node::Node;
@@ -53,7 +53,7 @@ impl<'a, H: Eprint> Task for Paging<'a, H> {
         N::Undo: Send + Sync,
     {
         let alloc = self.alloc;
-        let watched = match watched_by(alloc, opened, self.asked.watch, N::PROBES) {
+        let watched = match watched_by(self.host, alloc, opened, self.asked.watch, N::PROBES) {
             Ok(watched) => watched,
             Err(WatchError::BadCondition) => return write_export(writer, &Export::BadCondition),
             Err(WatchError::NoMemory) => return Status::MemoryWanted,
@@ -95,8 +95,10 @@ impl From<AllocError> for WatchError {
     }
 }
 
-// Reads the conditions that these words write, separated by `;`.
-fn watched_by<'a>(
+// Reads the conditions that these words write, separated by `;`. Reports on standard error why one
+// is none.
+fn watched_by<'a, H: Eprint>(
+    host: &H,
     alloc: Global,
     opened: &Opened,
     words: Option<&'a str>,
@@ -110,7 +112,10 @@ fn watched_by<'a>(
     };
     for words in words.split(';') {
         let words = words.trim();
-        let cond = usable(opened, words, probes).ok_or(WatchError::BadCondition)?;
+        let Some(cond) = usable(opened, words, probes) else {
+            report_condition(host, alloc, &opened.names, words);
+            return Err(WatchError::BadCondition);
+        };
         let watching = Watched {
             words,
             cond,
@@ -134,7 +139,7 @@ fn usable(opened: &Opened, words: &str, probes: u8) -> Option<Cond> {
 /// one HTML file that loads nothing. docs/PAGE.md describes the page and its data.
 ///
 /// Writes `bad condition` with status 2 if the words write no condition, or if the scenario has no
-/// such host or probe. If a line of the script is no command, or its command is refused or not
+/// such host or probe; standard error says why. If a line of the script is no command, or its command is refused or not
 /// taken, reports that on standard error and writes nothing, with status 2. If the reader fails or
 /// memory is wanted, writes nothing either. Takes at most 255 subjects.
 pub fn write_page<L: Subjects, H: Eprint, R: Read, W: Write>(

@@ -9,6 +9,7 @@ use crate::Status;
 use crate::answer::{Answer, of_search, of_sweep};
 use crate::planned::sweep_runs;
 use crate::progress::Progress;
+use crate::reasons::{report_places, report_seeds, report_steps};
 use sim_cli::{Opened, tell_fault};
 use sim_job::{FaultPlan, Team};
 use sim_lines::Ahead;
@@ -104,6 +105,7 @@ where
     ensures { IfOk result (λ a. a ≡ search_answer (rules N.laws N.PROBES frozen.now.scenario)
         quest.now.cond frozen.now.events lo hi) }
 {
+    report_places(rt, lo, hi, frozen.events().len());
     let meters = meters(alloc, quest.hunt.team.workers)?;
     if quest.hunt.team.progress {
         let gate = Progress::new(rt, pieces_of(frozen, lo, hi));
@@ -130,6 +132,8 @@ where
         quest.now.opened.now.scenario)
         quest.now.cond first count events) }
 {
+    report_seeds(rt, first, count);
+    report_steps(rt, events);
     let scenario = &quest.opened.scenario;
     let cond = &quest.cond;
     let meters = meters(alloc, quest.hunt.team.workers)?;

@@ -21,7 +21,8 @@
 //! its input: the line of the scenario's fault, of the first failing place of the run that the
 //! script leaves, of the first failing seed, or of the reason to refuse the request. The status
 //! says which. If the writer fails, a beginning of that line was written. If the reader fails or
-//! memory is wanted, nothing was. No contract covers standard error.
+//! memory is wanted, nothing was. No contract covers standard error, where a sentence says why a
+//! condition or a range is bad (`reasons.rt`).
 //!
 //! Why it is built this way:
 //!
@@ -40,6 +41,7 @@ mod performing;
 mod planned;
 mod program;
 mod progress;
+mod reasons;
 mod searchable;
 
 pub use performing::perform;

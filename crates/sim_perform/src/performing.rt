@@ -14,6 +14,7 @@ ghost use Rattle.sim_perform.specs.Outcomes.{WritesAnswer, WritesOutcome};
 use crate::Status;
 use crate::answer::{Answer, Form, Swept, line_of};
 use crate::hunting::{Area, Hunt, PlannedRuns, Quest, hunt_nodes};
+use crate::reasons::report_answer;
 use crate::searchable::Searchable;
 use sim_cli::{Answered, Opened, Subject, open, play, play_strictly, write_text};
 use sim_export::{SeedRun, Shrink, write_run, write_shrunk};
@@ -184,7 +185,10 @@ fn hunt_scenario<L: Searchable, H: Threads + Wait + Sync + Clock + Eprint, R: Re
         Err(status) => return status,
     };
     match hunt_runs::<L, H, R>(rt, alloc, &opened, hunt, reader, &mut ahead) {
-        Ok(answer) => write_answer(alloc, writer, form, answer),
+        Ok(answer) => {
+            report_answer(rt, alloc, &opened, hunt, answer);
+            write_answer(alloc, writer, form, answer)
+        }
         Err(status) => status,
     }
 }
@@ -223,7 +227,8 @@ fn form_of(json: bool, swept: Swept) -> Form
 /// A strict play ends with the answer to the first line of its script that is at fault: one that is
 /// no command, or whose command is refused or not taken. A strict search or sweep, and each
 /// shrinking, writes nothing then. The line is reported on standard error, and the status is
-/// `BadRequest`. Progress, if asked for, is reported on standard error at most twice a second.
+/// `BadRequest`. Standard error also says why a condition or a range is bad. Progress, if asked for,
+/// is reported there at most twice a second.
 pub fn perform<L: Searchable, H: Threads + Wait + Sync + Clock + Eprint, R: Read, W: Write>(
     rt: &H,
     alloc: Global,

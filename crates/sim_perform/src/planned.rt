@@ -6,7 +6,8 @@ ghost use Rattle.sim_perform.specs.Hunts.{IsTeam, planned_answer};
 use crate::answer::{Answer, of_sweep};
 use crate::hunting::{PlannedRuns, Quest, meters};
 use crate::progress::Progress;
-use sim_export::plan_of;
+use crate::reasons::report_seeds;
+use sim_export::{plan_of, report_plan};
 use sim_node::{NoMemory, Node};
 use sim_sweep::{Course, OpenGate, sweep_planned};
 use sim_tally::Tally;
@@ -33,6 +34,8 @@ where
         (rules N.laws N.PROBES quest.now.opened.now.scenario) quest.now.cond given.now runs.now) }
 {
     let asked = runs.plan;
+    report_seeds(rt, runs.first, runs.count);
+    report_plan(rt, given.len(), runs.events, asked.quiet, asked.faults);
     let Some(plan) = plan_of(asked.faults, runs.events, asked.quiet, runs.at_end) else {
         return Ok(Answer::BadRange);
     };
