@@ -11,6 +11,9 @@ const SWEEP_EXAMPLES: &str = "\
 Example: simback sweep --progress 0 1000 500 \"a.first != 2\" examples/torn-commit.play
 Example: simback sweep --faults 8 0 1500 120 \"agree first unless 0\" examples/torn-commit.play";
 
+const PAGE_EXAMPLE: &str = "\
+Example: simback page --watch \"agree first unless 0\" examples/torn-commit.play > run.html";
+
 /// `--workers N`.
 fn workers<'a>(alloc: Global) -> Arg<'a>
     ensures { IsArgument line.workers result }
@@ -133,7 +136,7 @@ fn cond<'a>(alloc: Global) -> Arg<'a>
     Arg::new(alloc, "cond")
         .value_name("COND")
         .required(true)
-        .help("The condition, as one word, such as \"w.next <= 3\"")
+        .help("The condition, as one word in quotes, such as \"w.next <= 3\"")
 }
 
 /// `FILE`, the last word of each command, which is optional.
@@ -254,13 +257,13 @@ fn page<'a>(alloc: Global) -> Result<Command<'a>, AllocError>
 {
     Command::new(alloc, "page")
         .about("Play the script, and write its run as an HTML page to walk back and forth")
-        .after_help("Example: simback page examples/torn-commit.play > run.html")
+        .after_help(PAGE_EXAMPLE)
         .arg(optional_word(alloc, "title", "TEXT", "The heading of the page"))?
         .arg(optional_word(
             alloc,
             "watch",
             "COND",
-            "Conditions, as one word, with ; between them: the page shows where each fails",
+            "Conditions, as one word in quotes, with ; between: the page shows where each fails",
         ))?
         .arg(input(alloc))
 }

@@ -163,6 +163,7 @@ fn help_and_version(rt: HostRuntime) {
         "--workers <N>",
         "[default: 2]",
         "--progress",
+        "as one word in quotes",
         "Example: simback search ",
     ];
     assert!(rt; helps(&rt, &["simback", "search", "--help"], &search));
