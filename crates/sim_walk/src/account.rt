@@ -122,14 +122,30 @@ fn lead_of(alloc: Global, from: u32, to: u32) -> Result<String, NoMemory> {
     Ok(String::new(alloc))
 }
 
-// Returns the words after the lines of a way: the number of events that they omit.
-fn rest_of(alloc: Global, from: u32, to: u32) -> Result<String, NoMemory> {
+// Returns the words after the lines of a way: the number of events that they omit, and the line of
+// its last event.
+fn rest_of<N: Node<Meter = Tally> + Debug>(
+    alloc: Global,
+    run: &Run<'_, N>,
+    from: u32,
+    to: u32,
+) -> Result<String, NoMemory>
+where
+    N::Msg: Debug,
+{
+    let mut said = String::new(alloc);
     let last = from.saturating_add(MAX_TOLD);
     if last < to {
-        let (left, next) = (to - last, last.saturating_add(1));
-        return format!(in alloc; ".. and {left} more: `log {next} {to}` tells them\n");
+        let (left, next, end) = (to - last - 1, last.saturating_add(1), to - 1);
+        if left > 0 {
+            writeln!(
+                &mut said,
+                ".. and {left} more: `log {next} {end}` tells them"
+            )?;
+        }
+        run.tell(to, to, &mut said)?;
     }
-    Ok(String::new(alloc))
+    Ok(said)
 }
 
 /// Returns the account of the way of a branch to a place. Fails only for want of memory.
@@ -153,6 +169,6 @@ where
     let from = left.start(run.len());
     let lead = lead_of(alloc, from, to)?;
     let told = way_lines(alloc, &run, from, to)?;
-    let said = rest_of(alloc, from, to)?;
+    let said = rest_of(alloc, &run, from, to)?;
     Ok(Account { lead, told, said })
 }

@@ -433,7 +433,8 @@ place 28 clock 20
 22 clock 20: release a w
 23 clock 20: hold a w
 24 clock 20: release a w
-.. and 4 more: `log 25 28` tells them
+.. and 3 more: `log 25 27` tells them
+28 clock 20: release a w
 ";
 
 // A walk of this input writes `want` for these commands, and ends well.
