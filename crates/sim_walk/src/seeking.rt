@@ -11,6 +11,10 @@ use sim_world::{Event, Fault, World};
 use std::alloc::{AllocError, Global};
 use std::fmt::Debug;
 
+/// Why a search for the last place at which a condition held goes nowhere.
+const HOLDS_HERE: &str =
+    "the condition holds here: go forward, or `first COND` goes to where it first fails";
+
 /// Why there is no such place.
 #[derive(Clone, Copy, Debug, PartialEq, Eq)]
 pub(crate) enum SeekError {
@@ -148,10 +152,14 @@ where
             (span.first, "the condition holds at all kept places")
         }
         Sought::Held(cond) => {
-            let span = span_of(alloc, &run.frozen, here, Test::Holds(cond.get()))?;
+            let end = here.saturating_add(1);
+            let span = span_of(alloc, &run.frozen, end, Test::Holds(cond.get()))?;
+            if span.last == Some(here) {
+                return Err(SeekError::Nowhere(HOLDS_HERE));
+            }
             (
                 span.last,
-                "the condition fails at all places before this one",
+                "the condition fails at this place and at all before it",
             )
         }
     };

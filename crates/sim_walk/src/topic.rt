@@ -112,7 +112,7 @@ static TOPICS: [Topic; 35] = [
         name: "held",
         short: "",
         words: "COND",
-        what: "back to the last place at which the condition held",
+        what: "back to the last place at which the condition held, if it fails here",
         kind: Kind::Held,
     },
     Topic {

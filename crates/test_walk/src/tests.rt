@@ -125,6 +125,7 @@ held w.next <= 1
 first w.next <= 1
 first done w
 first z.next = 0
+held w.next <= 1
 event 3
 event 9
 g 2
@@ -197,19 +198,21 @@ back by 1; next is 3 clock 10: a gets Ping(1) from w (sent at 2): sends Pong(1) 
 place 1 clock 0
 back by 1; next is 2 clock 0: w starts: sends Ping(1) to a, due 10 (arrives at 3)
 > held w.next <= 1
-place 0 clock 0
-back by 1; next is 1 clock 0: a starts
+the condition holds here: go forward, or `first COND` goes to where it first fails
 > first w.next <= 1
 place 4 clock 20
-1 clock 0: a starts
 2 clock 0: w starts: sends Ping(1) to a, due 10 (arrives at 3)
 3 clock 10: a gets Ping(1) from w (sent at 2): sends Pong(1) to w, due 20 (arrives at 4)
 4 clock 20: w gets Pong(1) from a (sent at 3): sends Ping(2) to a, due 30 (arrives at 6)
 fails: w.next <= 1: w.next 2
 > first done w
 place 0 clock 0
-back by 4; next is 1 clock 0: a starts
+back by 3; next is 1 clock 0: a starts
 fails: done w
+> held w.next <= 1
+place 3 clock 10
+back by 1; next is 4 clock 20: w gets Pong(1) from a (sent at 3): sends Ping(2) to a, due \
+30 (arrives at 6)
 > first z.next = 0
 there is no such host
 hosts: a w
