@@ -125,7 +125,10 @@ impl Desk<'_> {
                     let names = &self.opened.names;
                     return account_of(self.alloc, names, book, branch, left, *place);
                 }
-                Reply::Refused(why) => self.known(N::PROBES).tell_refusal(*why, &mut said)?,
+                Reply::Refused(why) => {
+                    self.known(N::PROBES)
+                        .tell_refusal_at(*why, left, &mut said)?
+                }
                 Reply::Made(_) | Reply::Dropped(_) | Reply::Seen { .. } | Reply::Frozen(_) => {}
             },
             Err(why) => tell_not_taken(*why, &mut said)?,

@@ -76,8 +76,8 @@ impl From<AllocError> for OrderError {
     }
 }
 
-/// Returns the first word of a text, or an empty one, and the rest of the text.
-pub(crate) fn first_word(text: &str) -> (&str, &str) {
+// Returns the first word of a text, or an empty one, and the rest of the text.
+fn first_word(text: &str) -> (&str, &str) {
     let text = text.trim_matches(' ');
     match text.split_once(' ') {
         Some((word, rest)) => (word, rest.trim_start_matches(' ')),

@@ -1,9 +1,10 @@
 //! Sentences: why a command was refused, and why a line is no command.
-use crate::order::{OrderError, first_word};
+use crate::account::Departure;
+use crate::order::OrderError;
 use crate::topic::tell_names;
 use sim_book::{NotTaken, Refusal};
 use sim_node::NoMemory;
-use sim_script::{Expected, LineMistake, Names};
+use sim_script::{Expected, LineMistake, Names, tell_advice, tell_mistake, word_at};
 use std::alloc::Global;
 
 /// The names that a walk knows, and their numbers.
@@ -46,71 +47,61 @@ fn not_taken_sentence(why: NotTaken) -> &'static str {
 }
 
 impl Known<'_> {
-    /// Appends the names of the hosts.
-    pub(crate) fn tell_hosts(&self, said: &mut String) -> Result<(), NoMemory> {
-        said.push_str("hosts:")?;
-        for host in 0..self.hosts {
-            said.push(' ')?;
-            said.push_str(self.names.host_name(host))?;
-        }
-        said.push('\n')
-    }
-
-    /// Appends the names of the probes.
-    pub(crate) fn tell_probes(&self, said: &mut String) -> Result<(), NoMemory> {
-        said.push_str("probes:")?;
-        for probe in 0..self.probes {
-            said.push(' ')?;
-            said.push_str(self.names.probe_name(probe))?;
-        }
-        said.push('\n')
-    }
-
     /// Appends why a command was refused.
     pub(crate) fn tell_refusal(&self, why: Refusal, said: &mut String) -> Result<(), NoMemory> {
         let sentence = refusal_sentence(why);
         writeln!(said, "{sentence}")?;
         match why {
-            Refusal::UnknownHost => self.tell_hosts(said),
-            Refusal::BadCondition => self.tell_probes(said),
-            _ => Ok(()),
+            Refusal::UnknownHost => self.names.tell_hosts(said)?,
+            Refusal::BadCondition => self.names.tell_probes(said)?,
+            _ => return Ok(()),
         }
+        said.push('\n')
     }
 
-    // Appends the names that are possible in place of a mistake.
-    fn tell_expected(
+    /// Appends why a command was refused, on a branch that was at this place.
+    pub(crate) fn tell_refusal_at(
         &self,
-        word: &str,
-        expected: Expected,
+        why: Refusal,
+        at: Departure,
         said: &mut String,
     ) -> Result<(), NoMemory> {
-        match expected {
-            Expected::Command => tell_names(self.alloc, word, said),
-            Expected::Host => self.tell_hosts(said),
-            Expected::Probe => self.tell_probes(said),
-            Expected::Term | Expected::Value => {
-                self.tell_hosts(said)?;
-                self.tell_probes(said)
+        let (place, kept) = (at.place, at.kept);
+        match why {
+            Refusal::NotAtEnd => writeln!(
+                said,
+                "this is place {place} of {kept}, and events are added at the end: `goto {kept}` \
+                 goes there, `cut` drops the events past this place, `branch {place}` makes a \
+                 branch that ends here"
+            ),
+            Refusal::TooFar => {
+                let left = kept.saturating_sub(place);
+                writeln!(
+                    said,
+                    "there is no such place: this is place {place} of {kept}, so go back by at \
+                     most {place} or forward by at most {left}"
+                )
             }
-            _ => Ok(()),
+            _ => self.tell_refusal(why, said),
         }
     }
 
-    // Appends which word of a line is wrong.
-    fn tell_mistake(
+    // Appends which word of a line is wrong, and what is possible there.
+    fn tell_word(
         &self,
-        line: &str,
+        line: &[u8],
         mistake: LineMistake,
         said: &mut String,
     ) -> Result<(), NoMemory> {
-        let (number, expected) = (mistake.word, mistake.expected);
-        let word = word_of(line, number);
-        if word.is_empty() {
-            writeln!(said, "a word is missing at the end: expected {expected}")?;
-        } else {
-            writeln!(said, "word {number}, \"{word}\": expected {expected}")?;
+        tell_mistake(line, mistake, said)?;
+        said.push('\n')?;
+        match mistake.expected {
+            Expected::Command => {
+                let word = str::from_utf8(word_at(line, mistake.word)).unwrap_or("");
+                tell_names(self.alloc, word, said)
+            }
+            _ => tell_advice(self.names, line, mistake, ("", "\n"), said),
         }
-        self.tell_expected(word, expected, said)
     }
 
     /// Appends why a line makes no request. Fails only for want of memory.
@@ -121,9 +112,7 @@ impl Known<'_> {
         said: &mut String,
     ) -> Result<(), NoMemory> {
         match error {
-            OrderError::Mistake(mistake) => {
-                self.tell_mistake(str::from_utf8(line).unwrap_or(""), mistake, said)
-            }
+            OrderError::Mistake(mistake) => self.tell_word(line, mistake, said),
             OrderError::NotText => said.push_str("the line is no UTF-8\n"),
             OrderError::NoMemory => said.push_str("there was not enough memory\n"),
         }
@@ -134,13 +123,4 @@ impl Known<'_> {
 pub(crate) fn tell_not_taken(why: NotTaken, said: &mut String) -> Result<(), NoMemory> {
     let sentence = not_taken_sentence(why);
     writeln!(said, "{sentence}")
-}
-
-// Returns the word of a line with this number, from 1, or an empty text past the last.
-fn word_of(line: &str, number: u32) -> &str {
-    let (mut word, mut rest) = first_word(line);
-    for _ in 1..number {
-        (word, rest) = first_word(rest);
-    }
-    word
 }

@@ -7,7 +7,7 @@ ghost use Rattle.sim_cli.specs.Turns.{course_of};
 ghost use Rattle.sim_walk.specs.Growth.{Grows};
 ghost use Rattle.sim_walk.specs.Walks.{CarriesOut, account_text, text_of};
 
-use crate::account::Account;
+use crate::account::{Account, departure_of};
 use crate::desk::{Answer, Desk};
 use crate::order::{Order, Request, order_of};
 use crate::run::whereabouts;
@@ -64,10 +64,15 @@ impl<N: Node<Meter = Tally> + Debug> Walker<'_, N>
 where
     N::Msg: Debug,
 {
-    // Returns the prompt: the branch, its place, and the clock.
+    // Returns the prompt: the branch, its place, of how many events unless that is the end, and the
+    // clock.
     fn prompt_text(&self) -> Result<String, NoMemory> {
         let (alloc, branch) = (self.desk.alloc, self.branch);
+        let kept = departure_of(alloc, &self.book, branch)?.kept;
         match whereabouts(alloc, &self.book, branch)? {
+            Some((place, clock)) if place < kept => {
+                format!(in alloc; "{branch} @ {place} of {kept}, {clock} ms> ")
+            }
             Some((place, clock)) => format!(in alloc; "{branch} @ {place}, {clock} ms> "),
             None => format!(in alloc; "{branch}> "),
         }

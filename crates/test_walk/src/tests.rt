@@ -131,6 +131,7 @@ event 9
 g 2
 script
 branch 2
+s
 @1
 crash a
 @0 look
@@ -150,6 +151,7 @@ help first
 # a comment
 w w.next <= 1
 look probe w next
+w w.next<=1
 trace
 quit
 s
@@ -189,7 +191,7 @@ back by 3; next is 4 clock 20: w gets Pong(1) from a (sent at 3): sends Ping(2) 
 30 (arrives at 6)
 > f 9
 refused 5 TooFar
-there is no such place among the kept events
+there is no such place: this is place 3 of 6, so go back by at most 3 or forward by at most 3
 > last a
 place 2 clock 0
 back by 1; next is 3 clock 10: a gets Ping(1) from w (sent at 2): sends Pong(1) to w, due \
@@ -229,6 +231,10 @@ place 2 clock 0
 2 clock 0: w starts: sends Ping(1) to a, due 10 (arrives at 3)
 > script
 format = 1
+> s
+refused 4 NotAtEnd
+this is place 2 of 6, and events are added at the end: `goto 6` goes there, `cut` drops the \
+events past this place, `branch 2` makes a branch that ends here
 seed = \"0000000000000000000000000000000000000000000000000000000000000000\"
 protocol = \"echo\"
 tick = 100
@@ -299,6 +305,9 @@ OP is <, <=, =, !=, >= or >; VALUE is a number or HOST.PROBE.
 > # a comment
 > w w.next <= 1
 made 0
+> w w.next<=1
+word 2, \"w.next<=1\": expected a term of a condition
+an operator stands between spaces, as in `w.next <= 3`
 > look probe w next
 w next 1
 > trace
@@ -365,7 +374,7 @@ there is no such watch
 place 11 clock 30
 > forward
 refused 5 TooFar
-there is no such place among the kept events
+there is no such place: this is place 11 of 11, so go back by at most 11 or forward by at most 0
 > r
 a word is missing at the end: expected a number of 1 to 9 digits
 > r 1
@@ -502,7 +511,7 @@ fn a_prompt(rt: HostRuntime) -> Result<(), Fail> {
 `help` lists the commands.
 0 @ 4, 20 ms> place 3 clock 10
 back by 1; next is 4 clock 20: w gets Pong(1) from a (sent at 3): sends Ping(2) to a, due 30
-0 @ 3, 10 ms> \n";
+0 @ 3 of 4, 10 ms> \n";
     is_walked(&rt, rt.alloc(), PINGS, "b\n", true, want)
 }
 
