@@ -273,7 +273,7 @@ static TOPICS: [Topic; 35] = [
         name: "help",
         short: "?",
         words: "[COMMAND]",
-        what: "all commands, or one",
+        what: "an overview of the commands, or what one does",
         kind: Kind::Help,
     },
     Topic {
@@ -285,6 +285,26 @@ static TOPICS: [Topic; 35] = [
     },
 ];
 
+/// The commands by topic, on less than a screen of 24 lines.
+const OVERVIEW: &str = "\
+go on   step (s), run N (r), tick (t)
+move    back [N] (b), forward [N] (f), goto P (g), at T, rewind N
+find    cause (c), last H, first COND, held COND
+show    pending (p), event [P] (e), log [P [Q]], host H (h), disk H (d),
+        links (l), look [VIEW], trace, script
+faults  crash H, bounce H, hold A B, release A B, partition A B, repair A B,
+        cutoneway A B, repaironeway A B
+events  cut, branch P
+watches watch COND (w), unwatch W
+walk    help [COMMAND] (?), quit (q)
+
+`help COMMAND`, as `help first`, says what a command does. H, A and B are hosts,
+N is a number of events, P and Q are places, T is a time in ms, W is the number
+of a watch, and COND is a condition, as in `first w.next <= 3` (without quotes).
+A first word @1, as in `@1 step`, names branch 1; alone it goes there. An empty
+line is the last command again.
+";
+
 /// An explanation of conditions, for `help first` and its like.
 const CONDITION: &str = "\
 COND is 1 to 8 terms, joined by `and` and `or`. A term is one of:
@@ -293,7 +313,7 @@ COND is 1 to 8 terms, joined by `and` and `or`. A term is one of:
   all PROBE OP VALUE           agree PROBE unless N
   count PROBE OP VALUE OP K    agree PROBE by PROBE unless N
                                differ PROBE unless N
-OP is <, <=, =, !=, >= or >; VALUE is a number or HOST.PROBE.
+OP is <, <=, =, !=, >= or >, between spaces; VALUE is a number or HOST.PROBE.
 ";
 
 /// Returns the command with this name or short name.
@@ -313,19 +333,13 @@ fn tell_topic(topic: &Topic, said: &mut String) -> Result<(), AllocError> {
     writeln!(said, "{name:>12} {words:<9} {short:<2} {what}")
 }
 
-/// Appends the help for all commands, or for one.
+/// Appends an overview of all commands, or the help for one.
 pub(crate) fn tell_help(
     about: Option<&'static Topic>,
     said: &mut String,
 ) -> Result<(), AllocError> {
     let Some(topic) = about else {
-        for topic in &TOPICS {
-            tell_topic(topic, said)?;
-        }
-        return said.push_str(
-            "A first word @B, as in `@1 step`, names branch B; alone it goes there. \
-             An empty line is the last command again.\n",
-        );
+        return said.push_str(OVERVIEW);
     };
     tell_topic(topic, said)?;
     if topic.words == "COND" {

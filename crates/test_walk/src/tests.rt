@@ -301,7 +301,7 @@ COND is 1 to 8 terms, joined by `and` and `or`. A term is one of:
   all PROBE OP VALUE           agree PROBE unless N
   count PROBE OP VALUE OP K    agree PROBE by PROBE unless N
                                differ PROBE unless N
-OP is <, <=, =, !=, >= or >; VALUE is a number or HOST.PROBE.
+OP is <, <=, =, !=, >= or >, between spaces; VALUE is a number or HOST.PROBE.
 > # a comment
 > w w.next <= 1
 made 0
@@ -335,6 +335,7 @@ bounce w
 ? quit
 goto 0
 q
+?
 ";
 
 const OTHER_ANSWERS: &str = "\
@@ -387,6 +388,23 @@ place 13 clock 40
         quit           q  ends the walk, as the end of the input does
 > goto 0
 place 0 clock 0
+> ?
+go on   step (s), run N (r), tick (t)
+move    back [N] (b), forward [N] (f), goto P (g), at T, rewind N
+find    cause (c), last H, first COND, held COND
+show    pending (p), event [P] (e), log [P [Q]], host H (h), disk H (d),
+        links (l), look [VIEW], trace, script
+faults  crash H, bounce H, hold A B, release A B, partition A B, repair A B,
+        cutoneway A B, repaironeway A B
+events  cut, branch P
+watches watch COND (w), unwatch W
+walk    help [COMMAND] (?), quit (q)
+
+`help COMMAND`, as `help first`, says what a command does. H, A and B are hosts,
+N is a number of events, P and Q are places, T is a time in ms, W is the number
+of a watch, and COND is a condition, as in `first w.next <= 3` (without quotes).
+A first word @1, as in `@1 step`, names branch 1; alone it goes there. An empty
+line is the last command again.
 back by 13; next is 1 clock 0: a starts
 > q
 ";
