@@ -4,6 +4,8 @@
 //!   commands, a line each, from any reader to any writer. docs/WALK.md lists the commands.
 //! - A [`Style`] says whether to write a prompt, as for a terminal, or each command before its
 //!   answer.
+//! - [`shortened`] shortens the text of a node's state, in which a long list is mostly the same
+//!   element.
 //!
 //! Inside, a line becomes an order (`order.rt`) by the table of commands (`topic.rt`). The desk
 //! (`desk.rt`) carries it out on the book and returns an answer: the line that replies to a turn,
@@ -46,9 +48,11 @@ mod order;
 mod run;
 mod saying;
 mod seeking;
+mod shortening;
 mod showing;
 mod terms;
 mod topic;
 mod walking;
 
+pub use shortening::shortened;
 pub use walking::{Style, walk};

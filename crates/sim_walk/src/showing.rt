@@ -1,6 +1,7 @@
 //! Shows a place: pending occurrences, the hosts, their disks, and the links.
 ghost use Rattle.std.specs.Prelude.{◌<◌};
 
+use crate::shortening::shortened;
 use sim_disk::Disk;
 use sim_links::LinkState;
 use sim_log::Places;
@@ -153,7 +154,10 @@ where
 
     // Appends the state and the probes of a node.
     fn tell_node(&self, node: &N, said: &mut String) -> Result<(), NoMemory> {
-        writeln!(said, "state: {node:?}")?;
+        let state = format!(in self.alloc; "{node:?}")?;
+        let short = shortened(self.alloc, state.as_bytes())?;
+        let state = str::from_utf8(short.as_slice()).unwrap_or("");
+        writeln!(said, "state: {state}")?;
         said.push_str("probes:")?;
         for probe in 0..N::PROBES {
             let name = self.names.probe_name(probe);

@@ -5,11 +5,13 @@
 //!   leads to the cause, or report something else.
 //! - `commands`, `other_commands`: a command with a wrong answer, a short name that is not
 //!   accepted, and a mistake that is reported as another.
-//! - `a_long_way`: a move that reports more or fewer than 20 events, or omits the others silently.
-//! - `a_prompt`: a prompt with another branch, place or clock, or none.
+//! - `a_long_way`: a move that reports more or fewer than 20 events and the last, or omits the
+//!   others silently.
+//! - `a_prompt`: a prompt with another branch, place, number of events or clock, or none.
+//! - `a_state_with_long_lists`: a run of equal elements that stays, or that hides another element.
 //! - `a_fault_of_the_script`: a walk over a script at fault.
 use sim_cli::{Shipped, Status};
-use sim_walk::{Style, walk};
+use sim_walk::{Style, shortened, walk};
 use std::alloc::Global;
 use std::process::Abort;
 use std::test::Fail;
@@ -123,15 +125,15 @@ last a
 c
 held w.next <= 1
 first w.next <= 1
+held w.next <= 1
 first done w
 first z.next = 0
-held w.next <= 1
 event 3
 event 9
 g 2
+s
 script
 branch 2
-s
 @1
 crash a
 @0 look
@@ -149,9 +151,9 @@ held w.next
 last z
 help first
 # a comment
+w w.next<=1
 w w.next <= 1
 look probe w next
-w w.next<=1
 trace
 quit
 s
@@ -207,14 +209,14 @@ place 4 clock 20
 3 clock 10: a gets Ping(1) from w (sent at 2): sends Pong(1) to w, due 20 (arrives at 4)
 4 clock 20: w gets Pong(1) from a (sent at 3): sends Ping(2) to a, due 30 (arrives at 6)
 fails: w.next <= 1: w.next 2
-> first done w
-place 0 clock 0
-back by 3; next is 1 clock 0: a starts
-fails: done w
 > held w.next <= 1
 place 3 clock 10
 back by 1; next is 4 clock 20: w gets Pong(1) from a (sent at 3): sends Ping(2) to a, due \
 30 (arrives at 6)
+> first done w
+place 0 clock 0
+back by 3; next is 1 clock 0: a starts
+fails: done w
 > first z.next = 0
 there is no such host
 hosts: a w
@@ -229,12 +231,12 @@ there is no event 9; the last kept event is 6
 place 2 clock 0
 1 clock 0: a starts
 2 clock 0: w starts: sends Ping(1) to a, due 10 (arrives at 3)
-> script
-format = 1
 > s
 refused 4 NotAtEnd
 this is place 2 of 6, and events are added at the end: `goto 6` goes there, `cut` drops the \
 events past this place, `branch 2` makes a branch that ends here
+> script
+format = 1
 seed = \"0000000000000000000000000000000000000000000000000000000000000000\"
 protocol = \"echo\"
 tick = 100
@@ -303,11 +305,11 @@ COND is 1 to 8 terms, joined by `and` and `or`. A term is one of:
                                differ PROBE unless N
 OP is <, <=, =, !=, >= or >, between spaces; VALUE is a number or HOST.PROBE.
 > # a comment
-> w w.next <= 1
-made 0
 > w w.next<=1
 word 2, \"w.next<=1\": expected a term of a condition
 an operator stands between spaces, as in `w.next <= 3`
+> w w.next <= 1
+made 0
 > look probe w next
 w next 1
 > trace
@@ -333,9 +335,9 @@ r
 r 1
 bounce w
 ? quit
+?
 goto 0
 q
-?
 ";
 
 const OTHER_ANSWERS: &str = "\
@@ -386,8 +388,6 @@ place 13 clock 40
 13 clock 40: bounce w
 > ? quit
         quit           q  ends the walk, as the end of the input does
-> goto 0
-place 0 clock 0
 > ?
 go on   step (s), run N (r), tick (t)
 move    back [N] (b), forward [N] (f), goto P (g), at T, rewind N
@@ -405,6 +405,8 @@ N is a number of events, P and Q are places, T is a time in ms, W is the number
 of a watch, and COND is a condition, as in `first w.next <= 3` (without quotes).
 A first word @1, as in `@1 step`, names branch 1; alone it goes there. An empty
 line is the last command again.
+> goto 0
+place 0 clock 0
 back by 13; next is 1 clock 0: a starts
 > q
 ";
@@ -551,5 +553,15 @@ fn a_fault_of_the_script(rt: HostRuntime) -> Result<(), Fail> {
     );
     assert!(rt; ended == Status::BadRequest);
     assert!(rt; written.is_empty());
+    Ok(())
+}
+
+#[test]
+fn a_state_with_long_lists(rt: HostRuntime) -> Result<(), Fail> {
+    let state =
+        b"S { a: [0, 7, 0, 0, 0, 0], b: [(1, []), (1, []), (1, []), (1, [])], c: [2, 2, 2] }";
+    let want = b"S { a: [0, 7, 0 x 4], b: [(1, []) x 4], c: [2, 2, 2] }";
+    let short = shortened(rt.alloc(), state)?;
+    assert!(rt; short.as_slice() == want.as_slice());
     Ok(())
 }
