@@ -69,6 +69,9 @@ fn joins_operator(word: &[u8]) -> bool {
 // Returns advice for a mistake at a word, if there is any.
 fn hint_of(word: &[u8], expected: Expected) -> Option<&'static str> {
     match expected {
+        Expected::Term if matches!(word, [b'"' | b'\'', ..]) => {
+            Some("a condition is written without quotes here")
+        }
         Expected::Term | Expected::Operator | Expected::Value if joins_operator(word) => {
             Some("an operator stands between spaces, as in `w.next <= 3`")
         }

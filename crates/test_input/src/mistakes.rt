@@ -93,6 +93,7 @@ look
 /// Texts that are no condition of the scenario, and the last one that is.
 const BAD_CONDITIONS: &str = "
 w.next<=1
+\"up a\"
 up a and w.next <=1
 agree num
 agree frst unless 0
@@ -111,6 +112,7 @@ const WHY: &str = "\
 a word is missing at the end: expected a term of a condition; hosts: a b1 w; probes: next num val
 word 1, \"w.next<=1\": expected a term of a condition; an operator stands between spaces, as in \
 `w.next <= 3`
+word 1, \"\"up\": expected a term of a condition; a condition is written without quotes here
 word 5, \"<=1\": expected `<`, `<=`, `=`, `!=`, `>=` or `>`; an operator stands between spaces, as \
 in `w.next <= 3`
 a word is missing at the end: expected `unless` or `by`
