@@ -155,6 +155,11 @@ is_warm_past ks b past = elim (slice_get_cases ks b).1 [
 pub scenario_at : (probes : ℕ) (s : Scenario) (ks : List Kept) (b : ℕ) (k : Kept) → b < length ks → k ≡ get_or ks b k → AllKept probes s ks → k.tape.scenario ≡ s
 scenario_at probes s ks b k there at all = ap (λ (x : Kept). x.tape.scenario) at ∙ (all b k there).scenario
 
+-- the place of a branch is that of its tape
+pub place_at : (ks : List Kept) (b : ℕ) (k : Kept) → b < length ks → k ≡ get_or ks b k → (branch b (all_shown ks)).place ≡ k.tape.place
+place_at ks b k there at =
+    ap (λ (x : Branch). x.place) (get_or-map shown ks b k empty_branch there) ∙ ap (λ (x : Kept). x.tape.place) (sym at)
+
 module _ {State Msg : Type 0} (node : NodeLaws State Msg) (probes : ℕ) (s : Scenario) where
   -- the world of a tape is that of its branch
   pub headline_at : (ks : List Kept) (b : ℕ) (k : Kept) (w : World State Msg) → b < length ks → k ≡ get_or ks b k → AllKept probes s ks

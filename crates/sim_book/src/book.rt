@@ -147,6 +147,8 @@ impl<N: Node> Book<N> {
         ensures headline { IfSome result (λ w.
             IsWorldOf (rules N.laws N.PROBES self.now.scenario) (branch b (all_shown self.now.kept))
             w.now.world) }
+        ensures age { IfSome result (λ w.
+            w.now.age ≡ (branch b (all_shown self.now.kept)).place) }
         ensures scenario { IfSome result (λ w. w.now.scenario ≡ self.now.scenario) }
         ensures there { IsSome result ↔ IsTrue (is_warm b self.now.kept) }
     {
@@ -200,6 +202,21 @@ impl<N: Node> Book<N> {
             None => None,
             Some(kept) => Some(kept.tape.warm()),
         }
+    }
+
+    /// Returns the place of branch `b`, warm or cold: the number of kept events before it. Returns
+    /// `None` if there is no such branch. Allocates nothing.
+    pub fn place(&self, b: u32) -> Option<u32>
+        ensures there { IsSome result ↔ (b < length self.now.kept) }
+        ensures value { IfSome result (λ p. p ≡ (branch b (all_shown self.now.kept)).place) }
+        ensures within { IfSome result (λ p.
+            p ≤ length (branch b (all_shown self.now.kept)).events) }
+    {
+        if self.branches.len() <= b as usize {
+            return None;
+        }
+        let kept = &self.branches[b as usize];
+        Some(kept.tape.place())
     }
 
     /// Returns all kept events of branch `b`, which must exist, with the book's scenario. Makes no
