@@ -31,7 +31,7 @@ turned_more n a b c old new =
     record { turns = omega (arith, first, last); copies = new.copies ∙ old.copies; undos = new.undos ∙ old.undos }
 
 -- a larger number has no smaller quotient
-quotient_on : (m n k : ℕ) → 0 < k → m ≤ n → m / k ≤ n / k
+pub quotient_on : (m n k : ℕ) → 0 < k → m ≤ n → m / k ≤ n / k
 quotient_on m n k some le = let low = div-mul-le_self m k in le-div (m / k) n k some (omega (arith, low, le))
 
 -- a number between two of one interval
@@ -58,7 +58,7 @@ stretch_whole to h k low some within is past =
     ap (λ (m : ℕ). m % k) at ∙ mul-mod_left (h / k) k
 
 -- a checkpoint begins the interval after that of the place before it
-interval_next : (high k : ℕ) → 0 < k → 0 < high → high % k ≡ 0 → high / k ≡ (high - 1) / k + 1
+pub interval_next : (high k : ℕ) → 0 < k → 0 < high → high % k ≡ 0 → high / k ≡ (high - 1) / k + 1
 interval_next high k some up whole =
     let same : high - 1 + 1 ≡ high = omega (arith, up) in
     subst (λ (m : ℕ). m / k ≡ (high - 1) / k + 1) same

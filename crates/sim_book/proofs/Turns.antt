@@ -40,6 +40,8 @@ use Rattle.sim_book.specs.Book.{Branch, Book}
 use Rattle.sim_book.specs.Answer.{free_watch, run_addition, tick_addition, rewind_move, branch_after, reply_of, moved, is_idle, hosts_of_query, asks_no_probe}
 use Rattle.sim_book.specs.Kept.{branch_with}
 use Rattle.sim_book.specs.OnBranch.{IsTurnOn, refusal_on, reply_on, after_on}
+use Rattle.sim_book.specs.Keeps.{reach_rewound}
+use Rattle.sim_book.proofs.Reaching.{near_rewound, warm_rewound}
 
 module _ {State Msg : Type 0} (r : Rules State Msg) where
   pub refused_on : (book : Book) (x y : Branch) (c : Command) (why : Refusal) → refusal_on r book x c ≡ Some why → y ≡ x → IsTurnOn r book x c (reply.Refused why) y
@@ -386,25 +388,17 @@ run_none_keeps t w here is reached few = (
 )
 
 -- what a rewind does to the reach
-pub rewind_keeps : (t w u : Tape) (p here : ℕ) → w ≡ with_world true w.reach t → w.reach ≡ here → u ≡ with_world true u.reach (at p w)
-    → (w.place - u.place ≤ w.reach → u.reach ≡ w.reach - (w.place - u.place))
-    → (u.warm ≡ true) × (t.place - u.place ≤ here → u.reach ≡ here - (t.place - u.place))
-rewind_keeps t w u p here is reached gone reach = (
+pub rewind_keeps : (t w u : Tape) (p n : ℕ) → w ≡ with_world true w.reach t → w.reach ≡ reach_here t → u ≡ with_world true u.reach (at p w)
+    → u.reach ≡ reach_rewound (w.place - n) u.place w → (u.warm ≡ true) × (u.reach ≡ reach_rewound (t.place - n) u.place t)
+rewind_keeps t w u p n is reached gone reach = (
   ap (λ x. x.warm) gone,
-  λ near.
-      let old : w.place ≡ t.place = ap (λ x. x.place) is in
-      let lower : u.reach ≡ w.reach - (w.place - u.place) = reach (omega arith) in
-      omega (arith, old, reached, lower),
+  reach ∙ ap (λ (x : Tape). reach_rewound (x.place - n) u.place w) is ∙ warm_rewound t w (t.place - n) u.place is reached,
 )
 
-pub rewind_none_keeps : (t w : Tape) (here : ℕ) → w ≡ with_world true w.reach t → w.reach ≡ here
-    → (w.warm ≡ true) × (t.place - w.place ≤ here → w.reach ≡ here - (t.place - w.place))
-rewind_none_keeps t w here is reached = (
-  ap (λ x. x.warm) is,
-  λ near.
-      let old : w.place ≡ t.place = ap (λ x. x.place) is in
-      omega (arith, old, reached),
-)
+pub rewind_none_keeps : (t w : Tape) (n : ℕ) → w ≡ with_world true w.reach t → w.reach ≡ reach_here t → (w.warm ≡ true) × (w.reach ≡ reach_rewound (t.place - n) w.place t)
+rewind_none_keeps t w n is reached =
+    let warm : w.warm ≡ true = ap (λ x. x.warm) is in
+    (warm, near_rewound w w (t.place - n) warm (omega arith) (omega arith) ∙ warm_rewound t w (t.place - n) w.place is reached)
 
 module _ {State Msg : Type 0} (node : NodeLaws State Msg) (probes : ℕ) where
   -- something is pending where a step can happen

@@ -38,7 +38,7 @@ pub not_within : (p : ℕ) (t : Tape) → t.reach ≡ 0 → p < t.place → is_w
 not_within p t none below = past_reach p t (omega (arith, none, below))
 
 -- the reach of a world that is made anew
-reach_anew : (p : ℕ) (t : Tape) → is_within_reach p t ≡ false → is_near_ahead p t ≡ false → reach_at p t ≡ min t.scenario.window (p % t.scenario.interval)
+pub reach_anew : (p : ℕ) (t : Tape) → is_within_reach p t ≡ false → is_near_ahead p t ≡ false → reach_at p t ≡ min t.scenario.window (p % t.scenario.interval)
 reach_anew p t past far =
     ap (λ b. if b then t.reach - (t.place - p) else (if is_near_ahead p t then raised (p - t.place) t else min t.scenario.window (p % t.scenario.interval))) past
     ∙ ap (λ b. if b then raised (p - t.place) t else min t.scenario.window (p % t.scenario.interval)) far
@@ -121,7 +121,7 @@ module _ {State Msg : Type 0} (r : Rules State Msg) where
 
 module _ {State Msg : Type 0} (node : NodeLaws State Msg) (probes : ℕ) where
   -- where a look within the reach ends
-  found_between : (ws : List (Option Cond)) (t : Tape) (near : ℕ) (o : Option Found) → near ≤ t.place → IsLast node probes ws t (t.place - near) t.place o
+  pub found_between : (ws : List (Option Cond)) (t : Tape) (near : ℕ) (o : Option Found) → near ≤ t.place → IsLast node probes ws t (t.place - near) t.place o
       → (t.place - near ≤ place_found (t.place - near) o) × (place_found (t.place - near) o ≤ t.place)
   found_between ws t near None within h = (omega arith, omega arith)
   found_between ws t near (Some f) within h =

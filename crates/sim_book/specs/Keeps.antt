@@ -1,5 +1,6 @@
 -- What a command does to the warmth and the reach of its branch's tape.
-use Rattle.std.specs.Prelude.{◌≡◌, ℕ, ◌+◌, ◌-◌, ◌<◌, ◌≤◌, ◌≢◌, min, Bool, true, false, List, length}
+use Rattle.std.specs.Prelude.{◌≡◌, ℕ, ◌+◌, ◌-◌, ◌%◌, ◌==◌, ◌<◌, ◌≢◌, nat_le, nat_lt, min}
+use Rattle.std.specs.Prelude.{Bool, true, false, ◌&&◌, ◌||◌, if◌then◌else◌, List, length}
 use Rattle.std.specs.Prelude.{slice_index_or, IsTrue}
 use Rattle.sim_node.specs.Node.{NodeLaws}
 use Rattle.sim_world.specs.World.{Scenario}
@@ -16,11 +17,25 @@ use Rattle.sim_book.specs.Book.{branch_of}
 use Rattle.sim_book.specs.Answer.{is_idle, answer}
 use Rattle.sim_book.specs.Kept.{Kept, all_shown}
 
+-- whether a place past the reach ends a stretch: the next place has a checkpoint, or is within the
+-- reach
+abbrev pub ends_stretch : ℕ → Tape → Bool
+ends_stretch p t = ((p + 1) % t.scenario.interval == 0) || (p + 1 == t.place - reach_here t)
+
+-- The reach after a rewind that may go down to `low` and stops at p. Within the reach it falls by
+-- the events that are undone. Past it, it is that of a walk to p from the checkpoint at or below
+-- it; but a stretch is looked through without records, and where the last place of one stops the
+-- rewind before `low`, none is left.
+abbrev pub reach_rewound : ℕ → ℕ → Tape → ℕ
+reach_rewound low p t =
+    if nat_le (t.place - p) (reach_here t) then reach_here t - (t.place - p)
+    else if nat_lt low p && ends_stretch p t then 0
+    else min t.scenario.window (p % t.scenario.interval)
+
 -- The reach after a command that moves the place. It rises by one for each event added or walked
 -- forward, up to the window, and falls by one for each event walked back within the reach. On a
 -- cold tape a step, a fault, a run, a tick and a rewind first make the world at the place. After
--- any other jump the reach is that of the way there; after a rewind past the reach it is not
--- specified.
+-- any other jump the reach is that of the way there.
 abbrev pub Moves : Command → Tape → Tape → Type 0
 Moves (command.Step b) t u = IsTrue u.warm × (u.reach ≡ min t.scenario.window (reach_here t + 1))
 Moves (command.Fault b f) t u = IsTrue u.warm × (u.reach ≡ min t.scenario.window (reach_here t + 1))
@@ -36,8 +51,7 @@ Moves (command.Tick b) t u =
     IsTrue u.warm
     × (u.reach ≡ min t.scenario.window (reach_here t + (length u.events - length t.events)))
 Moves (command.Rewind b n) t u =
-    IsTrue u.warm
-    × (t.place - u.place ≤ reach_here t → u.reach ≡ reach_here t - (t.place - u.place))
+    IsTrue u.warm × (u.reach ≡ reach_rewound (t.place - n) u.place t)
 Moves (command.Cut b) t u = (u.warm ≡ t.warm) × (u.reach ≡ t.reach)
 Moves _ t u = Unit {0}
 

@@ -9,6 +9,7 @@ ghost use Rattle.sim_book.specs.Running.{IsLast, place_found, found_at};
 ghost use Rattle.sim_book.specs.Watches.{AreChecked, NoneFrom};
 ghost use Rattle.sim_tape.specs.Works.{OnlyTurns};
 ghost use Rattle.sim_book.specs.Works.{TakesBack, Looks, UndoesAtMost};
+ghost use Rattle.sim_book.specs.Keeps.{reach_rewound};
 
 use crate::{Stop, stops};
 use sim_node::{NoMemory, Node};
@@ -145,6 +146,7 @@ fn look_far<N: Node>(
     ensures last { IfOk result (λ found.
         IsLast N.laws N.PROBES watches.now tape.old to tape.old.place found) }
     ensures moved { IfOk result (λ found. IsMoved (place_found to found) tape.old tape.new) }
+    ensures reach { OnOk result (tape.new.reach ≡ reach_rewound to tape.new.place tape.old) }
     ensures looks { OnOk result (Looks (rules N.laws N.PROBES tape.old.scenario)
         tape.new.place tape.old.place tape.old
         (N.Meter.work meter.old) (N.Meter.work meter.new)) }
@@ -186,8 +188,8 @@ fn look_back<N: Node>(
         IsLast N.laws N.PROBES watches.now tape.old (tape.old.place - count) tape.old.place found) }
     ensures moved { IfOk result (λ found.
         IsMoved (place_found (tape.old.place - count) found) tape.old tape.new) }
-    ensures reach { OnOk result (tape.old.place - tape.new.place ≤ tape.old.reach →
-        tape.new.reach ≡ tape.old.reach - (tape.old.place - tape.new.place)) }
+    ensures reach { OnOk result (tape.new.reach
+        ≡ reach_rewound (tape.old.place - count) tape.new.place tape.old) }
     ensures work { OnOk result (tape.old.place - tape.new.place ≤ tape.old.reach
         → TakesBack (rules N.laws N.PROBES tape.old.scenario) (tape.old.place - tape.new.place)
         tape.new.place tape.old
@@ -235,8 +237,8 @@ fn go_back<N: Node>(
         why ≡ (rewind_on N.laws N.PROBES count watches.now tape.old).stop) }
     ensures ok { OnOk result (IsMoved
         (rewind_on N.laws N.PROBES count watches.now tape.old).place tape.old tape.new) }
-    ensures reach { OnOk result (tape.old.place - tape.new.place ≤ tape.old.reach →
-        tape.new.reach ≡ tape.old.reach - (tape.old.place - tape.new.place)) }
+    ensures reach { OnOk result (tape.new.reach
+        ≡ reach_rewound (tape.old.place - count) tape.new.place tape.old) }
     ensures work { OnOk result (tape.old.place - tape.new.place ≤ tape.old.reach
         → TakesBack (rules N.laws N.PROBES tape.old.scenario) (tape.old.place - tape.new.place)
         tape.new.place tape.old
@@ -271,8 +273,8 @@ pub(crate) fn rewind<N: Node>(
         why ≡ (rewind_on N.laws N.PROBES count watches.now tape.old).stop) }
     ensures ok { OnOk result (IsMoved
         (rewind_on N.laws N.PROBES count watches.now tape.old).place tape.old tape.new) }
-    ensures reach { OnOk result (tape.old.place - tape.new.place ≤ tape.old.reach →
-        tape.new.reach ≡ tape.old.reach - (tape.old.place - tape.new.place)) }
+    ensures reach { OnOk result (tape.new.reach
+        ≡ reach_rewound (tape.old.place - count) tape.new.place tape.old) }
     ensures work { OnOk result (tape.old.place - tape.new.place ≤ tape.old.reach
         → TakesBack (rules N.laws N.PROBES tape.old.scenario) (tape.old.place - tape.new.place)
         tape.new.place tape.old

@@ -22,12 +22,12 @@ returns-in-Ok-rewind-clause-turn g c = λ book.
 pub returns-then-count-eq0-clause-keeps : goal.returns-then-count-eq0-clause-keeps
 returns-then-count-eq0-clause-keeps g c =
     subst (λ (x : Reply). Keeps g.N.Node.laws g.N.Node.PROBES (command.Rewind c.args.b c.args.count) x c.args.tape.now c.make_warm.new.self) (sym c.moved.ensures)
-    (rewind_none_keeps c.args.tape.now c.make_warm.new.self (reach_here c.args.tape.now) c.in-Ok.ensures.ok c.in-Ok.ensures.reach)
+    (rewind_none_keeps c.args.tape.now c.make_warm.new.self c.args.count c.in-Ok.ensures.ok c.in-Ok.ensures.reach)
 
 pub returns-in-Ok-rewind-clause-keeps : goal.returns-in-Ok-rewind-clause-keeps
 returns-in-Ok-rewind-clause-keeps g c =
     subst (λ (x : Reply). Keeps g.N.Node.laws g.N.Node.PROBES (command.Rewind c.args.b c.args.count) x c.args.tape.now c.rewind.new.tape) (sym c.moved-in-Ok-rewind.ensures)
-    (rewind_keeps c.args.tape.now c.make_warm.new.self c.rewind.new.tape _ (reach_here c.args.tape.now) c.in-Ok.ensures.ok c.in-Ok.ensures.reach c.in-Ok-rewind.ensures.ok c.in-Ok-rewind.ensures.reach)
+    (rewind_keeps c.args.tape.now c.make_warm.new.self c.rewind.new.tape _ c.args.count c.in-Ok.ensures.ok c.in-Ok.ensures.reach c.in-Ok-rewind.ensures.ok c.in-Ok-rewind.ensures.reach)
 
 pub returns-then-count-eq0-clause-work : goal.returns-then-count-eq0-clause-work
 returns-then-count-eq0-clause-work g c =

@@ -2,10 +2,11 @@ use Rattle.std.proofs.Common.{◌≡◌, ℕ, ◌-◌, ◌≤◌, ap, ◌∙◌,
 use Rattle.std.proofs.lemmas.Result.{IfOk-weaker, on_ok_weaker}
 use Rattle.sim_world.specs.Events.{rules}
 use Rattle.sim_tape.specs.Tape.{Tape}
-use Rattle.sim_book.specs.Running.{IsLast}
+use Rattle.sim_book.specs.Running.{IsLast, place_found}
 use Rattle.sim_book.proofs.Rewinding.{none_so, none_kept, far_last}
 use Rattle.sim_book.proofs.Looking.{looks_jump, looks_back, moved_looks, far_looked, min_other}
 use Rattle.sim_book.proofs.Undoing.{min_both, near_undone, spent_far, undone_back}
+use Rattle.sim_book.proofs.Reaching.{back_rewound, near_rewound, near_to, far_rewound}
 use Rattle.sim_book.proofs.rewinds.look_back.Goals as goal
 
 pub returns-then-end-eq0-clause-last : goal.returns-then-end-eq0-clause-last
@@ -95,3 +96,38 @@ returns-clause-undos g c =
     let first = near_undone g.N.Node.laws g.N.Node.PROBES c.args.watches.now c.args.tape.now c.look_near.new.tape c.min-near.result c.in_ok-found.field-0 (W c.args.meter.now) (W c.look_near.new.meter)
     near c.reach-reach.ensures.within c.in_ok-found.ensures.last c.in_ok-found.ensures.moved c.in_ok-found.ensures.work in
     on_ok_weaker c.look_far.result (λ same. omega (arith, same, first)) c.look_far.ensures.undos
+
+pub returns-then-end-eq0-clause-reach : goal.returns-then-end-eq0-clause-reach
+returns-then-end-eq0-clause-reach g c =
+    let t = c.args.tape.now in
+    back_rewound t c.back.new.self (t.place - c.args.count) c.requires.warm (omega arith) (ap (λ (x : Tape). x.place) c.in_ok-back.ensures.ok) c.in_ok-back.ensures.reach
+
+pub returns-in-Some-clause-reach : goal.returns-in-Some-clause-reach
+returns-in-Some-clause-reach g c =
+    let t = c.args.tape.now in
+    let u = c.look_near.new.tape in
+    let near : c.min-near.result ≤ t.reach = omega (arith, (min_both c.args.count c.reach-reach.result c.min-near.result c.min-near.ensures).1, c.reach-reach.ensures.value) in
+    near_rewound t u (t.place - c.args.count) c.requires.warm
+    (near_to g.N.Node.laws g.N.Node.PROBES c.args.watches.now t u c.min-near.result c.in_ok-found.field-0 near c.reach-reach.ensures.within c.in_ok-found.ensures.last c.in_ok-found.ensures.moved)
+    c.in_ok-found.ensures.reach
+
+pub returns-then-near-count-clause-reach : goal.returns-then-near-count-clause-reach
+returns-then-near-count-clause-reach g c =
+    let t = c.args.tape.now in
+    let u = c.look_near.new.tape in
+    let near : c.min-near.result ≤ t.reach = omega (arith, (min_both c.args.count c.reach-reach.result c.min-near.result c.min-near.ensures).1, c.reach-reach.ensures.value) in
+    near_rewound t u (t.place - c.args.count) c.requires.warm
+    (near_to g.N.Node.laws g.N.Node.PROBES c.args.watches.now t u c.min-near.result c.in_ok-found.field-0 near c.reach-reach.ensures.within c.in_ok-found.ensures.last c.in_ok-found.ensures.moved)
+    c.in_ok-found.ensures.reach
+
+pub returns-clause-reach : goal.returns-clause-reach
+returns-clause-reach g c =
+    let t = c.args.tape.now in
+    let u = c.look_near.new.tape in
+    let few = (min_both c.args.count c.reach-reach.result c.min-near.result c.min-near.ensures).0 in
+    let same = min_other c.args.count c.reach-reach.result c.min-near.result c.min-near.ensures c.if-near-count.false ∙ c.reach-reach.ensures.value in
+    let none = spent_far g.N.Node.laws g.N.Node.PROBES t u c.min-near.result c.in_ok-found.field-0 c.in_default.is same c.reach-reach.ensures.within c.in_ok-found.ensures.moved c.in_ok-found.ensures.reach in
+    let place : u.place ≡ t.place - c.min-near.result = ap (λ (x : Tape). x.place) c.in_ok-found.ensures.moved ∙ ap (place_found (t.place - c.min-near.result)) c.in_default.is in
+    far_rewound g.N.Node.laws g.N.Node.PROBES c.args.watches.now t u c.look_far.new.tape c.min-near.result (t.place - c.args.count) (c.place.result - c.args.count) c.in_ok-found.field-0 c.look_far.result
+    c.requires.warm c.in_default.is same c.in_ok-found.ensures.moved none c.reach-reach.ensures.within (ap (λ (n : ℕ). n - c.args.count) c.place.ensures.value)
+    (omega (arith, place, few, c.place.ensures.value)) c.look_far.ensures.last c.look_far.ensures.moved c.look_far.ensures.reach

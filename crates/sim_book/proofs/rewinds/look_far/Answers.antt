@@ -1,12 +1,14 @@
-use Rattle.std.proofs.Common.{◌≡◌, ℕ, ◌+◌, ◌-◌, ◌<◌, ◌≤◌, ◌%◌, Option, Some, inl, refl, sym, ap, ◌∙◌, subst, arith}
+use Rattle.std.proofs.Common.{◌≡◌, ℕ, ◌+◌, ◌-◌, ◌<◌, ◌≤◌, ◌%◌, true, Option, Some, inl, refl, sym, ap, ◌∙◌, subst, arith}
 use Rattle.sim_world.specs.Events.{rules}
-use Rattle.sim_tape.specs.Tape.{Tape}
+use Rattle.sim_tape.specs.Tape.{Tape, with_world, at}
+use Rattle.sim_book.specs.Keeps.{reach_rewound}
 use Rattle.sim_book.specs.declared.rewinds.Found.{Found}
 use Rattle.sim_book.specs.Works.{Looks}
 use Rattle.sim_book.specs.Running.{IsLast, IsPast, IsLooked}
 use Rattle.sim_book.proofs.Rewinding.{none_so, past_none, stretch_on, past_more, last_lower, moved_to}
 use Rattle.sim_book.proofs.Looking.{looked_none, looked_all, jump_on, stretch_looked, found_looked}
 use Rattle.sim_book.proofs.Undoing.{not_within, spent_now, spent_more, spent_found, spent_end, undone_to}
+use Rattle.sim_book.proofs.Reaching.{jump_reach, stretch_reach, found_reach, end_of_rewind}
 use Rattle.sim_tape.proofs.Turning.{not_ahead}
 use Rattle.sim_book.proofs.rewinds.look_far.Goals as goal
 
@@ -20,6 +22,7 @@ loop-high-init g c =
       subst (λ (n : ℕ). IsLooked r c.args.to n t.place t.events w w) (sym c.place-high.ensures.value) (looked_none r c.args.to t.place t.events w),
       inl c.requires.spent,
       refl,
+      (λ _. refl, λ less. absurd (omega (arith, less, c.place-high.ensures.value))),
     )
 
 pub returns-in-Some-clause-last : goal.returns-in-Some-clause-last
@@ -89,6 +92,8 @@ loop-high-preserved g c =
           c.stretch_below-low.ensures.whole c.loop-high.invariant.1 c.in_ok-goto.ensures.undos c.in_ok-goto.ensures.past ends c.in_ok-found.ensures.work,
       spent_more c.args.to low n u v w out behind c.in_ok-goto.ensures.reach whole c.in_ok-found.ensures.spent c.in_ok-found.ensures.still place c.stretch_below-low.ensures.from,
       c.in_ok-found.ensures.work.undos ∙ (c.in_ok-goto.ensures.past out behind).undos ∙ c.loop-high.invariant.3,
+      stretch_reach t v w low high n (jump_reach t u v low past.new (spent_now c.args.to high u c.loop-high.invariant.2 c.loop-high-test.true) under c.in_ok-goto.ensures.reach)
+          place c.in_ok-found.ensures.still c.stretch_below-low.ensures.below past.below,
     )
 
 pub returns-clause-last : goal.returns-clause-last
@@ -144,3 +149,44 @@ returns-clause-undos g c =
     (spent_end c.args.to c.loop-high.high u c.loop-high.invariant.2 end)
     (λ warm same. (c.in_ok-goto-3.ensures.here warm same).2) (λ x y. (c.in_ok-goto-3.ensures.past x y).undos)
     ∙ c.loop-high.invariant.3
+
+pub returns-in-Some-clause-reach : goal.returns-in-Some-clause-reach
+returns-in-Some-clause-reach g c =
+    let t = c.args.tape.now in
+    let u = c.loop-high.tape in
+    let v = c.goto.new.self in
+    let w = c.last_failing.new.tape in
+    let x = c.goto-in-Some.new.self in
+    let low : ℕ = c.stretch_below-low.result in
+    let high : ℕ = c.loop-high.high in
+    let n : ℕ = high - 1 - low in
+    let p = c.in-Some.found.place in
+    let past = c.loop-high.invariant.0 in
+    let ends : low + n + 1 ≡ high = omega (arith, c.stretch_below-low.ensures.below) in
+    let under : low < u.place = omega (arith, c.stretch_below-low.ensures.below, past.ahead) in
+    let start = moved_to t u v u.place low past.new c.in_ok-goto.ensures.ok in
+    let place : v.place ≡ low = ap (λ (y : Tape). y.place) start in
+    let there = moved_to t v w low (v.place + n) start c.in_ok-found.ensures.moved ∙ ap (λ (q : ℕ). with_world true w.reach (at (q + n) t)) place in
+    let last = subst (λ (o : Option Found). IsLast g.N.Node.laws g.N.Node.PROBES c.args.watches.now v v.place (v.place + n + 1) o) c.in-Some.is c.in_ok-found.ensures.last in
+    let from : low ≤ p = omega (arith, last.from, place) in
+    let below : p < high = omega (arith, last.below, place, ends) in
+    let end : x.place ≡ p = ap (λ (y : Tape). y.place) c.in_ok-goto-2.ensures.ok in
+    let k : ℕ = c.interval-interval.result in
+    found_reach t v w x c.args.to low high n p k
+    c.interval-interval.ensures.some c.interval-interval.ensures.value c.requires.warm c.requires.spent ends past.below (λ less. c.loop-high.invariant.1.whole less c.loop-high-test.true)
+    c.stretch_below-low.ensures.same c.stretch_below-low.ensures.from c.stretch_below-low.ensures.whole
+    (jump_reach t u v low past.new (spent_now c.args.to high u c.loop-high.invariant.2 c.loop-high-test.true) under c.in_ok-goto.ensures.reach)
+    there c.in_ok-found.ensures.spent c.in_ok-found.ensures.still (λ warm same. (c.in_ok-goto-2.ensures.here warm same).1) c.in_ok-goto-2.ensures.reach from below
+    ∙ ap (λ (q : ℕ). reach_rewound c.args.to q t) (sym end)
+
+pub returns-clause-reach : goal.returns-clause-reach
+returns-clause-reach g c =
+    let t = c.args.tape.now in
+    let u = c.loop-high.tape in
+    let x = c.goto-2.new.self in
+    let past = c.loop-high.invariant.0 in
+    let end : c.loop-high.high ≡ c.args.to = omega (arith, c.loop-high-test.false, past.from) in
+    let there : x.place ≡ c.args.to = ap (λ (y : Tape). y.place) c.in_ok-goto-3.ensures.ok in
+    end_of_rewind t u x c.args.to c.loop-high.high c.requires.warm c.requires.spent past.new end past.ahead past.below c.loop-high.invariant.4
+    (spent_end c.args.to c.loop-high.high u c.loop-high.invariant.2 end) (λ warm same. (c.in_ok-goto-3.ensures.here warm same).1) c.in_ok-goto-3.ensures.reach
+    ∙ ap (λ (q : ℕ). reach_rewound c.args.to q t) (sym there)

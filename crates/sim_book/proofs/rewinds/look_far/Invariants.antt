@@ -2,6 +2,7 @@ use Rattle.std.proofs.Common.{◌≡◌}
 use Rattle.sim_world.specs.Events.{rules}
 use Rattle.sim_book.specs.Running.{IsPast, IsLooked}
 use Rattle.sim_book.proofs.Undoing.{IsSpent}
+use Rattle.sim_book.proofs.Reaching.{HasReach}
 use Rattle.sim_book.proofs.rewinds.look_far.Given as goal
 
 abbrev pub invariant-loop-high : goal.invariant-loop-high
@@ -12,6 +13,7 @@ invariant-loop-high g l =
     × IsLooked (rules g.N.Node.laws g.N.Node.PROBES t.scenario) l.to l.high t.place t.events (W l.initial.meter) (W l.meter)
     × IsSpent l.to l.high l.tape
     × ((W l.meter).undos ≡ (W l.initial.meter).undos)
+    × HasReach l.high t l.tape
 
 abbrev pub decreases-loop-high : goal.decreases-loop-high
 decreases-loop-high g l = l.high
