@@ -177,9 +177,10 @@ impl<'a, H: Eprint> Task for Shrinking<'a, H> {
 ///
 /// Writes `none` if the condition fails nowhere, `bad condition` with status 2 if the words write
 /// none or the scenario has no such host or probe (standard error says why), and `no input` with
-/// status 2 if no line of a script makes some event of the run. If a line of the script is no command, or its command is
-/// refused or not taken, reports that on standard error and writes nothing, with status 2. If the
-/// reader fails or memory is wanted, writes nothing either. Takes at most 255 subjects.
+/// status 2 if no line of a script makes some event of the run. If a line of the script is no
+/// command, or its command is refused or not taken, reports that on standard error and writes
+/// nothing, with status 2. If the reader fails or memory is wanted, writes nothing either. Takes at
+/// most 255 subjects.
 pub fn write_shrunk<L: Subjects, H: Eprint, R: Read, W: Write>(
     host: &H,
     alloc: Global,

@@ -63,9 +63,9 @@ impl<'a, H: Eprint> Task for Logging<'a, H> {
 /// and its rows.
 ///
 /// Writes `bad range` with status 2 if the run has no such event; standard error says which it has.
-/// If a line of the script is no command, or its command is refused or not taken, reports that on standard error and writes
-/// nothing, with status 2. If the reader fails or memory is wanted, writes nothing either. Takes at
-/// most 255 subjects.
+/// If a line of the script is no command, or its command is refused or not taken, reports that on
+/// standard error and writes nothing, with status 2. If the reader fails or memory is wanted,
+/// writes nothing either. Takes at most 255 subjects.
 pub fn write_log<L: Subjects, H: Eprint, R: Read, W: Write>(
     host: &H,
     alloc: Global,

@@ -139,9 +139,9 @@ fn usable(opened: &Opened, words: &str, probes: u8) -> Option<Cond> {
 /// one HTML file that loads nothing. docs/PAGE.md describes the page and its data.
 ///
 /// Writes `bad condition` with status 2 if the words write no condition, or if the scenario has no
-/// such host or probe; standard error says why. If a line of the script is no command, or its command is refused or not
-/// taken, reports that on standard error and writes nothing, with status 2. If the reader fails or
-/// memory is wanted, writes nothing either. Takes at most 255 subjects.
+/// such host or probe; standard error says why. If a line of the script is no command, or its
+/// command is refused or not taken, reports that on standard error and writes nothing, with status
+/// 2. If the reader fails or memory is wanted, writes nothing either. Takes at most 255 subjects.
 pub fn write_page<L: Subjects, H: Eprint, R: Read, W: Write>(
     host: &H,
     alloc: Global,

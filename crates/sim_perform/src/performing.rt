@@ -227,8 +227,8 @@ fn form_of(json: bool, swept: Swept) -> Form
 /// A strict play ends with the answer to the first line of its script that is at fault: one that is
 /// no command, or whose command is refused or not taken. A strict search or sweep, and each
 /// shrinking, writes nothing then. The line is reported on standard error, and the status is
-/// `BadRequest`. Standard error also says why a condition or a range is bad. Progress, if asked for,
-/// is reported there at most twice a second.
+/// `BadRequest`. Standard error also says why a condition or a range is bad. Progress, if asked
+/// for, is reported there at most twice a second.
 pub fn perform<L: Searchable, H: Threads + Wait + Sync + Clock + Eprint, R: Read, W: Write>(
     rt: &H,
     alloc: Global,

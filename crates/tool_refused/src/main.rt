@@ -7,10 +7,10 @@
 //!
 //! Why it is built this way:
 //!
-//! - No contract can say that memory was refused, so a body that gives up is still proved. Here each
-//!   command and each job must succeed when it is given again.
-//! - `rt try --fail-alloc N` refuses the allocation of number N, and `1..` each in turn. All of these
-//!   runs must print the same text.
+//! - No contract can say that memory was refused, so a body that gives up is still proved. Here
+//!   each command and each job must succeed when it is given again.
+//! - `rt try --fail-alloc N` refuses the allocation of number N, and `1..` each in turn. All of
+//!   these runs must print the same text.
 #![tactic(auto)]
 
 mod book;
