@@ -1,8 +1,10 @@
 -- Where a turn moved a branch: to a place that is one of its own.
-use Rattle.std.proofs.Common.{◌≡◌, ◌∙◌, ℕ, ◌<◌, ◌≤◌, List, ◌++◌, length, set, Option, Some, None, refl, sym, ap, subst, inl, inr, arith}
-use Rattle.std.proofs.lemmas.List.{length-set, length-append, get_or-map, get_or_append_left, get_or-set_same}
+use Rattle.std.proofs.Common.{◌≡◌, ◌∙◌, ℕ, ◌<◌, ◌≤◌, true, false, List, [], ◌∷◌, ◌++◌, length, set, Option, Some, None, refl, sym, ap, subst, inl, inr, arith}
+use Rattle.std.proofs.lemmas.Bool.{cases_lt}
+use Rattle.std.proofs.lemmas.List.{length-set, length-append, get_or-map, length-map, length-take-le, get_or_append_left, get_or-set_same, get_or_past}
 use Rattle.sim_world.specs.World.{Scenario}
 use Rattle.sim_world.specs.Events.{Rules}
+use Rattle.sim_world.specs.declared.Event.TheVariants as event
 use Rattle.sim_tape.specs.Tape.{Frozen}
 use Rattle.sim_book.specs.declared.Command.{Command}
 use Rattle.sim_book.specs.declared.Command.TheVariants as command
@@ -13,7 +15,7 @@ use Rattle.sim_book.specs.declared.Reply.TheVariants as reply
 use Rattle.sim_book.specs.declared.Stop.{Stop}
 use Rattle.sim_book.specs.Book.{Branch, Book, branch, branch_of, with_branch, empty_branch}
 use Rattle.sim_book.specs.Kept.{Kept, shown, all_shown, first_kept}
-use Rattle.sim_book.specs.Answer.{refusal_of, branch_after, branches_made, reply_of, answer_by, after_by}
+use Rattle.sim_book.specs.Answer.{tick_addition, run_addition, refusal_of, branch_after, branches_made, reply_of, answer_by, after_by}
 use Rattle.sim_book.specs.History.{IsTurn}
 use Rattle.sim_book.specs.Freezing.{IsWhole}
 use Rattle.sim_book.specs.Headline.{AreBranches}
@@ -78,6 +80,56 @@ module _ {State Msg : Type 0} (r : Rules State Msg) where
   moved_within c old new (reply.Seen place view) all turn = tt
   moved_within c old new (reply.Refused why) all turn = tt
   moved_within c old new (reply.Frozen list) all turn = tt
+
+module _ {State Msg : Type 0} (r : Rules State Msg) where
+  -- the place of a branch is one of its own
+  pub place_in : (book : Book) (b : ℕ) → AreBranches r book → (branch b book).place ≤ length (branch b book).events
+  place_in book b all = elim (cases_lt b (length book)) [
+    | inl there ↦ (all b empty_branch there).within
+    | inr past ↦ subst (λ (x : Branch). x.place ≤ length x.events) (sym (get_or_past book b empty_branch past)) (omega arith)
+  ]
+
+  -- a command keeps the events up to the place of its branch
+  keeps_place : (c : Command) (x : Branch) → x.place ≤ length x.events → x.place ≤ length (branch_after r c x).events
+  keeps_place (command.Step b) x h = omega (arith, h, length-append x.events (event.Step ∷ []))
+  keeps_place (command.Tick b) x h = omega (arith, h, length-append x.events (tick_addition r x).events)
+  keeps_place (command.Run b n) x h = omega (arith, h, length-append x.events (run_addition r n x).events)
+  keeps_place (command.Fault b f) x h = omega (arith, h, length-append x.events (event.Fault f ∷ []))
+  keeps_place (command.Back b n) x h = h
+  keeps_place (command.Forward b n) x h = h
+  keeps_place (command.Goto b n) x h = h
+  keeps_place (command.Rewind b n) x h = h
+  keeps_place (command.Cut b) x h = omega (arith, length-take-le x.place x.events h)
+  keeps_place (command.Branch b n) x h = h
+  keeps_place (command.Watch b q) x h = h
+  keeps_place (command.Unwatch b q) x h = h
+  keeps_place (command.Look b q) x h = h
+  keeps_place (command.Freeze b) x h = h
+
+  keeps_by : (o : Option Refusal) (c : Command) (old new : Book) → refusal_of r c old ≡ o → (branch (branch_of c) old).place ≤ length (branch (branch_of c) old).events
+      → new ≡ after_by r o c old → (branch (branch_of c) old).place ≤ length (branch (branch_of c) new).events
+  keeps_by (Some why) c old new free h n = subst (λ (m : Book). (branch (branch_of c) old).place ≤ length (branch (branch_of c) m).events) (sym n) h
+  keeps_by None c old new free h n =
+      let b : ℕ = branch_of c in
+      let x : Branch = branch b old in
+      let is_new : branch b new ≡ branch_after r c x = ap (branch b) n ∙ here r b (branch_after r c x) old (branches_made r c x) (inside r c old free) in
+      subst (λ (y : Branch). x.place ≤ length y.events) (sym is_new) (keeps_place c x h)
+
+  -- so does a turn
+  pub stays_within : (c : Command) (old new : Book) (given : Reply) → (branch (branch_of c) old).place ≤ length (branch (branch_of c) old).events → IsTurn r old c given new
+      → (branch (branch_of c) old).place ≤ length (branch (branch_of c) new).events
+  stays_within c old new given h turn = elim turn [
+    | inl a ↦ keeps_by (refusal_of r c old) c old new refl h a.1
+    | inr m ↦ subst (λ (m : Book). (branch (branch_of c) old).place ≤ length (branch (branch_of c) m).events) (sym m.3) h
+  ]
+
+-- a branch that is not there
+pub not_there : (kept : List Kept) (b : ℕ) → (b < length kept → false ≡ true) → length kept ≤ b
+not_there kept b h = elim (cases_lt b (length kept)) [ inl there ↦ absurd (let e : false ≡ true = h there in cc) | inr past ↦ past ]
+
+-- what stands in its place
+pub nowhere : (kept : List Kept) (b : ℕ) → length kept ≤ b → branch b (all_shown kept) ≡ empty_branch
+nowhere kept b past = get_or_past (all_shown kept) b empty_branch (omega (arith, past, length-map kept shown))
 
 -- the events of a branch that is there
 pub events_here : (s : Scenario) (kept : List Kept) (b : ℕ) (run : Frozen) → IsWhole s kept b (Some run) → run.events ≡ (branch b (all_shown kept)).events

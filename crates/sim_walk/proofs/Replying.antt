@@ -1,5 +1,5 @@
 -- The answer to an order, by what was done for it.
-use Rattle.std.specs.Prelude.{◌≡◌, ℕ, length, Result, Ok, string_bytes}
+use Rattle.std.specs.Prelude.{◌≡◌, ℕ, Result, Ok, string_bytes}
 use Rattle.std.proofs.Common.{subst}
 use Rattle.sim_node.specs.Node.{NodeLaws}
 use Rattle.sim_world.specs.World.{Scenario}
@@ -19,12 +19,12 @@ use Rattle.sim_walk.specs.Walks.{TakesTurn}
 -- a turn, and the answer to it
 pub answered : {State Msg E : Type 0} (node : NodeLaws State Msg) (probes : ℕ) (names : Names) (old new : BookView) (asked : Command) (b n : ℕ)
     (turn : Result Entry NotTaken) (a : Answer) → new.scenario ≡ old.scenario → b ≡ branch_of asked
-    → n ≡ length (branch b (all_shown old.kept)).events → Takes (rules node probes old.scenario) (course_of old) asked turn (course_of new)
+    → n ≡ (branch b (all_shown old.kept)).place → Takes (rules node probes old.scenario) (course_of old) asked turn (course_of new)
     → string_bytes a.reply ≡ turn_line names turn
     → Accounts (rules node probes new.scenario) n (branch b (all_shown new.kept)).events turn a.account.told.items
     → TakesTurn (rules node probes old.scenario) names {E = E} (course_of old) asked (Ok a) (course_of new)
-answered node probes names old new asked b n turn a same of count t reply told =
+answered node probes names old new asked b n turn a same of place t reply told =
     let told_of = subst (λ (s : Scenario). Accounts (rules node probes s) n (branch b (all_shown new.kept)).events turn a.account.told.items) same told in
-    let told_on = subst (λ (m : ℕ). Accounts (rules node probes old.scenario) m (branch b (all_shown new.kept)).events turn a.account.told.items) count told_of in
-    let here = subst (λ (k : ℕ). Accounts (rules node probes old.scenario) (length (branch k (all_shown old.kept)).events) (branch k (all_shown new.kept)).events turn a.account.told.items) of told_on in
+    let told_on = subst (λ (m : ℕ). Accounts (rules node probes old.scenario) m (branch b (all_shown new.kept)).events turn a.account.told.items) place told_of in
+    let here = subst (λ (k : ℕ). Accounts (rules node probes old.scenario) (branch k (all_shown old.kept)).place (branch k (all_shown new.kept)).events turn a.account.told.items) of told_on in
     record { turn = turn; takes = t; told = (reply, here) }

@@ -1,16 +1,16 @@
 -- The account of a way, by its lines.
-use Rattle.std.proofs.Common.{◌≡◌, ℕ, ◌+◌, ◌<◌, ◌≤◌, min, false, List, length, Some, sym, subst}
+use Rattle.std.proofs.Common.{◌≡◌, ℕ, ◌+◌, ◌≤◌, min, false, List, [], length, Some, sym, ap, subst, arith}
 use Rattle.sim_node.specs.Node.{NodeLaws}
 use Rattle.sim_world.specs.declared.Event.{Event}
 use Rattle.sim_world.specs.World.{Scenario}
-use Rattle.sim_world.specs.Events.{rules}
+use Rattle.sim_world.specs.Events.{Rules, rules}
 use Rattle.sim_tape.specs.Tape.{Frozen}
-use Rattle.sim_book.specs.Book.{branch}
+use Rattle.sim_book.specs.Book.{Branch, branch}
 use Rattle.sim_book.specs.Kept.{Kept, all_shown}
 use Rattle.sim_book.specs.Freezing.{IsWhole}
 use Rattle.sim_log.specs.Lines.{AreLines}
 use Rattle.sim_walk.specs.Accounts.{told_count, IsAccount}
-use Rattle.sim_walk.proofs.Moving.{events_here}
+use Rattle.sim_walk.proofs.Moving.{events_here, nowhere}
 
 module _ {State Msg : Type 0} (node : NodeLaws State Msg) (probes : ℕ) (s : Scenario) (kept : List Kept) (b : ℕ) (run : Frozen) (whole : IsWhole s kept b (Some run)) where
   -- a place of the branch is one of its run
@@ -18,14 +18,20 @@ module _ {State Msg : Type 0} (node : NodeLaws State Msg) (probes : ℕ) (s : Sc
   place_within to h = subst (λ (es : List Event). to ≤ length es) (sym (events_here s kept b run whole)) h
 
   -- the lines of the run tell the way of the branch
-  pub way_told : (n from to : ℕ) (told : List ℕ) → (n < length run.events → from ≡ n)
+  pub way_told : (from to : ℕ) (told : List ℕ)
       → AreLines (rules node probes run.scenario) run.events false (min from to + 1) (told_count from to) told
-      → IsAccount (rules node probes s) n (branch b (all_shown kept)).events to told
-  way_told n from to told added lines =
-      let same = events_here s kept b run whole in
+      → IsAccount (rules node probes s) from (branch b (all_shown kept)).events to told
+  way_told from to told lines =
       let of = subst (λ (x : Scenario). AreLines (rules node probes x) run.events false (min from to + 1) (told_count from to) told) whole.1 lines in
-      record {
-        from = from;
-        added = λ more. added (subst (λ (es : List Event). n < length es) (sym same) more);
-        lines = subst (λ (es : List Event). AreLines (rules node probes s) es false (min from to + 1) (told_count from to) told) same of;
-      }
+      subst (λ (es : List Event). AreLines (rules node probes s) es false (min from to + 1) (told_count from to) told) (events_here s kept b run whole) of
+
+-- where there is no branch there is no way
+pub no_way : {State Msg : Type 0} (r : Rules State Msg) (kept : List Kept) (b from to : ℕ) (told : List ℕ) → length kept ≤ b → from ≤ length (branch b (all_shown kept)).events
+    → to ≤ length (branch b (all_shown kept)).events → told ≡ [] → IsAccount r from (branch b (all_shown kept)).events to told
+no_way r kept b from to told past start end none =
+    let few : length (branch b (all_shown kept)).events ≡ 0 = ap (λ (x : Branch). length x.events) (nowhere kept b past) in
+    let first : 0 ≡ from = omega (arith, few, start) in
+    let last : 0 ≡ to = omega (arith, few, end) in
+    let es : List Event = (branch b (all_shown kept)).events in
+    let P : ℕ → ℕ → Type 0 = λ m n. IsAccount r m es n told in
+    subst (λ (m : ℕ). P m to) first (subst (λ (n : ℕ). P 0 n) last none)

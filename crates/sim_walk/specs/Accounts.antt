@@ -19,23 +19,21 @@ abbrev pub told_count : ℕ → ℕ → ℕ
 told_count from to = if nat_lt to from then 1 else min most_told (to - from)
 
 module _ {State Msg : Type 0} (r : Rules State Msg) where
-  -- The account of the way of a branch to a place: a line in words for each event that it passes,
-  -- at most 20; for a way back, the line of the next event. If more events are kept than before,
-  -- the way begins at the first new one.
-  pub record IsAccount (kept : ℕ) (events : List Event) (to : ℕ) (told : Text) : Type 0 where
-    pub from : ℕ
-    pub added : kept < length events → from ≡ kept
-    pub lines : AreLines r events false (min from to + 1) (told_count from to) told
+  -- The account of the way of a branch from one place to another: a line in words for each event
+  -- that it passes, at most 20; for a way back, the line of the next event.
+  abbrev pub IsAccount : ℕ → List Event → ℕ → Text → Type 0
+  IsAccount from events to told =
+      AreLines r events false (min from to + 1) (told_count from to) told
 
   -- the account of a reply: of the way to the place that it names, or nothing
   abbrev pub AccountsFor : ℕ → List Event → Reply → Text → Type 0
-  AccountsFor kept events (Moved place clock why) told = IsAccount kept events place told
-  AccountsFor kept events _ told = told ≡ []
+  AccountsFor from events (Moved place clock why) told = IsAccount from events place told
+  AccountsFor from events _ told = told ≡ []
 
   -- the account of a turn; it is empty if the turn was not taken
   abbrev pub Accounts : ℕ → List Event → Result Entry NotTaken → Text → Type 0
-  Accounts kept events (Ok e) told = AccountsFor kept events e.reply told
-  Accounts kept events (Err why) told = told ≡ []
+  Accounts from events (Ok e) told = AccountsFor from events e.reply told
+  Accounts from events (Err why) told = told ≡ []
 
 -- the place that a reply names, if any, is within the run of these events
 abbrev pub IsWithinBy : Reply → List Event → Type 0

@@ -37,14 +37,15 @@ text_by (Ok a) = text_of a
 text_by (Err e) = no_memory
 
 module _ {State Msg : Type 0} (r : Rules State Msg) (names : Names) where
-  -- A turn of the book carried out a command. The answer has the line of the turn, and its account;
-  -- without memory there is no answer.
+  -- A turn of the book carried out a command. The answer has the line of the turn, and the account
+  -- of the way from the branch's place before the turn: the end, where events were added. Without
+  -- memory there is no answer.
   pub record TakesTurn {E : Type 0} (old : Course) (asked : Command) (answer : Result Answer E)
       (new : Course) : Type 0 where
     pub turn : Result Entry NotTaken
     pub takes : Takes r old asked turn new
     pub told : IfOk answer (λ a. (string_bytes a.reply ≡ turn_line names turn)
-        × Accounts r (length (branch (branch_of asked) old.branches).events)
+        × Accounts r (branch (branch_of asked) old.branches).place
         (branch (branch_of asked) new.branches).events
         turn a.account.told.items)
 

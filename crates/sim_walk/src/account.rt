@@ -6,7 +6,7 @@ ghost use Rattle.sim_book.specs.Kept.{all_shown};
 ghost use Rattle.sim_log.specs.Lines.{AreLines};
 ghost use Rattle.sim_walk.specs.Accounts.{IsAccount, told_count};
 
-use crate::run::{Run, frozen_of, place_of};
+use crate::run::Run;
 use sim_book::Book;
 use sim_cli::Tally;
 use sim_node::{NoMemory, Node};
@@ -16,48 +16,6 @@ use std::fmt::Debug;
 
 /// The most events whose lines follow a move.
 const MAX_TOLD: u32 = 20;
-
-/// A branch before a turn.
-#[derive(Clone, Copy, Debug, PartialEq, Eq)]
-pub(crate) struct Departure {
-    /// The number of events that it keeps.
-    pub(crate) kept: u32,
-    /// Its place.
-    pub(crate) place: u32,
-}
-
-impl Departure {
-    // Returns the place where the account of its way begins, if `len` events are kept now: if
-    // events were added, they are the way.
-    fn start(self, len: u32) -> u32
-        ensures within { result ≤ len }
-        ensures added { self.kept < len → result ≡ self.kept }
-    {
-        if self.kept < len {
-            self.kept
-        } else {
-            self.place.min(len)
-        }
-    }
-}
-
-/// Returns a branch before a turn; one that does not exist keeps no events. Fails only for want of
-/// memory.
-pub(crate) fn departure_of<N: Node<Meter = Tally>>(
-    alloc: Global,
-    book: &Book<N>,
-    branch: u32,
-) -> Result<Departure, NoMemory>
-    ensures { IfOk result
-        (λ d. d.kept ≡ length (branch_in branch (all_shown book.now.kept)).events) }
-{
-    let Some(run) = frozen_of(alloc, book, branch)? else {
-        return Ok(Departure { kept: 0, place: 0 });
-    };
-    let kept = run.events().len();
-    let place = place_of(alloc, book, branch).unwrap_or(kept);
-    Ok(Departure { kept, place })
-}
 
 /// The account of a turn: the lines of events, and words before and after them.
 #[derive(Drop)]
@@ -148,25 +106,26 @@ where
     Ok(said)
 }
 
-/// Returns the account of the way of a branch to a place. Fails only for want of memory.
+/// Returns the account of the way of a branch from one place to another. Fails only for want of
+/// memory.
 pub(crate) fn account_of<N: Node<Meter = Tally> + Debug>(
     alloc: Global,
     names: &Names,
     book: &Book<N>,
     branch: u32,
-    left: Departure,
+    from: u32,
     to: u32,
 ) -> Result<Account, NoMemory>
 where
     N::Msg: Debug,
-    requires { to ≤ length (branch_in branch (all_shown book.now.kept)).events }
-    ensures { IfOk result (λ a. IsAccount (rules N.laws N.PROBES book.now.scenario) left.kept
+    requires from { from ≤ length (branch_in branch (all_shown book.now.kept)).events }
+    requires to { to ≤ length (branch_in branch (all_shown book.now.kept)).events }
+    ensures { IfOk result (λ a. IsAccount (rules N.laws N.PROBES book.now.scenario) from
         (branch_in branch (all_shown book.now.kept)).events to a.told.items) }
 {
     let Some(run) = Run::of(alloc, names, book, branch)? else {
         return Ok(Account::of_words(alloc, String::new(alloc)));
     };
-    let from = left.start(run.len());
     let lead = lead_of(alloc, from, to)?;
     let told = way_lines(alloc, &run, from, to)?;
     let said = rest_of(alloc, &run, from, to)?;

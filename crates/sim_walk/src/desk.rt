@@ -8,9 +8,9 @@ ghost use Rattle.sim_replies.specs.Lines.{turn_line};
 ghost use Rattle.sim_walk.specs.Accounts.{Accounts, IsWithin};
 ghost use Rattle.sim_walk.specs.Walks.{TakesTurn, Stays, Walks};
 
-use crate::account::{Account, Departure, account_of, departure_of};
+use crate::account::{Account, account_of};
 use crate::order::{Order, Request, Shown, Sought};
-use crate::run::{Run, place_of, whereabouts};
+use crate::run::{Run, kept_of, place_of, whereabouts};
 use crate::saying::{Known, tell_not_taken};
 use crate::seeking::{SeekError, seek};
 use crate::showing::Sight;
@@ -82,14 +82,18 @@ fn branch_of(command: &Command) -> u32
     }
 }
 
-// Carries out a command. If it moved the branch, the place is one of the branch.
+// Carries out a command. If it moved the branch, the place is one of the branch, and so is the
+// place before the turn.
 fn turn_on<N: Node>(alloc: Global, book: &mut Book<N>, command: Command) -> Result<Entry, NotTaken>
     ensures takes { Takes (rules N.laws N.PROBES book.old.scenario) (course_of book.old)
         command result (course_of book.new) }
     ensures scenario { book.new.scenario ≡ book.old.scenario }
     ensures within { IsWithin result
         (branch_in (branch_of command) (all_shown book.new.kept)).events }
+    ensures from { (branch_in (branch_of command) (all_shown book.old.kept)).place
+        ≤ length (branch_in (branch_of command) (all_shown book.new.kept)).events }
 {
+    book.laws();
     book.turn(alloc, SESSION, command)
 }
 
@@ -104,18 +108,19 @@ impl Desk<'_> {
         }
     }
 
-    // Returns the account of a turn on a branch.
+    // Returns the account of a turn on a branch, which was at the place `from`.
     fn account<N: Node<Meter = Tally> + Debug>(
         &self,
         book: &Book<N>,
         branch: u32,
-        left: Departure,
+        from: u32,
         turn: &Result<Entry, NotTaken>,
     ) -> Result<Account, NoMemory>
     where
         N::Msg: Debug,
-        requires { IsWithin turn.now (branch_in branch (all_shown book.now.kept)).events }
-        ensures { IfOk result (λ a. Accounts (rules N.laws N.PROBES book.now.scenario) left.kept
+        requires to { IsWithin turn.now (branch_in branch (all_shown book.now.kept)).events }
+        requires from { from ≤ length (branch_in branch (all_shown book.now.kept)).events }
+        ensures { IfOk result (λ a. Accounts (rules N.laws N.PROBES book.now.scenario) from
             (branch_in branch (all_shown book.now.kept)).events turn.now a.told.items) }
     {
         let mut said = String::new(self.alloc);
@@ -123,17 +128,27 @@ impl Desk<'_> {
             Ok(entry) => match &entry.reply {
                 Reply::Moved { place, .. } => {
                     let names = &self.opened.names;
-                    return account_of(self.alloc, names, book, branch, left, *place);
+                    return account_of(self.alloc, names, book, branch, from, *place);
                 }
-                Reply::Refused(why) => {
-                    self.known(N::PROBES)
-                        .tell_refusal_at(*why, left, &mut said)?
-                }
+                Reply::Refused(why) => self.tell_refusal(book, branch, *why, &mut said)?,
                 Reply::Made(_) | Reply::Dropped(_) | Reply::Seen { .. } | Reply::Frozen(_) => {}
             },
             Err(why) => tell_not_taken(*why, &mut said)?,
         }
         Ok(Account::of_words(self.alloc, said))
+    }
+
+    // Appends why a command was refused on a branch, which did not change it.
+    fn tell_refusal<N: Node>(
+        &self,
+        book: &Book<N>,
+        branch: u32,
+        why: Refusal,
+        said: &mut String,
+    ) -> Result<(), NoMemory> {
+        let (place, kept) = (place_of(book, branch), kept_of(self.alloc, book, branch)?);
+        self.known(N::PROBES)
+            .tell_refusal_at(why, place, kept, said)
     }
 
     // Returns the answer if no place was found.
@@ -172,10 +187,10 @@ impl Desk<'_> {
         ensures scenario { book.new.scenario ≡ book.old.scenario }
     {
         let branch = branch_of(&command);
-        let left = departure_of(self.alloc, book, branch);
+        let from = place_of(book, branch);
         let turn = turn_on(self.alloc, book, command);
         let reply = self.reply_to(&turn)?;
-        let account = self.account(book, branch, left?, &turn)?;
+        let account = self.account(book, branch, from, &turn)?;
         Ok(Answer { reply, account })
     }
 
@@ -209,7 +224,7 @@ impl Desk<'_> {
         let Some(run) = Run::of(self.alloc, &self.opened.names, book, branch)? else {
             return Err(SeekError::Refused(Refusal::UnknownBranch));
         };
-        let here = place_of(self.alloc, book, branch).unwrap_or(run.len());
+        let here = place_of(book, branch);
         seek(self.alloc, &run, here, sought)
     }
 
@@ -328,7 +343,7 @@ impl Desk<'_> {
                 .tell_refusal(Refusal::UnknownBranch, said);
         };
         let end = run.len();
-        let place = place_of(self.alloc, book, branch).unwrap_or(end).min(end);
+        let place = place_of(book, branch);
         let tape = run.frozen.tape(self.alloc, place, &mut Tally::new())?;
         let sight = Sight {
             alloc: self.alloc,

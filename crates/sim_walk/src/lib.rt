@@ -19,9 +19,9 @@
 //!   turn. A command that looks for a place is a turn that goes there, or changes nothing. Any
 //!   other command changes nothing. `Walks` in `specs/Walks.antt` says so, and the contract of
 //!   `Desk::answer` cites it.
-//! - The answer to a turn has the lines of the events that it passed, at most 20, or after a move
-//!   back the line of the next one: `IsAccount` in `specs/Accounts.antt`, over the lines of
-//!   `sim_log`.
+//! - The answer to a turn has the lines of the events that it passed, from the branch's place
+//!   before it, at most 20, or after a move back the line of the next one: `IsAccount` in
+//!   `specs/Accounts.antt`, over the lines of `sim_log`.
 //! - The output of a command is its answer (`CarriesOut`), and the writer's contents only grow
 //!   (`Grows` in `specs/Growth.antt`).
 //!

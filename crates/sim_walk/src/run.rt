@@ -1,8 +1,10 @@
 //! The kept events of a branch, described one after the other.
-ghost use Rattle.std.specs.Prelude.{◌≡◌, ◌+◌, ◌-◌, false, length, IfOk, IsTrue, OnOk};
+ghost use Rattle.std.specs.Prelude.{◌≡◌, ◌+◌, ◌-◌, ◌≤◌, false, length, IfOk, IfSome, IsTrue, OnOk};
 ghost use Rattle.std.specs.Option.{option_map};
 ghost use Rattle.sim_world.specs.Events.{rules};
+ghost use Rattle.sim_book.specs.Book.{branch as branch_in};
 ghost use Rattle.sim_book.specs.Freezing.{IsWhole};
+ghost use Rattle.sim_book.specs.Kept.{all_shown};
 ghost use Rattle.sim_log.specs.Lines.{AreLines};
 ghost use Rattle.sim_log.specs.Range.{IsRange};
 
@@ -40,35 +42,49 @@ pub(crate) fn frozen_of<N: Node>(
     }
 }
 
-/// Returns the place and the clock (ms) of a branch, or `None` if there is no such branch. A cold
-/// branch was just made, and so is at its end; or memory was wanted to move it, and its place is
-/// known again once it has moved. Fails only for want of memory.
+/// Returns the place of a branch, or 0 if there is no such branch.
+pub(crate) fn place_of<N: Node>(book: &Book<N>, branch: u32) -> u32
+    ensures place { result ≡ (branch_in branch (all_shown book.now.kept)).place }
+    ensures within { result ≤ length (branch_in branch (all_shown book.now.kept)).events }
+{
+    match book.place(branch) {
+        Some(place) => place,
+        None => 0,
+    }
+}
+
+/// Returns the number of events that a branch keeps, or 0 if there is no such branch. Fails only
+/// for want of memory.
+pub(crate) fn kept_of<N: Node>(
+    alloc: Global,
+    book: &Book<N>,
+    branch: u32,
+) -> Result<u32, NoMemory> {
+    match frozen_of(alloc, book, branch)? {
+        Some(run) => Ok(run.events().len()),
+        None => Ok(0),
+    }
+}
+
+/// Returns the place and the clock (ms) of a branch, or `None` if there is no such branch. Fails
+/// only for want of memory, and only on a cold branch.
 pub(crate) fn whereabouts<N: Node<Meter = Tally>>(
     alloc: Global,
     book: &Book<N>,
     branch: u32,
-) -> Result<Option<(u32, u64)>, NoMemory> {
+) -> Result<Option<(u32, u64)>, NoMemory>
+    ensures { IfOk result (λ o. IfSome o
+        (λ x. x.0 ≡ (branch_in branch (all_shown book.now.kept)).place)) }
+{
+    let place = place_of(book, branch);
     if let Some(world) = book.here(branch) {
-        return Ok(Some((world.age(), world.clock())));
+        return Ok(Some((place, world.clock())));
     }
     let Some(run) = frozen_of(alloc, book, branch)? else {
         return Ok(None);
     };
-    let end = run.events().len();
-    let tape = run.tape(alloc, end, &mut Tally::new())?;
-    Ok(Some((end, tape.clock())))
-}
-
-/// Returns the place of a branch, or `None` if there is no such branch or not enough memory.
-pub(crate) fn place_of<N: Node<Meter = Tally>>(
-    alloc: Global,
-    book: &Book<N>,
-    branch: u32,
-) -> Option<u32> {
-    match whereabouts(alloc, book, branch) {
-        Ok(Some((place, _clock))) => Some(place),
-        Ok(None) | Err(_) => None,
-    }
+    let tape = run.tape(alloc, place, &mut Tally::new())?;
+    Ok(Some((place, tape.clock())))
 }
 
 /// Walks a tape past its next event, if there is one, and leaves it warm.

@@ -1,5 +1,4 @@
 //! Sentences: why a command was refused, and why a line is no command.
-use crate::account::Departure;
 use crate::order::OrderError;
 use crate::topic::tell_names;
 use sim_book::{NotTaken, Refusal};
@@ -59,14 +58,14 @@ impl Known<'_> {
         said.push('\n')
     }
 
-    /// Appends why a command was refused, on a branch that was at this place.
+    /// Appends why a command was refused, on a branch at `place` of `kept` events.
     pub(crate) fn tell_refusal_at(
         &self,
         why: Refusal,
-        at: Departure,
+        place: u32,
+        kept: u32,
         said: &mut String,
     ) -> Result<(), NoMemory> {
-        let (place, kept) = (at.place, at.kept);
         match why {
             Refusal::NotAtEnd => writeln!(
                 said,

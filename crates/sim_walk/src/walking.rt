@@ -7,10 +7,10 @@ ghost use Rattle.sim_cli.specs.Turns.{course_of};
 ghost use Rattle.sim_walk.specs.Growth.{Grows};
 ghost use Rattle.sim_walk.specs.Walks.{CarriesOut, account_text, text_of};
 
-use crate::account::{Account, departure_of};
+use crate::account::Account;
 use crate::desk::{Answer, Desk};
 use crate::order::{Order, Request, order_of};
-use crate::run::whereabouts;
+use crate::run::{kept_of, whereabouts};
 use crate::saying::Known;
 use sim_book::Book;
 use sim_cli::{Answered, Opened, Status, Subjects, Tally, Task, open, tell_fault, write_text};
@@ -68,7 +68,7 @@ where
     // clock.
     fn prompt_text(&self) -> Result<String, NoMemory> {
         let (alloc, branch) = (self.desk.alloc, self.branch);
-        let kept = departure_of(alloc, &self.book, branch)?.kept;
+        let kept = kept_of(alloc, &self.book, branch)?;
         match whereabouts(alloc, &self.book, branch)? {
             Some((place, clock)) if place < kept => {
                 format!(in alloc; "{branch} @ {place} of {kept}, {clock} ms> ")
