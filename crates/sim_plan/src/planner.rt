@@ -105,6 +105,8 @@ impl<'a> Iterator for Planner<'a> {
 
     ghost remaining = { item_count (λ rest. rest) };
 
+    // As a call of its own it took a thirtieth of a sweep's instructions.
+    #[inline(always)]
     fn next(&mut self) -> Option<Event> {
         match self.given.split_first() {
             Some((first, others)) => {
