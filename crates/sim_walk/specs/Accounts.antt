@@ -1,5 +1,5 @@
 -- The account of a turn: the lines of the events that it passed.
-use Rattle.std.specs.Prelude.{◌≡◌, ℕ, ◌+◌, ◌-◌, ◌<◌, ◌≤◌, nat_lt, min, false, List, [], length}
+use Rattle.std.specs.Prelude.{◌≡◌, ℕ, ◌+◌, ◌-◌, ◌≤◌, nat_lt, min, false, List, [], length}
 use Rattle.std.specs.Prelude.{Result, Ok, Err, if◌then◌else◌}
 use Rattle.sim_world.specs.declared.Event.{Event}
 use Rattle.sim_world.specs.Events.{Rules}

@@ -1,4 +1,4 @@
-use Rattle.std.proofs.Common.{◌≤◌, length, sym, ap}
+use Rattle.std.proofs.Common.{sym, ap}
 use Rattle.sim_book.specs.Book.{Branch}
 use Rattle.sim_walk.proofs.Moving.{not_there, nowhere}
 use Rattle.sim_walk.proofs.run.place_of.Goals as goal
