@@ -100,6 +100,28 @@ fn run_file<L: Searchable, R: Threads + Wait + Sync + Clock + Files + Print + Ep
     ended
 }
 
+// Carries out a job over the standard input. Says so on standard error if that is a terminal: a
+// word that was meant as the file may have been taken for another, and the program would wait in
+// silence.
+fn run_input<
+    L: Searchable,
+    R: Threads + Wait + Sync + Clock + Input + Print + Eprint + AllocGlobal,
+>(rt: &R, job: &Job<'_>) -> Status
+where
+    R::Reader: IsTerminal,
+    requires workers { HasFewWorkers job.now }
+    requires few { length L.listed ≤ 8 }
+{
+    let mut reader = rt.reader();
+    if reader.is_terminal() {
+        let _told = eprintln!(rt;
+            "reading the input from the terminal; to read a file, give its name as the last word"
+        );
+    }
+    let mut writer = io::writer(rt);
+    perform::<L, R, _, _>(rt, rt.alloc(), job, &mut reader, &mut writer)
+}
+
 // Walks over the file of this name, by commands on the standard input.
 fn walk_file<L: Searchable, R: Files + Input + Print + Eprint + AllocGlobal>(
     rt: &R,
@@ -141,11 +163,7 @@ where
     let ended = match (job, file) {
         (Job::Walk, Some(name)) => walk_file::<L, R>(rt, name),
         (job, Some(name)) => run_file::<L, R>(rt, &job, name),
-        (job, None) => {
-            let mut reader = rt.reader();
-            let mut writer = io::writer(rt);
-            perform::<L, R, _, _>(rt, rt.alloc(), &job, &mut reader, &mut writer)
-        }
+        (job, None) => run_input::<L, R>(rt, &job),
     };
     ended.number()
 }
