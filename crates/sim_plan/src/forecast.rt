@@ -56,6 +56,7 @@ impl Forecast {
     }
 
     // Returns the next event before the quiet end.
+    #[inline(always)]
     fn next_planned(&mut self) -> Event
         requires fine { IsForecast self.old }
         requires some { 0 < self.old.left }
@@ -101,6 +102,7 @@ impl Forecast {
     }
 
     /// Returns the next event.
+    #[inline(always)]
     pub fn next(&mut self) -> Option<Event>
         requires fine { IsForecast self.old }
         ensures fine { IsForecast self.new }

@@ -105,7 +105,8 @@ impl<'a> Iterator for Planner<'a> {
 
     ghost remaining = { item_count (λ rest. rest) };
 
-    // As a call of its own it took a thirtieth of a sweep's instructions.
+    // It is part of the loop of a sweep, with all that it calls for a step: as calls of their own
+    // these took a thirtieth of the instructions.
     #[inline(always)]
     fn next(&mut self) -> Option<Event> {
         match self.given.split_first() {
