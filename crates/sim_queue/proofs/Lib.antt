@@ -14,4 +14,5 @@ pub mod Sparse
 pub mod Fronts
 pub mod FirstAt
 pub mod Packing
-pub mod Taken
+pub mod Finding
+pub mod Ordered

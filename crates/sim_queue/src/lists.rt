@@ -12,11 +12,8 @@ use std::alloc::Global;
 /// The number of lists. As many nodes at the front are the ends of the lists.
 pub(crate) const LISTS: u32 = 256;
 
-/// The serials of items are below this number.
-pub(crate) const SERIALS: u64 = 1 << 40;
-
 /// The serial of a node without a key: one that is free, or an end of a list.
-pub(crate) const NO_SERIAL: u64 = u64::MAX;
+const NO_SERIAL: u64 = u64::MAX;
 
 /// A key, and the places of the nodes before and after it in its list.
 #[derive(Clone, Copy, Drop)]

@@ -9,7 +9,6 @@ ghost use Rattle.sim_queue.specs.Items.{item_of, items_from};
 ghost use Rattle.sim_queue.specs.Pending.{Decides, next_taken};
 ghost use Rattle.sim_queue.specs.inside.Slots.{at, IsFirstSlot, HasNoItem};
 ghost use Rattle.sim_queue.specs.inside.Sparse.{body_at, IsPut, IsTaken, HasSameBodies};
-ghost use Rattle.sim_queue.specs.inside.Taken.{lesser, taken_serial, IsLeastTaken};
 ghost use Rattle.sim_queue.specs.inside.Wheel.{key_at, HasSame};
 
 use crate::link::Link;
@@ -256,7 +255,7 @@ impl<B> Slots<B> {
         ensures { (p : B → Bool) → Decides F.Fn test.now p → result
             ≡ next_taken from p (items_from self.now.base self.now.items) }
     {
-        least_taken(&self.wheel, &self.bodies, from, test)
+        self.wheel.least_taken(&self.bodies, from, test)
     }
 
     /// Returns the items in the order of their serials, with bodies that `each` copies.
@@ -280,62 +279,6 @@ impl<B> Slots<B> {
             }
         }
         Ok(items)
-    }
-}
-
-// Returns the least serial, not below `from`, of an item whose body the test accepts. Looks at each
-// place once: the places are as many as there were items at one time, and most slots are empty.
-fn least_taken<B, F: Fn(&B) -> bool>(
-    wheel: &Wheel,
-    bodies: &Vec<Option<B>>,
-    from: u64,
-    test: &F,
-) -> Option<u64>
-    requires { F.IsAlwaysCallable test.now }
-    ensures { (p : B → Bool) → Decides F.Fn test.now p
-        → IsLeastTaken p wheel.now bodies.now.items from result }
-{
-    let mut least = None;
-    for at in 0..wheel.places() {
-        least = lesser(least, taken_at(wheel, bodies, at, from, test));
-    }
-    least
-}
-
-// Returns the serial of the item at a place, if the test accepts its body and it is not below
-// `from`.
-#[inline(always)]
-fn taken_at<B, F: Fn(&B) -> bool>(
-    wheel: &Wheel,
-    bodies: &Vec<Option<B>>,
-    at: u32,
-    from: u64,
-    test: &F,
-) -> Option<u64>
-    requires { F.IsAlwaysCallable test.now }
-    ensures { (p : B → Bool) → Decides F.Fn test.now p → result
-        ≡ taken_serial p from (key_at wheel.now at) (body_at bodies.now.items at) }
-{
-    let body = bodies.get(at as usize)?.as_ref()?;
-    if !test(body) {
-        return None;
-    }
-    let (_due, serial) = wheel.get(at)?;
-    if serial < from {
-        return None;
-    }
-    Some(serial)
-}
-
-// Returns the lesser of two numbers, or the one that there is.
-#[inline(always)]
-fn lesser(one: Option<u64>, other: Option<u64>) -> Option<u64>
-    ensures { result ≡ lesser one other }
-{
-    match (one, other) {
-        (Some(x), Some(y)) => Some(x.min(y)),
-        (one, None) => one,
-        (None, other) => other,
     }
 }
 

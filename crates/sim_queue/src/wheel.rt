@@ -1,13 +1,17 @@
 //! Keys in lists by their days; the first key is at hand.
-ghost use Rattle.std.specs.Prelude.{◌≡◌, ◌≢◌, ℕ, ◌^◌, ◌<◌, ◌≤◌, Some, None, IfOk, IfSome, IfNone};
+ghost use Rattle.std.specs.Prelude.{◌≡◌, ◌≢◌, ℕ, ◌^◌, ◌<◌, ◌≤◌, Some, None, IfOk, IfSome};
+ghost use Rattle.std.specs.Prelude.{IfNone, Bool};
 ghost use Rattle.std.specs.Option.{IsSome};
+ghost use Rattle.sim_queue.specs.Pending.{Decides};
 ghost use Rattle.sim_queue.specs.inside.Lists.{IsLists};
+ghost use Rattle.sim_queue.specs.inside.Taken.{IsLeastTaken};
 ghost use Rattle.sim_queue.specs.inside.Wheel.{key_at, HasNone, HasSame, HasSameBut, IsPlace};
 ghost use Rattle.sim_queue.specs.inside.Wheel.{IsFirst, HasMarks, Fits64, IsFrom, IsFloor};
 
 use crate::NoMemory;
-use crate::lists::{LISTS, Lists, SERIALS};
+use crate::lists::{LISTS, Lists};
 use crate::marks::Marks;
+use crate::taken::least_taken;
 use std::alloc::Global;
 use std::marker::Model;
 
@@ -106,23 +110,18 @@ impl Wheel {
         (node.due, node.serial)
     }
 
-    /// Returns the number of places: no place from this one on has a key.
-    pub(crate) fn places(&self) -> u32
-        ensures { (k : ℕ) → result ≤ k → key_at self.now k ≡ None }
+    /// Returns the least serial, not below `from`, of a key whose body the test accepts.
+    pub(crate) fn least_taken<B, F: Fn(&B) -> bool>(
+        &self,
+        bodies: &Vec<Option<B>>,
+        from: u64,
+        test: &F,
+    ) -> Option<u64>
+        requires { F.IsAlwaysCallable test.now }
+        ensures { (p : B → Bool) → Decides F.Fn test.now p
+            → IsLeastTaken p self.now bodies.now.items from result }
     {
-        (self.lists.nodes.len() as u32).saturating_sub(LISTS)
-    }
-
-    /// Returns the due and the serial of the key at a place, if there is one.
-    #[inline(always)]
-    pub(crate) fn get(&self, place: u32) -> Option<(u64, u64)>
-        ensures { result ≡ key_at self.now place }
-    {
-        let node = self.lists.nodes.get(place as usize + LISTS as usize)?;
-        if node.serial >= SERIALS {
-            return None;
-        }
-        Some((node.due, node.serial))
+        least_taken(&self.lists, &self.marks, bodies, from, test)
     }
 
     /// Returns the place of the first key.

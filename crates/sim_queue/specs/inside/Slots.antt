@@ -1,6 +1,6 @@
 -- The items of a queue in slots by their serials.
-use Rattle.std.specs.Prelude.{◌≡◌, ℕ, ◌<◌, ◌≤◌, Bool, true, false, List, length, Option, None, Some}
-use Rattle.std.specs.Prelude.{MatchOption, slice_index_or}
+use Rattle.std.specs.Prelude.{◌≡◌, ℕ, ◌<◌, ◌≤◌, Bool, true, false, List, Option, None, Some}
+use Rattle.std.specs.Prelude.{slice_index_or}
 use Rattle.sim_queue.specs.inside.Wheel.{NotAfter}
 
 -- the slot at a place, none past the end

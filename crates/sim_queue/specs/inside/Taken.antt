@@ -1,7 +1,9 @@
--- The item of the least serial whose body passes a test, found by the places.
-use Rattle.std.specs.Prelude.{◌≡◌, ℕ, ◌≤◌, nat_lt, Bool, List, Option, None, Some, MatchOption}
-use Rattle.std.specs.Prelude.{if◌then◌else◌, min}
-use Rattle.sim_queue.specs.inside.Wheel.{key_at}
+-- The item of the least serial whose body passes a test, found list by list.
+use Rattle.std.specs.Prelude.{◌≡◌, ℕ, ◌+◌, ◌≤◌, nat_lt, Bool, List, Option, None, Some}
+use Rattle.std.specs.Prelude.{MatchOption, if◌then◌else◌, min}
+use Rattle.sim_queue.specs.declared.lists.Node.{Node}
+use Rattle.sim_queue.specs.inside.Lists.{node, list_of}
+use Rattle.sim_queue.specs.inside.Wheel.{key_at, keys_of}
 use Rattle.sim_queue.specs.inside.Sparse.{body_at}
 
 -- the lesser of two numbers, or the one that there is
@@ -29,3 +31,16 @@ module _ {B : Type 0} (p : B → Bool) where
       (result : Option ℕ) : Type 0 where
     pub found : (s : ℕ) → result ≡ Some s → IsTakenAt keys bodies from s
     pub least : (s : ℕ) → IsTakenAt keys bodies from s → MatchOption result ⊥ (λ i. i ≤ s)
+
+  -- the result is the least serial found at a place of which P holds
+  pub record IsLeastAmong (P : ℕ → Type 0) (keys : List (Option (ℕ × ℕ)))
+      (bodies : List (Option B)) (from : ℕ) (result : Option ℕ) : Type 0 where
+    pub found : (s : ℕ) → result ≡ Some s → IsTakenAt keys bodies from s
+    pub least : (k s : ℕ) → P k → taken_serial from (key_at keys k) (body_at bodies k) ≡ Some s
+        → MatchOption result ⊥ (λ i. i ≤ s)
+
+  -- the result is the least serial found in a list
+  abbrev pub IsLeastIn : ℕ → List Node → ℕ → List (Option B) → ℕ → Option ℕ → Type 0
+  IsLeastIn width nodes list bodies from result =
+      IsLeastAmong (λ k. list_of width (node nodes (k + 256)) ≡ list) (keys_of nodes) bodies from
+      result

@@ -1,5 +1,4 @@
-use Rattle.sim_queue.specs.Items.{items_from}
-use Rattle.sim_queue.proofs.Taken.{is_next}
+use Rattle.sim_queue.proofs.Finding.{is_next}
 use Rattle.sim_queue.proofs.slots.Slots.next_that.Goals as goal
 
 pub returns : goal.returns

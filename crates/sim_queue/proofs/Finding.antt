@@ -1,17 +1,20 @@
--- The least serial of an item whose body passes a test, place by place.
-use Rattle.std.proofs.Common.{◌≡◌, ℕ, ◌+◌, ◌-◌, ◌<◌, ◌≤◌, List, length, Option, Some, None, Bool, true, false, refl, sym, ap, ◌∙◌, subst, arith, ◌⊎◌, inl, inr, ⊎_elim, if◌then◌else◌, nat_lt, min}
+-- The least serial of an item whose body passes a test, among some places and among all.
+use Rattle.std.proofs.Common.{◌≡◌, ℕ, ◌+◌, ◌-◌, ◌<◌, ◌≤◌, List, Option, Some, None, Bool, true, false, refl, sym, ap, ◌∙◌, subst, arith, ◌⊎◌, inl, inr, ⊎_elim, if◌then◌else◌, nat_lt, min}
 use Rattle.std.specs.Prelude.{MatchOption}
-use Rattle.std.proofs.lemmas.Bool.{cases_eq, cases_lt, le-ltb, lt-ltb, false≢true}
+use Rattle.std.proofs.lemmas.Bool.{cases_lt, le-ltb, lt-ltb, false≢true}
 use Rattle.std.proofs.lemmas.Option.{none-some, same_Some}
-use Rattle.sim_queue.specs.inside.Wheel.{key_at}
+use Rattle.sim_queue.specs.declared.lists.Node.{Node}
+use Rattle.sim_queue.specs.inside.Lists.{node, HasKey}
+use Rattle.sim_queue.specs.inside.Wheel.{key_at, keys_of}
 use Rattle.sim_queue.specs.inside.Sparse.{body_at}
-use Rattle.sim_queue.specs.inside.Slots.{at, takes, Skips, IsFound}
+use Rattle.sim_queue.specs.inside.Slots.{at, takes}
 use Rattle.sim_queue.specs.Pending.{next_taken}
 use Rattle.sim_queue.specs.Items.{items_from}
 use Rattle.sim_queue.proofs.Views.{that_found}
 use Rattle.sim_queue.specs.inside.Sparse.{slots_of, IsSparse}
-use Rattle.sim_queue.specs.inside.Taken.{lesser, taken_serial, IsTakenAt, IsLeastTaken}
-use Rattle.sim_queue.proofs.Sparse.{spot_within, length_slots, found_slot, some_index, got}
+use Rattle.sim_queue.specs.inside.Taken.{lesser, taken_serial, IsTakenAt, IsLeastAmong, IsLeastTaken}
+use Rattle.sim_queue.proofs.Turning.{key_of_place}
+use Rattle.sim_queue.proofs.Sparse.{found_slot, some_index, got}
 
 -- one of the two, and neither is less
 pub lesser_is : (a b : Option ℕ) (s : ℕ) → lesser a b ≡ Some s → (a ≡ Some s) ⊎ (b ≡ Some s)
@@ -28,6 +31,11 @@ pub lesser_left : (a b : Option ℕ) (s : ℕ) → MatchOption a ⊥ (λ i. i �
 lesser_left None b s h = absurd h
 lesser_left (Some x) None s h = h
 lesser_left (Some x) (Some y) s h = omega arith
+
+pub lesser_after : (a b : Option ℕ) (s : ℕ) → MatchOption b ⊥ (λ i. i ≤ s) → MatchOption (lesser a b) ⊥ (λ i. i ≤ s)
+lesser_after None b s h = h
+lesser_after (Some x) None s h = absurd h
+lesser_after (Some x) (Some y) s h = omega arith
 
 pub lesser_right : (a b : Option ℕ) (s : ℕ) → b ≡ Some s → MatchOption (lesser a b) ⊥ (λ i. i ≤ s)
 lesser_right None None s h = absurd (none-some s h)
@@ -70,36 +78,48 @@ module _ {B : Type 0} (p : B → Bool) where
       ∙ ap (λ c. if c then None else (if p b then Some s else None)) (le-ltb s from high)
       ∙ ap (λ c. if c then Some s else None) test)
 
-  module _ (keys : List (Option (ℕ × ℕ))) (bodies : List (Option B)) (from : ℕ) where
-    -- the least of the places below n
-    pub record IsLeastBelow (n : ℕ) (result : Option ℕ) : Type 0 where
-      pub found : (s : ℕ) → result ≡ Some s → IsTakenAt p keys bodies from s
-      pub least : (k s : ℕ) → k < n → taken_serial p from (key_at keys k) (body_at bodies k) ≡ Some s → MatchOption result ⊥ (λ i. i ≤ s)
+  module _ (nodes : List Node) (bodies : List (Option B)) (from : ℕ) where
+    -- what is found at a place has a key
+    found_key : (k s : ℕ) → taken_serial p from (key_at (keys_of nodes) k) (body_at bodies k) ≡ Some s → HasKey (node nodes (k + 256))
+    found_key k s h = go (key_at (keys_of nodes) k) refl
+      where
+        go : (key : Option (ℕ × ℕ)) → key_at (keys_of nodes) k ≡ key → HasKey (node nodes (k + 256))
+        go None is = absurd (none-some s (no_key from (key_at (keys_of nodes) k) (body_at bodies k) is ∙ h))
+        go (Some key) is = (key_of_place nodes k key.0 key.1 is).key
 
-    pub least_none : IsLeastBelow 0 None
-    least_none = record { found = λ s h. absurd (none-some s h); least = λ k s lt h. absurd (omega arith) }
+    -- among no keys
+    pub least_none : (P : ℕ → Type 0) → ((i : ℕ) → HasKey (node nodes (i + 256)) → P i → ⊥) → IsLeastAmong p P (keys_of nodes) bodies from None
+    least_none P none = record { found = λ s h. absurd (none-some s h); least = λ k s here h. absurd (none k (found_key k s h) here) }
 
-    pub least_more : (n : ℕ) (r : Option ℕ) → IsLeastBelow n r → IsLeastBelow (n + 1) (lesser r (taken_serial p from (key_at keys n) (body_at bodies n)))
-    least_more n r below =
-        let here = taken_serial p from (key_at keys n) (body_at bodies n) in
-        record {
-          found = λ s h. ⊎_elim (λ (e : r ≡ Some s). below.found s e) (λ (e : here ≡ Some s). record { place = n; there = e }) (lesser_is r here s h);
-          least = λ k s lt h. ⊎_elim
-              (λ (less : k < n). lesser_left r here s (below.least k s less h))
-              (λ (ge : n ≤ k).
-              let e : k ≡ n = omega arith in
-              lesser_right r here s (ap (λ (m : ℕ). taken_serial p from (key_at keys m) (body_at bodies m)) (sym e) ∙ h))
-              (cases_lt k n);
-        }
-
-    pub least_all : (n : ℕ) (r : Option ℕ) → ((k : ℕ) → n ≤ k → key_at keys k ≡ None) → IsLeastBelow n r → IsLeastTaken p keys bodies from r
-    least_all n r past below = record {
-      found = below.found;
-      least = λ s at. ⊎_elim
-          (λ (lt : at.place < n). below.least at.place s lt at.there)
-          (λ (ge : n ≤ at.place). absurd (none-some s (no_key from (key_at keys at.place) (body_at bodies at.place) (past at.place ge) ∙ at.there)))
-          (cases_lt at.place n);
+    -- at one place
+    pub least_here : (k : ℕ) (r : Option ℕ) → r ≡ taken_serial p from (key_at (keys_of nodes) k) (body_at bodies k) → IsLeastAmong p (λ i. i ≡ k) (keys_of nodes) bodies from r
+    least_here k r is = record {
+      found = λ s h. record { place = k; there = sym is ∙ h };
+      least = λ i s here h.
+          let e : r ≡ Some s = is ∙ ap (λ (m : ℕ). taken_serial p from (key_at (keys_of nodes) m) (body_at bodies m)) (sym here) ∙ h in
+          lesser_right None r s e;
     }
+
+    -- among the places of two sets
+    pub least_both : (P Q R : ℕ → Type 0) (a b : Option ℕ) → IsLeastAmong p P (keys_of nodes) bodies from a → IsLeastAmong p Q (keys_of nodes) bodies from b
+        → ((k : ℕ) → HasKey (node nodes (k + 256)) → R k → P k ⊎ Q k) → IsLeastAmong p R (keys_of nodes) bodies from (lesser a b)
+    least_both P Q R a b one other split = record {
+      found = λ s h. ⊎_elim (λ (e : a ≡ Some s). one.found s e) (λ (e : b ≡ Some s). other.found s e) (lesser_is a b s h);
+      least = λ k s here h. ⊎_elim
+          (λ (x : P k). lesser_left a b s (one.least k s x h))
+          (λ (y : Q k). lesser_after a b s (other.least k s y h))
+          (split k (found_key k s h) here);
+    }
+
+    -- among fewer keys
+    pub least_fewer : (P Q : ℕ → Type 0) (r : Option ℕ) → IsLeastAmong p P (keys_of nodes) bodies from r → ((k : ℕ) → HasKey (node nodes (k + 256)) → Q k → P k)
+        → IsLeastAmong p Q (keys_of nodes) bodies from r
+    least_fewer P Q r of fewer = record { found = of.found; least = λ k s here h. of.least k s (fewer k (found_key k s h) here) h }
+
+    -- among all keys
+    pub least_all : (P : ℕ → Type 0) (r : Option ℕ) → IsLeastAmong p P (keys_of nodes) bodies from r → ((k : ℕ) → HasKey (node nodes (k + 256)) → P k)
+        → IsLeastTaken p (keys_of nodes) bodies from r
+    least_all P r of all = record { found = of.found; least = λ s at. of.least at.place s (all at.place (found_key at.place s at.there)) at.there }
 
 module _ {B : Type 0} (keys : List (Option (ℕ × ℕ))) (bodies : List (Option B)) (places : List (Option ℕ)) (base count : ℕ) (sparse : IsSparse keys bodies places base count) where
   module _ (p : B → Bool) where
