@@ -88,7 +88,7 @@ pub fn scan_after<N: Node>(
                 place: Some(place),
             });
         }
-        tape.forward(alloc, 1, meter)?;
+        tape.pass(alloc, meter)?;
     }
     if fails_here(&tape, cond) {
         *last = Some(tape);
