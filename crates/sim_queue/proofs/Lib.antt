@@ -16,3 +16,4 @@ pub mod FirstAt
 pub mod Packing
 pub mod Finding
 pub mod Ordered
+pub mod Skipping

@@ -510,3 +510,18 @@ module _ {B : Type 0} where
       let size : length (take i slots) ≡ i = length-take i slots ∙ omega arith in
       ap (λ xs. xs ++ item_of (n + i) e ∷ []) so_far
       ∙ sym (ap (λ xs. items_from n xs) more ∙ items-append n (take i slots) e ∙ ap (λ (m : ℕ). items_from n (take i slots) ++ item_of (n + m) e ∷ []) size)
+
+  -- the same items, where the slots between are empty
+  pub packed_skip : (n i d : ℕ) (slots : List (Option (ℕ × B))) (items : List (Item B)) → i + d ≤ length slots → ((j : ℕ) → i ≤ j → j < i + d → at slots j ≡ None)
+      → items ≡ items_from n (take i slots) → items ≡ items_from n (take (i + d) slots)
+  packed_skip n i zero slots items within none so_far = let e : i ≡ i + zero = omega arith in so_far ∙ ap (λ (m : ℕ). items_from n (take m slots)) e
+  packed_skip n i (suc d) slots items within none so_far =
+      let before = packed_skip n i d slots items (omega arith) (λ j ge lt. none j ge (omega arith)) so_far in
+      let e : i + d + 1 ≡ i + suc d = omega arith in
+      packed_more n (i + d) None slots items (omega arith) (sym (none (i + d) (omega arith) (omega arith))) before ∙ ap (λ (m : ℕ). items_from n (take m slots)) e
+
+  pub packed_to : (n i k : ℕ) (slots : List (Option (ℕ × B))) (items : List (Item B)) → i ≤ k → k ≤ length slots → ((j : ℕ) → i ≤ j → j < k → at slots j ≡ None)
+      → items ≡ items_from n (take i slots) → items ≡ items_from n (take k slots)
+  packed_to n i k slots items order within none so_far =
+      let e : i + (k - i) ≡ k = omega arith in
+      packed_skip n i (k - i) slots items (omega arith) (λ j ge lt. none j ge (omega arith)) so_far ∙ ap (λ (m : ℕ). items_from n (take m slots)) e

@@ -1,5 +1,7 @@
-//! A place or none, in four bytes.
-ghost use Rattle.std.specs.Prelude.{◌≡◌, ◌<◌, Some, None, IfSome, is_some, not};
+//! A place or none, in four bytes, and the next place in a row of them.
+ghost use Rattle.std.specs.Prelude.{◌≡◌, ℕ, ◌<◌, ◌≤◌, Some, None, IfSome, is_some, not};
+ghost use Rattle.std.specs.Prelude.{length, true};
+ghost use Rattle.sim_queue.specs.inside.Sparse.{index_at};
 
 use std::marker::Model;
 
@@ -60,4 +62,52 @@ impl Link {
     {
         self.code == 0
     }
+}
+
+/// The number of links that are looked at in one go.
+const BLOCK: usize = 8;
+
+// Returns whether none of the links of a block has a place. Looks at all of them, so that the
+// compiler can do it in a few instructions.
+#[inline(always)]
+fn are_none(links: &[Link]) -> bool
+    requires { length links.now ≡ 8 }
+    ensures { result ≡ true → (i : ℕ) → i < 8 → index_at links.now i ≡ None }
+{
+    links[0].is_none()
+        & links[1].is_none()
+        & links[2].is_none()
+        & links[3].is_none()
+        & links[4].is_none()
+        & links[5].is_none()
+        & links[6].is_none()
+        & links[7].is_none()
+}
+
+// Returns the first link from `from` on that is not in a block without places.
+fn skip_blocks(links: &[Link], from: usize) -> usize
+    requires { from ≤ length links.now }
+    ensures order { from ≤ result }
+    ensures within { result ≤ length links.now }
+    ensures none { (i : ℕ) → from ≤ i → i < result → index_at links.now i ≡ None }
+{
+    let mut at = from;
+    while BLOCK <= links.len() - at && are_none(&links[at..at + BLOCK]) {
+        at += BLOCK;
+    }
+    at
+}
+
+/// Returns the first link from `from` on that has a place, or the number of links.
+pub(crate) fn next_place(links: &[Link], from: usize) -> usize
+    requires { from ≤ length links.now }
+    ensures order { from ≤ result }
+    ensures within { result ≤ length links.now }
+    ensures none { (i : ℕ) → from ≤ i → i < result → index_at links.now i ≡ None }
+{
+    let mut at = skip_blocks(links, from);
+    while at < links.len() && links[at].is_none() {
+        at += 1;
+    }
+    at
 }

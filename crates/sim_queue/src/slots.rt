@@ -11,7 +11,7 @@ ghost use Rattle.sim_queue.specs.inside.Slots.{at, IsFirstSlot, HasNoItem};
 ghost use Rattle.sim_queue.specs.inside.Sparse.{body_at, IsPut, IsTaken, HasSameBodies};
 ghost use Rattle.sim_queue.specs.inside.Wheel.{key_at, HasSame};
 
-use crate::link::Link;
+use crate::link::{Link, next_place};
 use crate::wheel::Wheel;
 use crate::{Item, NoMemory};
 use std::alloc::Global;
@@ -208,13 +208,7 @@ impl<B> Slots<B> {
         ensures within { result ≤ length self.now.items }
         ensures empty { (i : ℕ) → i < result → at self.now.items i ≡ None }
     {
-        let count = self.places.len();
-        for place in 0..count {
-            if !self.places[place].is_none() {
-                return place;
-            }
-        }
-        count
+        next_place(&self.places, 0)
     }
 
     /// Drops the first `count` slots, which are empty.
@@ -272,11 +266,13 @@ impl<B> Slots<B> {
         ensures { IfOk result (λ items. items.items ≡ items_from self.now.base self.now.items) }
     {
         let mut items = Vec::with_capacity(alloc, self.count)?;
-        for place in 0..self.places.len() {
+        let mut place = next_place(&self.places, 0);
+        while place < self.places.len() {
             if let Some((due, body)) = self.get(place) {
                 let item = copied(due, self.base + place as u64, body, each)?;
                 items.push(item)?;
             }
+            place = next_place(&self.places, place + 1);
         }
         Ok(items)
     }

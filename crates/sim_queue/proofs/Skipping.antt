@@ -1,0 +1,48 @@
+-- Places that are looked at eight in one go.
+use Rattle.std.proofs.Common.{◌≡◌, ℕ, zero, suc, ◌+◌, ◌-◌, ◌<◌, ◌≤◌, List, length, Option, Some, None, Bool, true, false, ◌&&◌, is_some, not, refl, sym, ap, ◌∙◌, subst, arith, ⊎_elim, take}
+use Rattle.std.proofs.Math.ListN.{get_or}
+use Rattle.std.proofs.lemmas.Bool.{cases_lt, false≢true}
+use Rattle.std.proofs.lemmas.List.{get_or_default}
+use Rattle.sim_queue.specs.inside.Sparse.{index_at}
+
+both : (a b : Bool) → (a && b) ≡ true → (a ≡ true) × (b ≡ true)
+both true b h = (refl, h)
+both false b h = absurd (false≢true h)
+
+none_there : (o : Option ℕ) (b : Bool) → is_some o ≡ not b → b ≡ true → o ≡ None
+none_there None b is h = refl
+none_there (Some x) true is h = absurd (false≢true (sym is))
+none_there (Some x) false is h = absurd (false≢true h)
+
+-- the place that is read at i, and whether it is none
+pub there : (places : List (Option ℕ)) (i : ℕ) (o : Option ℕ) (b : Bool) → i < length places → o ≡ get_or places i o → is_some o ≡ not b → is_some (index_at places i) ≡ not b
+there places i o b within read is = ap (λ x. is_some x) (get_or_default places i None o within ∙ sym read) ∙ is
+
+-- none of the first eight places is there
+pub eight_none : (places : List (Option ℕ)) (a b c d e f g h : Bool)
+    → is_some (index_at places 0) ≡ not a → is_some (index_at places 1) ≡ not b → is_some (index_at places 2) ≡ not c → is_some (index_at places 3) ≡ not d
+    → is_some (index_at places 4) ≡ not e → is_some (index_at places 5) ≡ not f → is_some (index_at places 6) ≡ not g → is_some (index_at places 7) ≡ not h
+    → (((((((a && b) && c) && d) && e) && f) && g) && h) ≡ true → (i : ℕ) → i < 8 → index_at places i ≡ None
+eight_none places a b c d e f g h is_a is_b is_c is_d is_e is_f is_g is_h all i below =
+    let p7 = both ((((((a && b) && c) && d) && e) && f) && g) h all in
+    let p6 = both (((((a && b) && c) && d) && e) && f) g p7.0 in
+    let p5 = both ((((a && b) && c) && d) && e) f p6.0 in
+    let p4 = both (((a && b) && c) && d) e p5.0 in
+    let p3 = both ((a && b) && c) d p4.0 in
+    let p2 = both (a && b) c p3.0 in
+    let p1 = both a b p2.0 in
+    go i below (none_there (index_at places 0) a is_a p1.0) (none_there (index_at places 1) b is_b p1.1) (none_there (index_at places 2) c is_c p2.1)
+    (none_there (index_at places 3) d is_d p3.1) (none_there (index_at places 4) e is_e p4.1) (none_there (index_at places 5) f is_f p5.1)
+    (none_there (index_at places 6) g is_g p6.1) (none_there (index_at places 7) h is_h p7.1)
+  where
+    go : (i : ℕ) → i < 8 → index_at places 0 ≡ None → index_at places 1 ≡ None → index_at places 2 ≡ None → index_at places 3 ≡ None
+        → index_at places 4 ≡ None → index_at places 5 ≡ None → index_at places 6 ≡ None → index_at places 7 ≡ None → index_at places i ≡ None
+    go zero lt n0 n1 n2 n3 n4 n5 n6 n7 = n0
+    go (suc zero) lt n0 n1 n2 n3 n4 n5 n6 n7 = n1
+    go (suc (suc zero)) lt n0 n1 n2 n3 n4 n5 n6 n7 = n2
+    go (suc (suc (suc zero))) lt n0 n1 n2 n3 n4 n5 n6 n7 = n3
+    go (suc (suc (suc (suc zero)))) lt n0 n1 n2 n3 n4 n5 n6 n7 = n4
+    go (suc (suc (suc (suc (suc zero))))) lt n0 n1 n2 n3 n4 n5 n6 n7 = n5
+    go (suc (suc (suc (suc (suc (suc zero)))))) lt n0 n1 n2 n3 n4 n5 n6 n7 = n6
+    go (suc (suc (suc (suc (suc (suc (suc zero))))))) lt n0 n1 n2 n3 n4 n5 n6 n7 = n7
+    go (suc (suc (suc (suc (suc (suc (suc (suc n)))))))) lt n0 n1 n2 n3 n4 n5 n6 n7 = absurd (omega arith)
