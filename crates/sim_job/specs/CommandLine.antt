@@ -9,7 +9,6 @@ use Rattle.clap.specs.Simple.{new_shape}
 use Rattle.clap.specs.declared.builder.arg.Arg.{Arg}
 use Rattle.clap.specs.declared.builder.command.Command.{Command}
 use Rattle.clap.specs.declared.builder.command.Command.TheViews.{out-Command as fields_of}
-use Rattle.clap.specs.declared.builder.value_parser.ValueParser.TheVariants as parser
 use Rattle.clap.specs.declared.builder.action.ArgAction.TheVariants as action
 use Rattle.clap.specs.declared.error.kind.ErrorKind.{ErrorKind}
 use Rattle.clap.specs.declared.error.kind.ErrorKind.TheVariants as kind
@@ -23,13 +22,14 @@ use Rattle.sim_job.specs.declared.wanted.Request.{Request}
 
 -- ---- the definition of the command line
 
--- `--workers N`, 1 to 16, by default 2
+-- To clap a number is a word; `HasNumber` below says how it is read.
+
+-- `--workers N`, by default 2
 abbrev pub workers : Rule
 workers = record (new_rule (codes "workers")) {
   long = Some (codes "workers");
   value_names = 1;
   defaults = codes "2" ∷ [];
-  parser = Some (parser.Unsigned 1 16);
 }
 
 -- a flag, whose long name is its id
@@ -51,13 +51,9 @@ at_end = flag (codes "at-end")
 abbrev pub json : Rule
 json = flag (codes "json")
 
--- an option with a number of 64 bits; its long name is its id
+-- an option with a number; its long name is its id
 abbrev pub optional_number : Text → Rule
-optional_number id = record (new_rule id) {
-  long = Some id;
-  value_names = 1;
-  parser = Some (parser.Unsigned 0 18446744073709551615);
-}
+optional_number id = record (new_rule id) { long = Some id; value_names = 1 }
 
 -- an option with a word
 abbrev pub optional_word : Text → Rule
@@ -66,22 +62,17 @@ optional_word id = record (new_rule id) { long = Some id; value_names = 1 }
 abbrev pub faults : Rule
 faults = optional_number (codes "faults")
 
--- `--quiet Q`, a number of 64 bits, by default 0
+-- `--quiet Q`, by default 0
 abbrev pub quiet : Rule
 quiet = record (new_rule (codes "quiet")) {
   long = Some (codes "quiet");
   value_names = 1;
   defaults = codes "0" ∷ [];
-  parser = Some (parser.Unsigned 0 18446744073709551615);
 }
 
--- a required number of 64 bits
+-- a required number
 abbrev pub number : Text → Rule
-number id = record (new_rule id) {
-  value_names = 1;
-  required = true;
-  parser = Some (parser.Unsigned 0 18446744073709551615);
-}
+number id = record (new_rule id) { value_names = 1; required = true }
 
 -- a required word
 abbrev pub word : Text → Rule
@@ -261,7 +252,7 @@ HasMistake kinds =
     (k : ErrorKind) × IsAmong k kinds × (k ≢ kind.DisplayHelp) × (k ≢ kind.DisplayVersion)
 
 -- Help is for words that ask for it; usage is for words in which clap finds a mistake, or finds
--- none although a value is missing.
+-- none although they make no request, as where a value is no number.
 abbrev pub IsFault : List Text → LineError → Type 0
 IsFault words (line_fault.Help text) = AsksText (fault_of program words)
 IsFault words (line_fault.Usage text) = HasMistake (fault_of program words)

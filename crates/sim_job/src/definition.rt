@@ -1,10 +1,11 @@
-//! The definition of the command line.
+//! The definition of the command line. To clap a number is a word like any other: `numbers.rt` reads
+//! it, so that the sentence for a wrong one is the program's own.
 ghost use Rattle.std.specs.Prelude.{codes, IfOk, ◌≡◌};
 ghost use Rattle.clap.specs.Words.{app_of};
 ghost use Rattle.sim_job.specs.CommandLine as line;
 ghost use Rattle.sim_job.specs.CommandLine.{IsArgument, IsCommand};
 
-use clap::{Arg, ArgAction, Command, value_parser};
+use clap::{Arg, ArgAction, Command};
 use std::alloc::{AllocError, Global};
 
 const SWEEP_EXAMPLES: &str = "\
@@ -21,7 +22,6 @@ fn workers<'a>(alloc: Global) -> Arg<'a>
     Arg::new(alloc, "workers")
         .long("workers")
         .value_name("N")
-        .value_parser(value_parser!(u64).range(1..=16))
         .default_value("2")
         .help("How many workers share the work, 1 to 16")
 }
@@ -63,11 +63,7 @@ fn faults<'a>(alloc: Global) -> Arg<'a>
 fn optional_number<'a>(alloc: Global, id: &'a str, name: &'a str, help: &'a str) -> Arg<'a>
     ensures { IsArgument (line.optional_number id.entry.now) result }
 {
-    Arg::new(alloc, id)
-        .long(id)
-        .value_name(name)
-        .value_parser(value_parser!(u64))
-        .help(help)
+    Arg::new(alloc, id).long(id).value_name(name).help(help)
 }
 
 /// An option with a word; its long name is its id.
@@ -84,7 +80,6 @@ fn quiet<'a>(alloc: Global) -> Arg<'a>
     Arg::new(alloc, "quiet")
         .long("quiet")
         .value_name("Q")
-        .value_parser(value_parser!(u64))
         .default_value("0")
         .help("End each run with its healings and Q steps")
 }
@@ -125,7 +120,6 @@ fn number<'a>(alloc: Global, id: &'a str, name: &'a str, help: &'a str) -> Arg<'
     Arg::new(alloc, id)
         .value_name(name)
         .required(true)
-        .value_parser(value_parser!(u64))
         .help(help)
 }
 

@@ -7,10 +7,11 @@ ghost use Rattle.sim_job.specs.CommandLine.{HasTeam, HasFaultPlan, HasWorkers};
 ghost use Rattle.sim_job.specs.CommandLine.{IsFault, IsHelp, IsRequestOf, IsUsage};
 
 use crate::definition::program;
+use crate::numbers::number_message;
 use crate::{FaultPlan, Job, Request, Team};
 use clap::error::ErrorKind;
 use clap::{ArgMatches, Error};
-use std::alloc::Global;
+use std::alloc::{AllocError, Global};
 use std::convert::AsStr;
 
 /// Why a command line makes no request.
@@ -257,12 +258,71 @@ fn line_fault(alloc: Global, error: &Error) -> LineError
     }
 }
 
-/// Returns the error if clap accepts the words but a value is missing.
-fn missing_value(alloc: Global) -> LineError
+/// Returns the message for the first number of the matches that is outside of its range, or `None`.
+fn message_in(alloc: Global, matches: &ArgMatches<'_>) -> Result<Option<String>, AllocError> {
+    match matches.subcommand() {
+        Some((_name, found)) => number_message(alloc, found),
+        None => Ok(None),
+    }
+}
+
+/// Returns the error if clap accepts the words but a value is missing or is no number.
+fn wrong_value(alloc: Global, matches: &ArgMatches<'_>) -> LineError
     ensures { ¬ IsHelp result }
 {
-    match String::from_str(alloc, "error: a value is missing\n") {
+    let told = match message_in(alloc, matches) {
+        Ok(Some(text)) => Ok(text),
+        Ok(None) => String::from_str(alloc, "error: a value is missing\n"),
+        Err(error) => Err(error),
+    };
+    match told {
         Ok(text) => LineError::Usage(text),
+        Err(_) => LineError::NoMemory,
+    }
+}
+
+/// Returns whether a word is a negative number.
+fn is_negative(word: &str) -> bool {
+    matches!(word.as_bytes(), [b'-', b'0'..=b'9', ..])
+}
+
+/// Returns the words with a space before each negative number.
+fn spaced<S: AsStr>(alloc: Global, words: &[S]) -> Result<Vec<String>, AllocError> {
+    let mut spaced = Vec::new(alloc);
+    for word in words {
+        let word = word.as_str();
+        let space = if is_negative(word) { " " } else { "" };
+        spaced.push(format!(in alloc; "{space}{word}")?)?;
+    }
+    Ok(spaced)
+}
+
+/// Returns the message for words in which clap finds an unknown option. A negative number is one to
+/// clap. If it has a space before it, it is a value, and the message says which: so the words are
+/// read a second time. Returns `None` if they then make a request or ask for help.
+fn negative_message<S: AsStr>(alloc: Global, words: &[S]) -> Result<Option<String>, AllocError> {
+    let words = spaced(alloc, words)?;
+    match program(alloc)?.try_get_matches_from(words.as_slice()) {
+        Ok(matches) => message_in(alloc, &matches),
+        Err(error) if error.use_stderr() => Ok(Some(format!(in alloc; "{error}")?)),
+        Err(_) => Ok(None),
+    }
+}
+
+/// Returns the error for a fault that clap found in words.
+fn words_fault<S: AsStr>(alloc: Global, words: &[S], error: &Error) -> LineError
+    ensures help { IsHelp result → (kind_of error.now ≡ ErrorKind.DisplayHelp)
+        ⊎ (kind_of error.now ≡ ErrorKind.DisplayVersion) }
+    ensures usage { IsUsage result → (kind_of error.now ≢ ErrorKind.OutOfMemory)
+        × (kind_of error.now ≢ ErrorKind.DisplayHelp)
+        × (kind_of error.now ≢ ErrorKind.DisplayVersion) }
+{
+    if error.kind() != ErrorKind::UnknownArgument {
+        return line_fault(alloc, error);
+    }
+    match negative_message(alloc, words) {
+        Ok(Some(text)) => LineError::Usage(text),
+        Ok(None) => line_fault(alloc, error),
         Err(_) => LineError::NoMemory,
     }
 }
@@ -279,8 +339,8 @@ pub fn request<'a, S: AsStr>(alloc: Global, words: &'a [S]) -> Result<Request<'a
     match command.try_get_matches_from(words) {
         Ok(matches) => match asked_in(&matches) {
             Some(asked) => Ok(asked),
-            None => Err(missing_value(alloc)),
+            None => Err(wrong_value(alloc, &matches)),
         },
-        Err(error) => Err(line_fault(alloc, &error)),
+        Err(error) => Err(words_fault(alloc, words, &error)),
     }
 }

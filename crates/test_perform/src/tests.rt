@@ -4,6 +4,7 @@
 //! - `command_line::jobs`: words that ask for another job, or for none.
 //! - `command_line::help_and_version`, `command_line::mistakes`: a text of help that leaves a
 //!   command out; a mistake that is reported as another, or accepted.
+//! - `command_line::numbers`: a value that is no number and is not named with its range.
 //! - `hunts::searches_of_the_first_run`, `hunts::sweeps_of_the_base_scenario`: a line that is not
 //!   the result of the search in the run that the script leaves; an exit status that does not fit.
 //! - `hunts::faults_come_in_order`: a fault that hides an earlier one.

@@ -205,17 +205,16 @@ fn mistakes(rt: HostRuntime) {
         )
     );
     assert!(rt; blames(&rt, &["simback", "search", "0", "6"], "<COND>"));
+    let none = ["simback", "search", "--workers", "0", "0", "1", "up a"];
     assert!(rt;
         blames(
             &rt,
-            &["simback", "search", "0", "x", "up a"],
-            "invalid value 'x' for '<HI>'"
+            &none,
+            "error: --workers is \"0\"; it has to be a whole number from 1 to 16"
         )
     );
-    let none = ["simback", "search", "--workers", "0", "0", "1", "up a"];
-    assert!(rt; blames(&rt, &none, "invalid value '0' for '--workers <N>'"));
     let many = ["simback", "search", "--workers", "17", "0", "1", "up a"];
-    assert!(rt; blames(&rt, &many, "invalid value '17' for '--workers <N>'"));
+    assert!(rt; blames(&rt, &many, "--workers is \"17\""));
     let twice = [
         "simback",
         "sweep",
@@ -227,4 +226,41 @@ fn mistakes(rt: HostRuntime) {
         "up a",
     ];
     assert!(rt; blames(&rt, &twice, "cannot be used multiple times"));
+}
+
+// Returns whether the words give this message and the way to the help, and nothing more.
+fn says(rt: &HostRuntime, words: &[&str], message: &str) -> bool {
+    match request(rt.alloc(), words) {
+        Err(LineError::Usage(told)) => {
+            let help = "\n\nFor more information, try '--help'.\n";
+            told.as_str().strip_suffix(help) == Some(message)
+        }
+        _ => false,
+    }
+}
+
+#[test]
+fn numbers(rt: HostRuntime) {
+    let place = "error: HI is \"x\"; it has to be a whole number from 0 to 65536";
+    assert!(rt; says(&rt, &["simback", "search", "0", "x", "up a"], place));
+    let below = "error: LO is \"-1\"; it has to be a whole number from 0 to 65536";
+    assert!(rt; says(&rt, &["simback", "search", "-1", "6", "up a"], below));
+    assert_eq!(rt;
+        status_of(&rt, &["simback", "search", "-1", "6", "up a"]),
+        Some(2)
+    );
+    let seed = "error: FIRST is \"18446744073709551616\"; it has to be a whole number from 0 to \
+                18446744073709551615";
+    let words = ["simback", "sweep", "18446744073709551616", "1", "6", "up a"];
+    assert!(rt; says(&rt, &words, seed));
+    let count = "error: COUNT is \"1.5\"; it has to be a whole number from 1 to 4294967296";
+    assert!(rt; says(&rt, &["simback", "sweep", "0", "1.5", "6", "up a"], count));
+    let from = "error: --from is \"-3\"; it has to be a whole number from 1 to 65536";
+    assert!(rt; says(&rt, &["simback", "log", "--from", "-3"], from));
+    assert!(rt; says(&rt, &["simback", "log", "--from=-3"], from));
+    // Without a condition too, which is the mistake that is left when the number is one.
+    assert!(rt; blames(&rt, &["simback", "search", "0", "-1"], "<COND>"));
+    // Another option that there is not is clap's to report.
+    let option = ["simback", "search", "-x", "-1", "up a"];
+    assert!(rt; blames(&rt, &option, "unexpected argument '-x' found"));
 }

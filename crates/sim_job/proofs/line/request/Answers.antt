@@ -18,13 +18,13 @@ returns-in-Ok-try_get_matches_from g c =
     let found = c.in-Ok-try_get_matches_from in
     let sound = no_fault (app_of c.in-Ok.command) words c.in-Ok.ensures found.ensures.kinds in
     let same = entered_is (app_of c.in-Ok.command) words c.in-Ok.ensures found.matches found.ensures.matches in
-    record { answer = missing words found.matches c.missing_value.result c.missing_value.ensures sound same c.in-None.ensures; workers = tt }
+    record { answer = missing words found.matches c.wrong_value.result c.wrong_value.ensures sound same c.in-None.ensures; workers = tt }
 
 pub returns : goal.returns
 returns g c =
     let words = map g.S.AsStr.text c.args.words.now in
     record {
-      answer = told_is words c.in-Err.error c.line_fault.result (some_fault (app_of c.in-Ok.command) words c.in-Ok.ensures c.in-Err.error c.in-Err.ensures.kinds)
-          c.line_fault.ensures.help c.line_fault.ensures.usage;
+      answer = told_is words c.in-Err.error c.words_fault.result (some_fault (app_of c.in-Ok.command) words c.in-Ok.ensures c.in-Err.error c.in-Err.ensures.kinds)
+          c.words_fault.ensures.help c.words_fault.ensures.usage;
       workers = tt;
     }
