@@ -111,10 +111,19 @@ struct Shrinking<'a, H: Eprint> {
 }
 
 impl<'a, H: Eprint> Shrinking<'a, H> {
-    // Reports why the words are no condition of the scenario, if that is the answer.
-    fn report(&self, opened: &Opened, export: &Export) {
-        if let Export::BadCondition = export {
-            report_condition(self.host, self.alloc, &opened.names, self.asked.cond);
+    // Reports why the run of these events is not shrunk, if the answer does not say it: the words
+    // are no condition of the scenario, or there are no events.
+    fn report(&self, opened: &Opened, events: &[Event], export: &Export) {
+        match export {
+            Export::BadCondition => {
+                report_condition(self.host, self.alloc, &opened.names, self.asked.cond)
+            }
+            Export::Nowhere if events.is_empty() => {
+                let _told = eprintln!(self.host;
+                    "shrink: the input has no events, so there is nothing to shrink"
+                );
+            }
+            _ => {}
         }
     }
 }
@@ -137,7 +146,7 @@ impl<'a, H: Eprint> Task for Shrinking<'a, H> {
         N::Undo: Send + Sync,
     {
         let Some(cond) = condition_of(&opened.names, self.asked.cond.as_bytes()) else {
-            self.report(opened, &Export::BadCondition);
+            self.report(opened, &[], &Export::BadCondition);
             return write_export(writer, &Export::BadCondition);
         };
         let events = match given_events::<N, R>(self.alloc, opened, true, true, reader, ahead) {
@@ -163,7 +172,7 @@ impl<'a, H: Eprint> Task for Shrinking<'a, H> {
             &mut listener,
         ) {
             Ok(export) => {
-                self.report(opened, &export);
+                self.report(opened, events, &export);
                 write_export(writer, &export)
             }
             Err(_) => Status::MemoryWanted,
@@ -175,12 +184,12 @@ impl<'a, H: Eprint> Task for Shrinking<'a, H> {
 /// an input for a play, up to the first place at which a condition fails and without the faults
 /// that the failure does not need.
 ///
-/// Writes `none` if the condition fails nowhere, `bad condition` with status 2 if the words write
-/// none or the scenario has no such host or probe (standard error says why), and `no input` with
-/// status 2 if no line of a script makes some event of the run. If a line of the script is no
-/// command, or its command is refused or not taken, reports that on standard error and writes
-/// nothing, with status 2. If the reader fails or memory is wanted, writes nothing either. Takes at
-/// most 255 subjects.
+/// Writes `none` if the condition fails nowhere (if there are no events, standard error says so),
+/// `bad condition` with status 2 if the words write none or the scenario has no such host or probe
+/// (standard error says why), and `no input` with status 2 if no line of a script makes some event
+/// of the run. If a line of the script is no command, or its command is refused or not taken,
+/// reports that on standard error and writes nothing, with status 2. If the reader fails or memory
+/// is wanted, writes nothing either. Takes at most 255 subjects.
 pub fn write_shrunk<L: Subjects, H: Eprint, R: Read, W: Write>(
     host: &H,
     alloc: Global,
