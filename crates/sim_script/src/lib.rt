@@ -50,4 +50,4 @@ pub use condition::condition_of;
 pub use mistake::{Expected, LineMistake, condition_mistake_of, mistake_of};
 pub use names::Names;
 pub use script::{ScriptLine, line_of};
-pub use telling::{tell_advice, tell_bad_condition, tell_mistake, word_at};
+pub use telling::{CONDITION_FORM, tell_advice, tell_bad_condition, tell_mistake, word_at};

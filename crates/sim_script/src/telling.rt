@@ -8,6 +8,17 @@ use sim_node::{MAX_HOSTS, NoMemory};
 /// The most probes of a host.
 const MAX_PROBES: u8 = 255;
 
+/// How a condition is written: the forms of a term, on lines of their own. There is no end of line
+/// after the last.
+pub const CONDITION_FORM: &str = "\
+COND is 1 to 8 terms, joined by `and` and `or`. A term is one of:
+  HOST.PROBE OP VALUE          up HOST      not up HOST
+  any PROBE OP VALUE           done HOST    not done HOST
+  all PROBE OP VALUE           agree PROBE unless N
+  count PROBE OP VALUE OP K    agree PROBE by PROBE unless N
+                               differ PROBE unless N
+OP is <, <=, =, !=, >= or >, between spaces; VALUE is a number or HOST.PROBE.";
+
 // Appends a name of a list, if it is one.
 fn tell_name(name: &str, said: &mut String) -> Result<(), NoMemory> {
     if name.is_empty() {
@@ -94,8 +105,18 @@ pub fn tell_mistake(text: &[u8], mistake: LineMistake, said: &mut String) -> Res
     }
 }
 
+// Appends how a condition is written, from the beginning of a line on.
+fn tell_form(after: &str, said: &mut String) -> Result<(), NoMemory> {
+    if !said.as_str().ends_with('\n') {
+        said.push('\n')?;
+    }
+    said.push_str(CONDITION_FORM)?;
+    said.push_str(after)
+}
+
 /// Appends advice for a mistake in a text, if there is any, or else the names that are possible in
-/// place of the word. Puts `before` and `after` around each part. Fails only for want of memory.
+/// place of the word, and for a term the forms of all terms. Puts `before` and `after` around each
+/// part; the forms begin on a new line. Fails only for want of memory.
 pub fn tell_advice(
     names: &Names,
     text: &[u8],
@@ -118,6 +139,9 @@ pub fn tell_advice(
         names.tell_probes(said)?;
         said.push_str(after)?;
     }
+    if expected == Expected::Term {
+        tell_form(after, said)?;
+    }
     Ok(())
 }
 
@@ -138,8 +162,9 @@ fn tell_unknown(names: &Names, unknown: Unknown<'_>, said: &mut String) -> Resul
 }
 
 /// Appends in a sentence why a text is no condition of a scenario with these names: which word is
-/// wrong or missing, or which host or probe there is not. Appends nothing if it is one. Fails only
-/// for want of memory.
+/// wrong or missing, or which host or probe there is not. If it is the first word of a term, the
+/// forms of all terms follow. Appends nothing if the text is a condition. Fails only for want of
+/// memory.
 pub fn tell_bad_condition(names: &Names, text: &[u8], said: &mut String) -> Result<(), NoMemory> {
     if let Some(mistake) = condition_mistake_of(names, text) {
         tell_mistake(text, mistake, said)?;

@@ -1,4 +1,5 @@
 //! The commands of a walk, with their short names and their help.
+use sim_script::CONDITION_FORM;
 use std::alloc::{AllocError, Global};
 use strsim::osa_distance;
 
@@ -305,17 +306,6 @@ A first word @1, as in `@1 step`, names branch 1; alone it goes there. An empty
 line is the last command again.
 ";
 
-/// An explanation of conditions, for `help first` and its like.
-const CONDITION: &str = "\
-COND is 1 to 8 terms, joined by `and` and `or`. A term is one of:
-  HOST.PROBE OP VALUE          up HOST      not up HOST
-  any PROBE OP VALUE           done HOST    not done HOST
-  all PROBE OP VALUE           agree PROBE unless N
-  count PROBE OP VALUE OP K    agree PROBE by PROBE unless N
-                               differ PROBE unless N
-OP is <, <=, =, !=, >= or >, between spaces; VALUE is a number or HOST.PROBE.
-";
-
 /// Returns the command with this name or short name.
 pub(crate) fn topic_of(word: &str) -> Option<&'static Topic> {
     for topic in &TOPICS {
@@ -343,7 +333,7 @@ pub(crate) fn tell_help(
     };
     tell_topic(topic, said)?;
     if topic.words == "COND" {
-        said.push_str(CONDITION)?;
+        writeln!(said, "{CONDITION_FORM}")?;
     }
     Ok(())
 }

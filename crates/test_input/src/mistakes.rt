@@ -110,6 +110,13 @@ up a and w.next <= a.num
 
 const WHY: &str = "\
 a word is missing at the end: expected a term of a condition; hosts: a b1 w; probes: next num val
+COND is 1 to 8 terms, joined by `and` and `or`. A term is one of:
+  HOST.PROBE OP VALUE          up HOST      not up HOST
+  any PROBE OP VALUE           done HOST    not done HOST
+  all PROBE OP VALUE           agree PROBE unless N
+  count PROBE OP VALUE OP K    agree PROBE by PROBE unless N
+                               differ PROBE unless N
+OP is <, <=, =, !=, >= or >, between spaces; VALUE is a number or HOST.PROBE.
 word 1, \"w.next<=1\": expected a term of a condition; an operator stands between spaces, as in \
 `w.next <= 3`
 word 1, \"\"up\": expected a term of a condition; a condition is written without quotes here
@@ -122,9 +129,23 @@ there is no host z; hosts: a b1 w
 there is no probe frst; probes: next num val
 there is no probe x; probes: next num val
 word 1, \"frst\": expected a term of a condition; hosts: a b1 w; probes: next num val
+COND is 1 to 8 terms, joined by `and` and `or`. A term is one of:
+  HOST.PROBE OP VALUE          up HOST      not up HOST
+  any PROBE OP VALUE           done HOST    not done HOST
+  all PROBE OP VALUE           agree PROBE unless N
+  count PROBE OP VALUE OP K    agree PROBE by PROBE unless N
+                               differ PROBE unless N
+OP is <, <=, =, !=, >= or >, between spaces; VALUE is a number or HOST.PROBE.
 word 3, \"w\": expected `and`, `or` or the end of the line
 word 24, \"or\": expected the end of the line; a condition has at most 8 terms
 a word is missing at the end: expected a term of a condition; hosts: a b1 w; probes: next num val
+COND is 1 to 8 terms, joined by `and` and `or`. A term is one of:
+  HOST.PROBE OP VALUE          up HOST      not up HOST
+  any PROBE OP VALUE           done HOST    not done HOST
+  all PROBE OP VALUE           agree PROBE unless N
+  count PROBE OP VALUE OP K    agree PROBE by PROBE unless N
+                               differ PROBE unless N
+OP is <, <=, =, !=, >= or >, between spaces; VALUE is a number or HOST.PROBE.
 
 ";
 

@@ -152,6 +152,7 @@ last z
 help first
 # a comment
 w w.next<=1
+w wnext <= 1
 w w.next <= 1
 look probe w next
 trace
@@ -308,6 +309,17 @@ OP is <, <=, =, !=, >= or >, between spaces; VALUE is a number or HOST.PROBE.
 > w w.next<=1
 word 2, \"w.next<=1\": expected a term of a condition
 an operator stands between spaces, as in `w.next <= 3`
+> w wnext <= 1
+word 2, \"wnext\": expected a term of a condition
+hosts: a w
+probes: next served
+COND is 1 to 8 terms, joined by `and` and `or`. A term is one of:
+  HOST.PROBE OP VALUE          up HOST      not up HOST
+  any PROBE OP VALUE           done HOST    not done HOST
+  all PROBE OP VALUE           agree PROBE unless N
+  count PROBE OP VALUE OP K    agree PROBE by PROBE unless N
+                               differ PROBE unless N
+OP is <, <=, =, !=, >= or >, between spaces; VALUE is a number or HOST.PROBE.
 > w w.next <= 1
 made 0
 > look probe w next
