@@ -342,7 +342,6 @@ impl Desk<'_> {
                 .known(N::PROBES)
                 .tell_refusal(Refusal::UnknownBranch, said);
         };
-        let end = run.len();
         let place = place_of(book, branch);
         let tape = run.frozen.tape(self.alloc, place, &mut Tally::new())?;
         let sight = Sight {
@@ -353,7 +352,7 @@ impl Desk<'_> {
         };
         match shown {
             Shown::Event(asked) => run.tell_event(asked.unwrap_or(place), said),
-            Shown::Log(from, to) => { run.tell(from.unwrap_or(1), to.unwrap_or(end), said) }
+            Shown::Log(from, to) => run.tell_log(*from, *to, said),
             Shown::Script => self.tell_script(&run, place, said),
             _ => self.tell_sight(&sight, shown, said),
         }

@@ -222,15 +222,42 @@ where
         }
     }
 
+    // Appends that there is no event with this number.
+    fn tell_absent(&self, place: u32, said: &mut String) -> Result<(), NoMemory> {
+        let len = self.len();
+        writeln!(
+            said,
+            "there is no event {place}; the last kept event is {len}"
+        )
+    }
+
+    /// Appends the lines of the events from `from` to `to`, as far as they exist, or why there are
+    /// none; without numbers those of all. Fails only for want of memory.
+    pub(crate) fn tell_log(
+        &self,
+        from: Option<u32>,
+        to: Option<u32>,
+        said: &mut String,
+    ) -> Result<(), NoMemory> {
+        let len = self.len();
+        let (first, last) = (from.unwrap_or(1), to.unwrap_or(len));
+        if to.is_some() && last < first {
+            return writeln!(
+                said,
+                "there are no events from {first} to {last}: {first} is after {last}"
+            );
+        }
+        if len < first || last == 0 {
+            return self.tell_absent(first, said);
+        }
+        self.tell(first, last, said)
+    }
+
     /// Appends the event that leads to a place, its cause and its consequences. Fails only for want
     /// of memory.
     pub(crate) fn tell_event(&self, place: u32, said: &mut String) -> Result<(), NoMemory> {
         let Some(event) = self.event(place) else {
-            let len = self.len();
-            return writeln!(
-                said,
-                "there is no event {place}; the last kept event is {len}"
-            );
+            return self.tell_absent(place, said);
         };
         self.tell(place, place, said)?;
         let before = self.serials(place.saturating_sub(1))?;

@@ -119,6 +119,10 @@ links
 host w
 disk a
 log 3 4
+log 9 3
+log 9
+log 0 0
+log 4 9
 at 10
 f 9
 last a
@@ -188,6 +192,16 @@ a: 0 bytes stable
 > log 3 4
 3 clock 10: a gets Ping(1) from w (sent at 2): sends Pong(1) to w, due 20 (arrives at 4)
 4 clock 20: w gets Pong(1) from a (sent at 3): sends Ping(2) to a, due 30 (arrives at 6)
+> log 9 3
+there are no events from 9 to 3: 9 is after 3
+> log 9
+there is no event 9; the last kept event is 6
+> log 0 0
+there is no event 0; the last kept event is 6
+> log 4 9
+4 clock 20: w gets Pong(1) from a (sent at 3): sends Ping(2) to a, due 30 (arrives at 6)
+5 clock 20: hold a w
+6 clock 30: a gets Ping(2) from w (sent at 4): sends Pong(2) to w, held
 > at 10
 place 3 clock 10
 back by 3; next is 4 clock 20: w gets Pong(1) from a (sent at 3): sends Ping(2) to a, due \
