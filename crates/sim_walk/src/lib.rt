@@ -10,8 +10,8 @@
 //! Inside, a line becomes an order (`order.rt`) by the table of commands (`topic.rt`). The desk
 //! (`desk.rt`) carries it out on the book and returns an answer: the line that replies to a turn,
 //! its account (`account.rt`), and words. Their contents come from the run of the branch (`run.rt`)
-//! and from its world (`showing.rt`, `terms.rt`); `seeking.rt` finds the places that a command
-//! looks for, and `saying.rt` has the sentences.
+//! and from its world (`showing.rt`, `terms.rt`); `tearing.rt` names the writes that a crash tears,
+//! `seeking.rt` finds the places that a command looks for, and `saying.rt` has the sentences.
 //!
 //! What is proved:
 //!
@@ -50,6 +50,7 @@ mod saying;
 mod seeking;
 mod shortening;
 mod showing;
+mod tearing;
 mod terms;
 mod topic;
 mod walking;

@@ -21,7 +21,7 @@ use std::fmt::Debug;
 /// The kept events of a branch, and the places where each occurrence was queued and happened.
 #[derive(Drop)]
 pub(crate) struct Run<'a, N: Node> {
-    alloc: Global,
+    pub(crate) alloc: Global,
     names: &'a Names,
     pub(crate) frozen: Frozen<N>,
     pub(crate) places: Places,
@@ -253,13 +253,14 @@ where
         self.tell(first, last, said)
     }
 
-    /// Appends the event that leads to a place, its cause and its consequences. Fails only for want
-    /// of memory.
+    /// Appends the event that leads to a place, its cause, the writes that it tears, and its
+    /// consequences. Fails only for want of memory.
     pub(crate) fn tell_event(&self, place: u32, said: &mut String) -> Result<(), NoMemory> {
         let Some(event) = self.event(place) else {
             return self.tell_absent(place, said);
         };
         self.tell(place, place, said)?;
+        self.tell_torn(event, place, said)?;
         let before = self.serials(place.saturating_sub(1))?;
         if event == Event::Step {
             self.tell_cause(before, said)?;

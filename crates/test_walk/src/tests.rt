@@ -9,6 +9,8 @@
 //!   others silently.
 //! - `a_prompt`: a prompt with another branch, place, number of events or clock, or none.
 //! - `a_state_with_long_lists`: a run of equal elements that stays, or that hides another element.
+//! - `crashes_over_writes`: a write that a crash tears or drops and that is taken for another, or
+//!   whose event is another.
 //! - `a_fault_of_the_script`: a walk over a script at fault.
 use sim_cli::{Shipped, Status};
 use sim_walk::{Style, shortened, walk};
@@ -76,6 +78,8 @@ place 9 clock 40
 back by 1; next is 10 clock 40: bounce a
 > event
 9 clock 40: crash a: keeps 9 of 10 bytes at 0; loses its sync, due 45; loses its timer, due 140
+tears write 1 of 1 (keeps 9 of 10 bytes at 0), made by 8 clock 40: a gets Vote(true, 1) from b \
+(sent at 7): writes 10 bytes at 0; asks for a sync, due 45; timer 140
 > b
 place 8 clock 40
 back by 1; next is 9 clock 40: crash a: keeps 9 of 10 bytes at 0; loses its sync, due 45; \
@@ -495,6 +499,66 @@ place 28 clock 20
 28 clock 20: release a w
 ";
 
+// Three servers with slow disks. Two clients store at each server, one after the other, and at the
+// first server one of the two writes is stable.
+const STORES: &str = r#"format = 2
+seed = "0000000000000000000000000000000000000000000000000000000000000000"
+protocol = "abd"
+tick = 100
+latency_min = 1
+latency_max = 1
+loss = 0
+disk_latency = 60
+servers = ["a", "b", "c"]
+checkpoint = 4
+window = 2
+
+[[client]]
+name = "w"
+ops = 4
+
+[[client]]
+name = "x"
+ops = 4
+---
+run 24
+"#;
+
+const STORES_TORN: &str = "\
+> bounce c
+place 25 clock 63
+25 clock 63: bounce c: keeps 24 bytes at 0; keeps 4 of 24 bytes at 0; loses its sync, due 63; \
+loses its sync, due 63
+> e
+25 clock 63: bounce c: keeps 24 bytes at 0; keeps 4 of 24 bytes at 0; loses its sync, due 63; \
+loses its sync, due 63
+tears write 2 of 2 (keeps 4 of 24 bytes at 0), made by 23 clock 3: c gets Store(3, Tagged \
+{ number: 1, writer: 4, val: 4001 }) from x (sent at 16): writes 24 bytes at 0; asks for a sync, \
+due 63
+> crash b
+place 26 clock 63
+26 clock 63: crash b: keeps 24 bytes at 0; drops 24 bytes at 0; loses its sync, due 63; \
+loses its sync, due 63
+> e
+26 clock 63: crash b: keeps 24 bytes at 0; drops 24 bytes at 0; loses its sync, due 63; \
+loses its sync, due 63
+drops write 2 of 2 (24 bytes at 0), made by 22 clock 3: b gets Store(3, Tagged { number: 1, \
+writer: 4, val: 4001 }) from x (sent at 16): writes 24 bytes at 0; asks for a sync, due 63
+> crash a
+place 27 clock 63
+27 clock 63: crash a: keeps 5 of 24 bytes at 0; loses its sync, due 63
+> e
+27 clock 63: crash a: keeps 5 of 24 bytes at 0; loses its sync, due 63
+tears write 1 of 1 (keeps 5 of 24 bytes at 0), made by 21 clock 3: a gets Store(3, Tagged \
+{ number: 1, writer: 4, val: 4001 }) from x (sent at 16): writes 24 bytes at 0; asks for a sync, \
+due 63
+> crash a
+place 28 clock 63
+28 clock 63: crash a
+> e
+28 clock 63: crash a
+";
+
 // A walk of this input writes `want` for these commands, and ends well.
 fn is_walked<R: Eprint + Abort>(
     rt: &R,
@@ -559,6 +623,12 @@ fn a_prompt(rt: HostRuntime) -> Result<(), Fail> {
 back by 1; next is 4 clock 20: w gets Pong(1) from a (sent at 3): sends Ping(2) to a, due 30
 0 @ 3 of 4, 10 ms> \n";
     is_walked(&rt, rt.alloc(), PINGS, "b\n", true, want)
+}
+
+#[test]
+fn crashes_over_writes(rt: HostRuntime) -> Result<(), Fail> {
+    let typed = "bounce c\ne\ncrash b\ne\ncrash a\ne\ncrash a\ne\n";
+    is_walked(&rt, rt.alloc(), STORES, typed, false, STORES_TORN)
 }
 
 #[test]
