@@ -1,6 +1,6 @@
 ghost use Rattle.std.specs.Prelude.{◌≡◌, ℕ, ◌+◌, ◌<◌, ◌≤◌, ◌↔◌, ◌∷◌, [], ◌++◌};
 ghost use Rattle.std.specs.Prelude.{List, length, slice_index_or, replicate, true, false, IfOk};
-ghost use Rattle.std.specs.Prelude.{OnOk, OnErr, IfErr, OnSome, IfSome, IsSome, None, IsTrue};
+ghost use Rattle.std.specs.Prelude.{OnOk, OnErr, IfErr, OnSome, IfSome, IsSome, None, IsTrue, is_some};
 ghost use Rattle.sim_world.specs.Events.{rules};
 ghost use Rattle.sim_book.specs.Kept.{all_shown, first_kept, Kept as KeptValue};
 ghost use Rattle.sim_book.specs.History.{IsLegal};
@@ -14,7 +14,7 @@ ghost use Rattle.sim_book.specs.Freezing.{GivesFrozen, GivesMade, IsWhole};
 use crate::carry::carry_out;
 use crate::copies::twin;
 use crate::kept::Kept;
-use crate::{Command, Entry, MAX_ENTRIES, NotTaken, Reply};
+use crate::{Command, Entry, MAX_ENTRIES, MAX_WATCHES, NotTaken, Reply};
 use sim_node::{NoMemory, Node};
 use sim_tape::{Frozen, Tape};
 use sim_world::{Scenario, World};
@@ -217,6 +217,19 @@ impl<N: Node> Book<N> {
         }
         let kept = &self.branches[b as usize];
         Some(kept.tape.place())
+    }
+
+    /// Returns whether branch `b` keeps a watch with this number. It does not if there is no such
+    /// branch. Allocates nothing.
+    pub fn has_watch(&self, b: u32, number: u32) -> bool
+        ensures kept { b < length self.now.kept → result
+            ≡ is_some (slice_index_or (branch b (all_shown self.now.kept)).watches number None) }
+        ensures none { length self.now.kept ≤ b → result ≡ false }
+    {
+        if self.branches.len() <= b as usize || MAX_WATCHES <= number as usize {
+            return false;
+        }
+        self.branches[b as usize].watches[number as usize].is_some()
     }
 
     /// Returns all kept events of branch `b`, which must exist, with the book's scenario. Makes no

@@ -16,7 +16,7 @@ use crate::seeking::{SeekError, seek};
 use crate::showing::Sight;
 use crate::terms::tell_failing;
 use crate::topic::tell_help;
-use sim_book::{Book, Command, Entry, NotTaken, Refusal, Reply};
+use sim_book::{Book, Command, Entry, MAX_WATCHES, NotTaken, Refusal, Reply};
 use sim_cli::{Opened, Tally};
 use sim_export::{InputError, input_of};
 use sim_node::{NoMemory, Node};
@@ -82,6 +82,23 @@ fn branch_of(command: &Command) -> u32
     }
 }
 
+// Appends the numbers of the watches of a branch, or that it has none.
+fn tell_watches<N: Node>(book: &Book<N>, branch: u32, said: &mut String) -> Result<(), NoMemory> {
+    let mut is_first = true;
+    for number in 0..MAX_WATCHES as u32 {
+        if book.has_watch(branch, number) {
+            said.push_str(if is_first { "watches:" } else { "" })?;
+            write!(said, " {number}")?;
+            is_first = false;
+        }
+    }
+    said.push_str(if is_first {
+        "the branch has none; `watch COND` keeps one\n"
+    } else {
+        "\n"
+    })
+}
+
 // Carries out a command. If it moved the branch, the place is one of the branch, and so is the
 // place before the turn.
 fn turn_on<N: Node>(alloc: Global, book: &mut Book<N>, command: Command) -> Result<Entry, NotTaken>
@@ -138,7 +155,8 @@ impl Desk<'_> {
         Ok(Account::of_words(self.alloc, said))
     }
 
-    // Appends why a command was refused on a branch, which did not change it.
+    // Appends why a command was refused on a branch, which did not change it, and if there is no
+    // such watch, which there are.
     fn tell_refusal<N: Node>(
         &self,
         book: &Book<N>,
@@ -148,7 +166,11 @@ impl Desk<'_> {
     ) -> Result<(), NoMemory> {
         let (place, kept) = (place_of(book, branch), kept_of(self.alloc, book, branch)?);
         self.known(N::PROBES)
-            .tell_refusal_at(why, place, kept, said)
+            .tell_refusal_at(why, place, kept, said)?;
+        match why {
+            Refusal::UnknownWatch => tell_watches(book, branch, said),
+            _ => Ok(()),
+        }
     }
 
     // Returns the answer if no place was found.

@@ -357,6 +357,11 @@ release a w
 run 9
 watch done w
 rewind 9
+w up a
+w up w
+unwatch 1
+unwatch 1
+unwatch 2
 unwatch 0
 unwatch 0
 cut
@@ -398,11 +403,24 @@ made 0
 > rewind 9
 place 11 clock 30 watch 0
 back by 1; next is 12 clock 40: w gets Pong(2) from a (sent at 11): is done
+> w up a
+made 1
+> w up w
+made 2
+> unwatch 1
+dropped 1
+> unwatch 1
+refused 10 UnknownWatch
+there is no such watch
+watches: 0 2
+> unwatch 2
+dropped 2
 > unwatch 0
 dropped 0
 > unwatch 0
 refused 10 UnknownWatch
 there is no such watch
+the branch has none; `watch COND` keeps one
 > cut
 place 11 clock 30
 > forward
