@@ -1,6 +1,7 @@
 ghost use Rattle.std.specs.Prelude.{◌≡◌, ℕ, ◌+◌, ◌<◌, ◌≤◌, ◌↔◌, ◌∷◌, [], ◌++◌};
 ghost use Rattle.std.specs.Prelude.{List, length, slice_index_or, replicate, true, false, IfOk};
-ghost use Rattle.std.specs.Prelude.{OnOk, OnErr, IfErr, OnSome, IfSome, IsSome, None, IsTrue, is_some};
+ghost use Rattle.std.specs.Prelude.{OnOk, OnErr, IfErr, OnSome, IfSome, IsSome, None, IsTrue};
+ghost use Rattle.std.specs.Prelude.{is_some};
 ghost use Rattle.sim_world.specs.Events.{rules};
 ghost use Rattle.sim_book.specs.Kept.{all_shown, first_kept, Kept as KeptValue};
 ghost use Rattle.sim_book.specs.History.{IsLegal};

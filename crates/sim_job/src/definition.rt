@@ -1,5 +1,5 @@
-//! The definition of the command line. To clap a number is a word like any other: `numbers.rt` reads
-//! it, so that the sentence for a wrong one is the program's own.
+//! The definition of the command line. To clap a number is a word like any other: `line.rt` reads
+//! it, so that the message for a wrong one is the program's own.
 ghost use Rattle.std.specs.Prelude.{codes, IfOk, ◌≡◌};
 ghost use Rattle.clap.specs.Words.{app_of};
 ghost use Rattle.sim_job.specs.CommandLine as line;
