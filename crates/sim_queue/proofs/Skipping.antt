@@ -1,7 +1,7 @@
 -- Places that are looked at eight in one go.
-use Rattle.std.proofs.Common.{◌≡◌, ℕ, zero, suc, ◌+◌, ◌-◌, ◌<◌, ◌≤◌, List, length, Option, Some, None, Bool, true, false, ◌&&◌, is_some, not, refl, sym, ap, ◌∙◌, subst, arith, ⊎_elim, take}
+use Rattle.std.proofs.Common.{◌≡◌, ℕ, zero, suc, ◌<◌, List, length, Option, Some, None, Bool, true, false, ◌&&◌, is_some, not, refl, sym, ap, ◌∙◌, arith}
 use Rattle.std.proofs.Math.ListN.{get_or}
-use Rattle.std.proofs.lemmas.Bool.{cases_lt, false≢true}
+use Rattle.std.proofs.lemmas.Bool.{false≢true}
 use Rattle.std.proofs.lemmas.List.{get_or_default}
 use Rattle.sim_queue.specs.inside.Sparse.{index_at}
 
@@ -46,3 +46,24 @@ eight_none places a b c d e f g h is_a is_b is_c is_d is_e is_f is_g is_h all i 
     go (suc (suc (suc (suc (suc (suc zero)))))) lt n0 n1 n2 n3 n4 n5 n6 n7 = n6
     go (suc (suc (suc (suc (suc (suc (suc zero))))))) lt n0 n1 n2 n3 n4 n5 n6 n7 = n7
     go (suc (suc (suc (suc (suc (suc (suc (suc n)))))))) lt n0 n1 n2 n3 n4 n5 n6 n7 = absurd (omega arith)
+
+none_told : (o : Option ℕ) (b : Bool) → is_some o ≡ not b → o ≡ None → b ≡ true
+none_told o true is h = refl
+none_told o false is h = absurd (false≢true (sym (ap (λ x. is_some x) h) ∙ is))
+
+-- all of them are told to be none
+pub all_told : (places : List (Option ℕ)) (a b c d e f g h : Bool)
+    → is_some (index_at places 0) ≡ not a → is_some (index_at places 1) ≡ not b → is_some (index_at places 2) ≡ not c → is_some (index_at places 3) ≡ not d
+    → is_some (index_at places 4) ≡ not e → is_some (index_at places 5) ≡ not f → is_some (index_at places 6) ≡ not g → is_some (index_at places 7) ≡ not h
+    → ((i : ℕ) → i < 8 → index_at places i ≡ None) → (((((((a && b) && c) && d) && e) && f) && g) && h) ≡ true
+all_told places a b c d e f g h is_a is_b is_c is_d is_e is_f is_g is_h none =
+    rw (
+      none_told (index_at places 0) a is_a (none 0 (omega arith)),
+      none_told (index_at places 1) b is_b (none 1 (omega arith)),
+      none_told (index_at places 2) c is_c (none 2 (omega arith)),
+      none_told (index_at places 3) d is_d (none 3 (omega arith)),
+      none_told (index_at places 4) e is_e (none 4 (omega arith)),
+      none_told (index_at places 5) f is_f (none 5 (omega arith)),
+      none_told (index_at places 6) g is_g (none 6 (omega arith)),
+      none_told (index_at places 7) h is_h (none 7 (omega arith)),
+    ) refl

@@ -1,5 +1,5 @@
 //! A place or none, in four bytes, and the next place in a row of them.
-ghost use Rattle.std.specs.Prelude.{◌≡◌, ℕ, ◌<◌, ◌≤◌, Some, None, IfSome, is_some, not};
+ghost use Rattle.std.specs.Prelude.{◌≡◌, ◌≢◌, ℕ, ◌<◌, ◌≤◌, Some, None, IfSome, is_some, not};
 ghost use Rattle.std.specs.Prelude.{length, true};
 ghost use Rattle.sim_queue.specs.inside.Sparse.{index_at};
 
@@ -72,7 +72,8 @@ const BLOCK: usize = 8;
 #[inline(always)]
 fn are_none(links: &[Link]) -> bool
     requires { length links.now ≡ 8 }
-    ensures { result ≡ true → (i : ℕ) → i < 8 → index_at links.now i ≡ None }
+    ensures none { result ≡ true → (i : ℕ) → i < 8 → index_at links.now i ≡ None }
+    ensures some { ((i : ℕ) → i < 8 → index_at links.now i ≡ None) → result ≡ true }
 {
     links[0].is_none()
         & links[1].is_none()
@@ -84,7 +85,8 @@ fn are_none(links: &[Link]) -> bool
         & links[7].is_none()
 }
 
-// Returns the first link from `from` on that is not in a block without places.
+// Skips blocks of links without places, from `from` on. Returns the first link that it does not
+// skip.
 fn skip_blocks(links: &[Link], from: usize) -> usize
     requires { from ≤ length links.now }
     ensures order { from ≤ result }
@@ -104,6 +106,7 @@ pub(crate) fn next_place(links: &[Link], from: usize) -> usize
     ensures order { from ≤ result }
     ensures within { result ≤ length links.now }
     ensures none { (i : ℕ) → from ≤ i → i < result → index_at links.now i ≡ None }
+    ensures there { result < length links.now → index_at links.now result ≢ None }
 {
     let mut at = skip_blocks(links, from);
     while at < links.len() && links[at].is_none() {

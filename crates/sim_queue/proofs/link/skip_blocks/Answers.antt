@@ -1,4 +1,4 @@
-use Rattle.std.proofs.Common.{◌≡◌, ℕ, ◌+◌, ◌-◌, ◌<◌, ◌≤◌, List, None, take, drop, sym, ap, ◌∙◌, arith, ⊎_elim}
+use Rattle.std.proofs.Common.{◌≡◌, ℕ, ◌+◌, ◌-◌, ◌<◌, ◌≤◌, None, take, drop, sym, ap, ◌∙◌, arith, ⊎_elim}
 use Rattle.std.proofs.lemmas.Bool.{cases_lt}
 use Rattle.std.proofs.lemmas.List.{get_or-drop, get_or-take}
 use Rattle.sim_queue.specs.inside.Sparse.{index_at}
@@ -18,7 +18,7 @@ loop-at-preserved c =
           let e : at + (i - at) ≡ i = omega arith in
           let size : at + 8 - at ≡ 8 = omega arith in
           let inside : i - at < 8 = omega arith in
-          let block : index_at (take 8 (drop at links)) (i - at) ≡ None = ap (λ (n : ℕ). index_at (take n (drop at links)) (i - at)) (sym size) ∙ c.are_none.ensures c.if-are_none.true (i - at) inside in
+          let block : index_at (take 8 (drop at links)) (i - at) ≡ None = ap (λ (n : ℕ). index_at (take n (drop at links)) (i - at)) (sym size) ∙ c.are_none.ensures.none c.if-are_none.true (i - at) inside in
           ap (λ (n : ℕ). index_at links n) (sym e) ∙ sym (get_or-drop at links (i - at) None) ∙ sym (get_or-take 8 (drop at links) (i - at) None inside) ∙ block)
           (cases_lt i at);
     }

@@ -1,4 +1,4 @@
-use Rattle.std.proofs.Common.{◌≡◌, ℕ, ◌<◌, List, Option, None, sym, ap, ◌∙◌, arith, rules}
+use Rattle.std.proofs.Common.{◌≡◌, ℕ, List, Option, sym, ap, ◌∙◌, arith, rules}
 use Rattle.sim_queue.specs.inside.Slots.{at}
 use Rattle.sim_queue.specs.inside.Sparse.{SlotList, index_at}
 use Rattle.sim_queue.proofs.Sparse.{empty_slot}
