@@ -19,8 +19,8 @@
 //! - `wheel`: the lists and the least due. `marks` has a bit for each list, by which the next due
 //!   is found in a few steps. If no key is due within 256 days, the next due is the least of the
 //!   lists' first keys.
-//! - `taken`: the least serial of an item whose body passes a test. It goes through the lists, since
-//!   these have the items that exist and nothing else.
+//! - `taken`: the least serial of an item whose body passes a test. It goes through the lists:
+//!   they have the items that exist and nothing else.
 //! - `store`: the queue's operations by slots.
 //! - `packed`: a packed queue has only its items, in the order of their serials.
 //!
