@@ -2,5 +2,6 @@
 pub mod Words
 pub mod Conditions
 pub mod Asks
+pub mod Parsed
 pub mod Script
 pub mod Mistakes

@@ -5,6 +5,7 @@ ghost use Rattle.sim_script.specs.Conditions.{condition};
 ghost use Rattle.sim_script.specs.Script.{script_line, asked, command_of, command_by, numbered_of};
 ghost use Rattle.sim_script.specs.Script.{fault_of, query_of, a_host, a_number, two_hosts};
 ghost use Rattle.sim_script.specs.Script.{a_host_and_probe, nothing, words, number};
+ghost use Rattle.sim_script.specs.Parsed.{meant};
 
 use crate::ask::{Ask, Form};
 use crate::condition::condition_of;
@@ -185,24 +186,29 @@ fn parse_numbered(branch: u32, word: &[u8], rest: &[u8]) -> Option<Command>
     }
 }
 
-/// Returns the line of a command, or a bad line if there is none.
-fn line_by(command: Option<Command>) -> ScriptLine
-    ensures { result ≡ asked command }
-{
-    match command {
-        Some(command) => ScriptLine::Asked(Ask {
-            form: Form::Plain(command),
-        }),
-        None => ScriptLine::Bad,
-    }
+/// What the words of a command mean. It is small: the condition of a watch is still its text, since
+/// a condition takes hundreds of bytes, which each call would move.
+#[derive(Drop)]
+enum Parsed<'a> {
+    /// Any command but a watch.
+    Plain(Command),
+    /// A watch, with its branch and the text of its condition.
+    Watch(u32, &'a [u8]),
 }
 
-/// Reads a line that sets a watch, by the text after `watch`.
-fn parse_watch(names: &Names, branch: u32, rest: &[u8]) -> ScriptLine
-    ensures { result ≡ asked (option_map (Command.Watch branch)
-        (condition names.now (words rest.now))) }
+/// Returns a command that is no watch, if there is one.
+fn plain<'a>(command: Option<Command>) -> Option<Parsed<'a>>
+    ensures { (names : _) → meant names result ≡ command }
 {
-    match condition_of(names, rest) {
+    Some(Parsed::Plain(command?))
+}
+
+/// Reads a line that sets a watch, by the text of its condition.
+fn parse_watch(names: &Names, branch: u32, text: &[u8]) -> ScriptLine
+    ensures { result ≡ asked (option_map (Command.Watch branch)
+        (condition names.now (words text.now))) }
+{
+    match condition_of(names, text) {
         Some(cond) => ScriptLine::Asked(Ask {
             form: Form::Watch(branch, cond),
         }),
@@ -230,43 +236,37 @@ fn parse_change(names: &Names, branch: u32, word: &[u8], rest: &[u8]) -> Option<
 
 /// Reads a command on a branch, by its first word and the text after it.
 #[tactic(auto, unfolding(crate::specs::Script::command_by))]
-fn parse_on(names: &Names, branch: u32, word: &[u8], rest: &[u8]) -> ScriptLine
-    ensures { result ≡ asked (command_by names.now branch word.now (words rest.now)) }
+fn parse_on<'a>(names: &Names, branch: u32, word: &[u8], rest: &'a [u8]) -> Option<Parsed<'a>>
+    ensures { meant names.now result ≡ command_by names.now branch word.now (words rest.now) }
 {
     if word == b"step".as_slice() {
-        line_by(alone(rest, Command::Step(branch)))
+        plain(alone(rest, Command::Step(branch)))
     } else if word == b"tick".as_slice() {
-        line_by(alone(rest, Command::Tick(branch)))
+        plain(alone(rest, Command::Tick(branch)))
     } else if word == b"cut".as_slice() {
-        line_by(alone(rest, Command::Cut(branch)))
+        plain(alone(rest, Command::Cut(branch)))
     } else if word == b"trace".as_slice() {
-        line_by(alone(rest, Command::Freeze(branch)))
+        plain(alone(rest, Command::Freeze(branch)))
     } else if word == b"look".as_slice() {
-        line_by(parse_look(names, branch, rest))
+        plain(parse_look(names, branch, rest))
     } else if word == b"watch".as_slice() {
-        parse_watch(names, branch, rest)
+        Some(Parsed::Watch(branch, rest))
     } else {
-        line_by(parse_change(names, branch, word, rest))
+        plain(parse_change(names, branch, word, rest))
     }
 }
 
 /// Reads a command, with its branch or without.
 #[tactic(auto, unfolding(crate::specs::Script::command_of))]
-fn parse_command(names: &Names, text: &[u8]) -> ScriptLine
-    ensures { result ≡ asked (command_of names.now (words text.now)) }
+fn parse_command<'a>(names: &Names, text: &'a [u8]) -> Option<Parsed<'a>>
+    ensures { meant names.now result ≡ command_of names.now (words text.now) }
 {
-    let Some((word, rest)) = next_word(text) else {
-        return ScriptLine::Bad;
-    };
+    let (word, rest) = next_word(text)?;
     match word {
         [b'@', digits @ ..] => {
-            let Some(branch) = parse_count(digits) else {
-                return ScriptLine::Bad;
-            };
-            match next_word(rest) {
-                Some((word, rest)) => parse_on(names, branch, word, rest),
-                None => ScriptLine::Bad,
-            }
+            let branch = parse_count(digits)?;
+            let (word, rest) = next_word(rest)?;
+            parse_on(names, branch, word, rest)
         }
         _ => parse_on(names, 0, word, rest),
     }
@@ -283,5 +283,11 @@ pub fn line_of(names: &Names, line: &[u8]) -> ScriptLine
     if line.len() > MAX_LINE {
         return ScriptLine::Bad;
     }
-    parse_command(names, line)
+    match parse_command(names, line) {
+        Some(Parsed::Plain(command)) => ScriptLine::Asked(Ask {
+            form: Form::Plain(command),
+        }),
+        Some(Parsed::Watch(branch, text)) => parse_watch(names, branch, text),
+        None => ScriptLine::Bad,
+    }
 }
