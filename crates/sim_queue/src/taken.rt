@@ -89,14 +89,16 @@ fn taken_at<B, F: Fn(&B) -> bool>(
     Some(serial)
 }
 
-// Returns the lesser of two numbers, or the one that there is.
+// Returns the lesser of two numbers, or the one that there is. Mostly there is no other one.
 #[inline(always)]
 fn lesser(one: Option<u64>, other: Option<u64>) -> Option<u64>
     ensures { result ≡ lesser one other }
 {
-    match (one, other) {
-        (Some(x), Some(y)) => Some(x.min(y)),
-        (one, None) => one,
-        (None, other) => other,
+    let Some(y) = other else {
+        return one;
+    };
+    match one {
+        Some(x) => Some(x.min(y)),
+        None => Some(y),
     }
 }
