@@ -17,8 +17,7 @@ loop-place-preserved g c =
     let f = c.args.frozen.now in
     let lo = c.args.piece.lo in
     let p = c.loop-place.place in
-    let h = c.loop-place.invariant.0 in
-    (
+    let h = c.loop-place.invariant.0 in (
       scanning_more g.N.Node.laws g.N.Node.PROBES c.args.cond.now f.scenario f.events lo p c.loop-place.tape c.pass.new.self h c.in_ok-pass.ensures.ok
           (found_at g.N.Node.laws g.N.Node.PROBES c.args.cond.now f.scenario f.events lo p c.loop-place.tape false h (sym c.if-fails_here.false ∙ c.fails_here.ensures)),
       plays_more (lo % f.scenario.interval + (p - lo)) (lo % f.scenario.interval + (p + 1 - lo)) _ _ _ _ c.loop-place.invariant.1 c.in_ok-pass.ensures.work (omega arith),
