@@ -190,7 +190,7 @@ impl<N: Node> Parts<N> {
     }
 
     // Takes out the pending timer of a host, if there is one.
-    fn take_timer(
+    pub(crate) fn take_timer(
         &mut self,
         index: &mut Index,
         trail: &mut Trail<N>,
