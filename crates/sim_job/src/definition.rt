@@ -155,111 +155,125 @@ fn named_input<'a>(alloc: Global) -> Arg<'a>
 fn play<'a>(alloc: Global) -> Result<Command<'a>, AllocError>
     ensures { IfOk result (IsCommand line.play) }
 {
+    let args = vec![in alloc; strict(alloc), input(alloc)]?;
     Command::new(alloc, "play")
         .about("Play the script, and write one line for each command")
         .after_help("Example: simback play examples/first-run.play")
-        .arg(strict(alloc))?
-        .arg(input(alloc))
+        .args(args)
 }
 
 fn search<'a>(alloc: Global) -> Result<Command<'a>, AllocError>
     ensures { IfOk result (IsCommand line.search) }
 {
+    let args = vec![in alloc;
+        workers(alloc),
+        progress(alloc),
+        strict(alloc),
+        number(alloc, "lo", "LO", "The first place to look at"),
+        number(alloc, "hi", "HI", "The last place to look at"),
+        cond(alloc),
+        input(alloc),
+    ]?;
     Command::new(alloc, "search")
         .about("Play the script, and find the first place where a condition fails")
         .after_help(
             "Example: simback search --workers 4 0 6 \"w.next <= 1\" examples/first-run.play",
         )
-        .arg(workers(alloc))?
-        .arg(progress(alloc))?
-        .arg(strict(alloc))?
-        .arg(number(alloc, "lo", "LO", "The first place to look at"))?
-        .arg(number(alloc, "hi", "HI", "The last place to look at"))?
-        .arg(cond(alloc))?
-        .arg(input(alloc))
+        .args(args)
 }
 
 fn sweep<'a>(alloc: Global) -> Result<Command<'a>, AllocError>
     ensures { IfOk result (IsCommand line.sweep) }
 {
-    Command::new(alloc, "sweep")
-        .about("Run the scenario with other seeds, and find the first that fails a condition")
-        .after_help(SWEEP_EXAMPLES)
-        .arg(workers(alloc))?
-        .arg(progress(alloc))?
-        .arg(with_script(alloc))?
-        .arg(strict(alloc))?
-        .arg(faults(alloc))?
-        .arg(quiet(alloc))?
-        .arg(at_end(alloc))?
-        .arg(flag(alloc, "json", "Write the answer as a JSON object on a line"))?
-        .arg(number(alloc, "first", "FIRST", "The number of the first seed"))?
-        .arg(number(alloc, "count", "COUNT", "How many seeds to run"))?
-        .arg(number(
+    let args = vec![in alloc;
+        workers(alloc),
+        progress(alloc),
+        with_script(alloc),
+        strict(alloc),
+        faults(alloc),
+        quiet(alloc),
+        at_end(alloc),
+        flag(alloc, "json", "Write the answer as a JSON object on a line"),
+        number(alloc, "first", "FIRST", "The number of the first seed"),
+        number(alloc, "count", "COUNT", "How many seeds to run"),
+        number(
             alloc,
             "events",
             "EVENTS",
             "How many steps to run with each seed, at most",
-        ))?
-        .arg(cond(alloc))?
-        .arg(input(alloc))
+        ),
+        cond(alloc),
+        input(alloc),
+    ]?;
+    Command::new(alloc, "sweep")
+        .about("Run the scenario with other seeds, and find the first that fails a condition")
+        .after_help(SWEEP_EXAMPLES)
+        .args(args)
 }
 
 fn script<'a>(alloc: Global) -> Result<Command<'a>, AllocError>
     ensures { IfOk result (IsCommand line.script) }
 {
+    let args = vec![in alloc;
+        faults(alloc),
+        quiet(alloc),
+        number(alloc, "seed", "I", "The number of the seed"),
+        number(alloc, "events", "EVENTS", "How many steps to run, at most"),
+        input(alloc),
+    ]?;
     Command::new(alloc, "script")
         .about("Write the run of a seed, as a sweep makes it, as an input for a play")
         .after_help("Example: simback script --faults 8 654 120 examples/torn-commit.play")
-        .arg(faults(alloc))?
-        .arg(quiet(alloc))?
-        .arg(number(alloc, "seed", "I", "The number of the seed"))?
-        .arg(number(alloc, "events", "EVENTS", "How many steps to run, at most"))?
-        .arg(input(alloc))
+        .args(args)
 }
 
 fn shrink<'a>(alloc: Global) -> Result<Command<'a>, AllocError>
     ensures { IfOk result (IsCommand line.shrink) }
 {
+    let args = vec![in alloc; progress(alloc), cond(alloc), input(alloc)]?;
     Command::new(alloc, "shrink")
         .about("Make the run that the script leaves as small as a condition still fails in it")
         .after_help("Example: simback shrink \"agree first unless 0\" run.play")
-        .arg(progress(alloc))?
-        .arg(cond(alloc))?
-        .arg(input(alloc))
+        .args(args)
 }
 
 fn log<'a>(alloc: Global) -> Result<Command<'a>, AllocError>
     ensures { IfOk result (IsCommand line.log) }
 {
-    Command::new(alloc, "log")
-        .about("Play the script, and tell in words what each event of its run did")
-        .after_help("Example: simback log --from 8 examples/torn-commit.play")
-        .arg(optional_number(alloc, "from", "P", "The first event to tell; without it 1"))?
-        .arg(optional_number(
+    let args = vec![in alloc;
+        optional_number(alloc, "from", "P", "The first event to tell; without it 1"),
+        optional_number(
             alloc,
             "to",
             "Q",
             "The last event to tell; without it the last",
-        ))?
-        .arg(flag(alloc, "json", "Write each event as a JSON object on a line"))?
-        .arg(input(alloc))
+        ),
+        flag(alloc, "json", "Write each event as a JSON object on a line"),
+        input(alloc),
+    ]?;
+    Command::new(alloc, "log")
+        .about("Play the script, and tell in words what each event of its run did")
+        .after_help("Example: simback log --from 8 examples/torn-commit.play")
+        .args(args)
 }
 
 fn page<'a>(alloc: Global) -> Result<Command<'a>, AllocError>
     ensures { IfOk result (IsCommand line.page) }
 {
-    Command::new(alloc, "page")
-        .about("Play the script, and write its run as an HTML page to walk back and forth")
-        .after_help(PAGE_EXAMPLE)
-        .arg(optional_word(alloc, "title", "TEXT", "The heading of the page"))?
-        .arg(optional_word(
+    let args = vec![in alloc;
+        optional_word(alloc, "title", "TEXT", "The heading of the page"),
+        optional_word(
             alloc,
             "watch",
             "COND",
             "Conditions, as one word in quotes, with ; between: the page shows where each fails",
-        ))?
-        .arg(input(alloc))
+        ),
+        input(alloc),
+    ]?;
+    Command::new(alloc, "page")
+        .about("Play the script, and write its run as an HTML page to walk back and forth")
+        .after_help(PAGE_EXAMPLE)
+        .args(args)
 }
 
 fn walk<'a>(alloc: Global) -> Result<Command<'a>, AllocError>

@@ -1,11 +1,12 @@
+use Rattle.std.proofs.Common.{sym, subst}
 use Rattle.std.proofs.lemmas.Result.{IfOk-weaker}
-use Rattle.sim_job.proofs.Adding.{named, with_argument}
+use Rattle.sim_job.specs.CommandLine as line
+use Rattle.sim_job.proofs.Adding.{named, with_arguments, AreArguments}
 use Rattle.sim_job.proofs.definition.log.Goals as goal
 
 pub returns : goal.returns
 returns c =
     let none = named _ _ c.after_help.result c.new.ensures.app c.new.ensures.local c.about.ensures c.after_help.ensures in
-    let one = with_argument c.in_ok-arg.ensures none c.optional_number.ensures in
-    let two = with_argument c.in_ok-arg-2.ensures one c.optional_number-2.ensures in
-    let three = with_argument c.in_ok-arg-3.ensures two c.flag.ensures in
-    IfOk-weaker c.arg-4.result _ _ (λ made adds. with_argument adds three c.input.ensures) c.arg-4.ensures
+    let are = subst (AreArguments line.log.rules) (sym c.in_ok-args.ensures.items)
+        (c.optional_number.ensures, (c.optional_number-2.ensures, (c.flag.ensures, (c.input.ensures, _)))) in
+    IfOk-weaker c.args-2.result _ _ (λ made adds. with_arguments line.log.rules _ are adds none) c.args-2.ensures

@@ -1,12 +1,12 @@
+use Rattle.std.proofs.Common.{sym, subst}
 use Rattle.std.proofs.lemmas.Result.{IfOk-weaker}
-use Rattle.sim_job.proofs.Adding.{named, with_argument}
+use Rattle.sim_job.specs.CommandLine as line
+use Rattle.sim_job.proofs.Adding.{named, with_arguments, AreArguments}
 use Rattle.sim_job.proofs.definition.script.Goals as goal
 
 pub returns : goal.returns
 returns c =
     let none = named _ _ c.after_help.result c.new.ensures.app c.new.ensures.local c.about.ensures c.after_help.ensures in
-    let one = with_argument c.in_ok-arg.ensures none c.faults.ensures in
-    let two = with_argument c.in_ok-arg-2.ensures one c.quiet.ensures in
-    let three = with_argument c.in_ok-arg-3.ensures two c.number.ensures in
-    let four = with_argument c.in_ok-arg-4.ensures three c.number-2.ensures in
-    IfOk-weaker c.arg-5.result _ _ (λ made adds. with_argument adds four c.input.ensures) c.arg-5.ensures
+    let are = subst (AreArguments line.script.rules) (sym c.in_ok-args.ensures.items)
+        (c.faults.ensures, (c.quiet.ensures, (c.number.ensures, (c.number-2.ensures, (c.input.ensures, _))))) in
+    IfOk-weaker c.args-2.result _ _ (λ made adds. with_arguments line.script.rules _ are adds none) c.args-2.ensures

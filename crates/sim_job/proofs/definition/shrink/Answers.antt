@@ -1,10 +1,12 @@
+use Rattle.std.proofs.Common.{sym, subst}
 use Rattle.std.proofs.lemmas.Result.{IfOk-weaker}
-use Rattle.sim_job.proofs.Adding.{named, with_argument}
+use Rattle.sim_job.specs.CommandLine as line
+use Rattle.sim_job.proofs.Adding.{named, with_arguments, AreArguments}
 use Rattle.sim_job.proofs.definition.shrink.Goals as goal
 
 pub returns : goal.returns
 returns c =
     let none = named _ _ c.after_help.result c.new.ensures.app c.new.ensures.local c.about.ensures c.after_help.ensures in
-    let one = with_argument c.in_ok-arg.ensures none c.progress.ensures in
-    let two = with_argument c.in_ok-arg-2.ensures one c.cond.ensures in
-    IfOk-weaker c.arg-3.result _ _ (λ made adds. with_argument adds two c.input.ensures) c.arg-3.ensures
+    let are = subst (AreArguments line.shrink.rules) (sym c.in_ok-args.ensures.items)
+        (c.progress.ensures, (c.cond.ensures, (c.input.ensures, _))) in
+    IfOk-weaker c.args-2.result _ _ (λ made adds. with_arguments line.shrink.rules _ are adds none) c.args-2.ensures
