@@ -8,5 +8,5 @@ pub returns : goal.returns
 returns c =
     let none = named _ _ c.after_help.result c.new.ensures.app c.new.ensures.local c.about.ensures c.after_help.ensures in
     let are = subst (AreArguments line.log.rules) (sym c.in_ok-args.ensures.items)
-        (c.optional_number.ensures, (c.optional_number-2.ensures, (c.flag.ensures, (c.input.ensures, _)))) in
+    (c.optional_number.ensures, (c.optional_number-2.ensures, (c.flag.ensures, (c.input.ensures, _)))) in
     IfOk-weaker c.args-2.result _ _ (λ made adds. with_arguments line.log.rules _ are adds none) c.args-2.ensures
