@@ -1,4 +1,4 @@
-use Rattle.std.proofs.Common.{◌≡◌, None, slice_index_or, sym, subst}
+use Rattle.std.proofs.Common.{sym, subst}
 use Rattle.std.proofs.lemmas.Result.{on_ok_weaker}
 use Rattle.sim_world.specs.World.{World}
 use Rattle.sim_world.specs.inside.Index.{IsIndex}
