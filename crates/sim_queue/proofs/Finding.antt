@@ -1,10 +1,13 @@
 -- The least serial of an item whose body passes a test, among some places and among all.
-use Rattle.std.proofs.Common.{◌≡◌, ℕ, ◌+◌, ◌-◌, ◌<◌, ◌≤◌, List, Option, Some, None, Bool, true, false, refl, sym, ap, ◌∙◌, subst, arith, ◌⊎◌, inl, inr, ⊎_elim, if◌then◌else◌, nat_lt, min}
+use Rattle.std.proofs.Common.{◌≡◌, ℕ, ◌+◌, ◌-◌, ◌<◌, ◌≤◌, List, Option, Some, None, Bool, true, false, refl, sym, ap, ◌∙◌, subst, arith, ◌⊎◌, inl, inr, ⊎_elim, if◌then◌else◌, nat_lt, min, length, is_some}
+use Rattle.std.proofs.Math.ListN.{get_or}
 use Rattle.std.specs.Prelude.{MatchOption}
+use Rattle.std.specs.Option.{IsSome}
+use Rattle.std.proofs.lemmas.List.{get_or_default}
 use Rattle.std.proofs.lemmas.Bool.{cases_lt, le-ltb, lt-ltb, false≢true}
 use Rattle.std.proofs.lemmas.Option.{none-some, same_Some}
 use Rattle.sim_queue.specs.declared.lists.Node.{Node}
-use Rattle.sim_queue.specs.inside.Lists.{node, HasKey}
+use Rattle.sim_queue.specs.inside.Lists.{node, HasKey, IsLists}
 use Rattle.sim_queue.specs.inside.Wheel.{key_at, keys_of}
 use Rattle.sim_queue.specs.inside.Sparse.{body_at}
 use Rattle.sim_queue.specs.inside.Slots.{at, takes}
@@ -12,9 +15,38 @@ use Rattle.sim_queue.specs.Pending.{next_taken}
 use Rattle.sim_queue.specs.Items.{items_from}
 use Rattle.sim_queue.proofs.Views.{that_found}
 use Rattle.sim_queue.specs.inside.Sparse.{slots_of, IsSparse}
-use Rattle.sim_queue.specs.inside.Taken.{lesser, taken_serial, IsTakenAt, IsLeastAmong, IsLeastTaken}
-use Rattle.sim_queue.proofs.Turning.{key_of_place}
-use Rattle.sim_queue.proofs.Sparse.{found_slot, some_index, got}
+use Rattle.sim_queue.specs.inside.Taken.{lesser, taken_serial, HasBodies, IsTakenAt, IsLeastAmong, IsLeastTaken}
+use Rattle.sim_queue.proofs.Nodes.{key_from}
+use Rattle.sim_queue.proofs.Turning.{key_of_place, key_of_node}
+use Rattle.sim_queue.proofs.Sparse.{spot_within, found_slot, some_index, got}
+
+-- a spot with something is within
+some_within : {X : Type 0} (xs : List (Option X)) (i : ℕ) (o : Option X) → get_or xs i None ≡ o → IsSome o → i < length xs
+some_within xs i None is some = absurd (false≢true some)
+some_within xs i (Some x) is some = spot_within xs i x is
+
+-- the body that is read at a place
+read_body : {B : Type 0} (bodies : List (Option B)) (k : ℕ) (o : Option B) → k < length bodies → o ≡ get_or bodies k o → body_at bodies k ≡ o
+read_body bodies k o lt read = get_or_default bodies k None o lt ∙ sym read
+
+-- a node with a key has a body
+pub record HasBody {B : Type 0} (bodies : List (Option B)) (k : ℕ) : Type 0 where
+  pub within : k < length bodies
+  pub read : (o : Option B) → o ≡ get_or bodies k o → body_at bodies k ≡ o
+  pub there : (o : Option B) → o ≡ get_or bodies k o → IsSome o
+
+pub body_of_key : {B : Type 0} (w at : ℕ) (nodes : List Node) (bodies : List (Option B)) → IsLists w nodes → HasBodies (keys_of nodes) bodies → HasKey (node nodes at)
+    → HasBody bodies (at - 256)
+body_of_key w at nodes bodies lists bodied key =
+    let from = key_from w nodes at lists key in
+    let e : at - 256 + 256 ≡ at = omega arith in
+    let some = bodied (at - 256) (ap (λ k. is_some k) (key_of_node nodes (at - 256) (subst (λ (n : ℕ). HasKey (node nodes n)) (sym e) key))) in
+    let within = some_within bodies (at - 256) (body_at bodies (at - 256)) refl some in
+    record {
+      within = within;
+      read = λ o read. read_body bodies (at - 256) o within read;
+      there = λ o read. ap (λ b. is_some b) (sym (read_body bodies (at - 256) o within read)) ∙ some;
+    }
 
 -- one of the two, and neither is less
 pub lesser_is : (a b : Option ℕ) (s : ℕ) → lesser a b ≡ Some s → (a ≡ Some s) ⊎ (b ≡ Some s)
@@ -122,6 +154,15 @@ module _ {B : Type 0} (p : B → Bool) where
     least_all P r of all = record { found = of.found; least = λ s at. of.least at.place s (all at.place (found_key at.place s at.there)) at.there }
 
 module _ {B : Type 0} (keys : List (Option (ℕ × ℕ))) (bodies : List (Option B)) (places : List (Option ℕ)) (base count : ℕ) (sparse : IsSparse keys bodies places base count) where
+  -- each key of the slots has a body
+  pub have_bodies : HasBodies keys bodies
+  have_bodies k some = go (key_at keys k) refl some
+    where
+      go : (key : Option (ℕ × ℕ)) → key_at keys k ≡ key → IsSome key → IsSome (body_at bodies k)
+      go None is some = absurd (false≢true some)
+      go (Some key) is some =
+          ap (λ b. is_some b) (sparse.found (key.1 - base) k (sparse.placed k key.0 key.1 is)).there
+
   module _ (p : B → Bool) where
     -- a serial that is found at a place is that of a slot with such a body
     pub taken_slot : (from s : ℕ) → IsTakenAt p keys bodies from s → (base ≤ s) × (from ≤ s) × (takes p (at (slots_of keys bodies places) (s - base)) ≡ true)

@@ -3,7 +3,8 @@ ghost use Rattle.std.specs.Prelude.{◌≡◌, ◌-◌, ◌<◌, Bool};
 ghost use Rattle.sim_queue.specs.Pending.{Decides};
 ghost use Rattle.sim_queue.specs.inside.Lists.{node, HasKey, IsLists};
 ghost use Rattle.sim_queue.specs.inside.Sparse.{body_at};
-ghost use Rattle.sim_queue.specs.inside.Taken.{lesser, taken_serial, IsLeastIn, IsLeastTaken};
+ghost use Rattle.sim_queue.specs.inside.Taken.{lesser, taken_serial, HasBodies, IsLeastIn};
+ghost use Rattle.sim_queue.specs.inside.Taken.{IsLeastTaken};
 ghost use Rattle.sim_queue.specs.inside.Wheel.{key_of, keys_of, HasMarks};
 
 use crate::lists::{LISTS, Lists};
@@ -21,6 +22,7 @@ pub(crate) fn least_taken<B, F: Fn(&B) -> bool>(
 ) -> Option<u64>
     requires callable { F.IsAlwaysCallable test.now }
     requires lists { IsLists lists.now.width lists.now.nodes.items }
+    requires bodies { HasBodies (keys_of lists.now.nodes.items) bodies.now.items }
     requires marked { HasMarks lists.now.width marks.now.words lists.now.nodes.items }
     ensures { (p : B → Bool) → Decides F.Fn test.now p
         → IsLeastTaken p (keys_of lists.now.nodes.items) bodies.now.items from result }
@@ -49,6 +51,7 @@ fn least_in<B, F: Fn(&B) -> bool>(
 ) -> Option<u64>
     requires callable { F.IsAlwaysCallable test.now }
     requires lists { IsLists lists.now.width lists.now.nodes.items }
+    requires bodies { HasBodies (keys_of lists.now.nodes.items) bodies.now.items }
     requires list { list < 256 }
     ensures { (p : B → Bool) → Decides F.Fn test.now p
         → IsLeastIn p lists.now.width lists.now.nodes.items list bodies.now.items from result }
@@ -73,12 +76,13 @@ fn taken_at<B, F: Fn(&B) -> bool>(
 ) -> Option<u64>
     requires callable { F.IsAlwaysCallable test.now }
     requires lists { IsLists lists.now.width lists.now.nodes.items }
+    requires bodies { HasBodies (keys_of lists.now.nodes.items) bodies.now.items }
     requires key { HasKey (node lists.now.nodes.items at) }
     ensures { (p : B → Bool) → Decides F.Fn test.now p → result
         ≡ taken_serial p from (key_of (node lists.now.nodes.items at))
         (body_at bodies.now.items (at - 256)) }
 {
-    let body = bodies.get((at - LISTS) as usize)?.as_ref()?;
+    let body = bodies[(at - LISTS) as usize].as_ref().unwrap();
     if !test(body) {
         return None;
     }

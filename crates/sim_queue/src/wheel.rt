@@ -4,7 +4,7 @@ ghost use Rattle.std.specs.Prelude.{IfNone, Bool};
 ghost use Rattle.std.specs.Option.{IsSome};
 ghost use Rattle.sim_queue.specs.Pending.{Decides};
 ghost use Rattle.sim_queue.specs.inside.Lists.{IsLists};
-ghost use Rattle.sim_queue.specs.inside.Taken.{IsLeastTaken};
+ghost use Rattle.sim_queue.specs.inside.Taken.{HasBodies, IsLeastTaken};
 ghost use Rattle.sim_queue.specs.inside.Wheel.{key_at, HasNone, HasSame, HasSameBut, IsPlace};
 ghost use Rattle.sim_queue.specs.inside.Wheel.{IsFirst, HasMarks, Fits64, IsFrom, IsFloor};
 
@@ -117,7 +117,8 @@ impl Wheel {
         from: u64,
         test: &F,
     ) -> Option<u64>
-        requires { F.IsAlwaysCallable test.now }
+        requires callable { F.IsAlwaysCallable test.now }
+        requires bodies { HasBodies self.now bodies.now.items }
         ensures { (p : B → Bool) → Decides F.Fn test.now p
             → IsLeastTaken p self.now bodies.now.items from result }
     {

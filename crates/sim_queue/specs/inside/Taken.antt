@@ -1,10 +1,14 @@
 -- The item of the least serial whose body passes a test, found list by list.
 use Rattle.std.specs.Prelude.{◌≡◌, ℕ, ◌+◌, ◌≤◌, nat_lt, Bool, List, Option, None, Some}
-use Rattle.std.specs.Prelude.{MatchOption, if◌then◌else◌, min}
+use Rattle.std.specs.Prelude.{MatchOption, IsSome, if◌then◌else◌, min}
 use Rattle.sim_queue.specs.declared.lists.Node.{Node}
 use Rattle.sim_queue.specs.inside.Lists.{node, list_of}
 use Rattle.sim_queue.specs.inside.Wheel.{key_at, keys_of}
 use Rattle.sim_queue.specs.inside.Sparse.{body_at}
+
+-- each key has a body
+abbrev pub HasBodies : {B : Type 0} → List (Option (ℕ × ℕ)) → List (Option B) → Type 0
+HasBodies keys bodies = (k : ℕ) → IsSome (key_at keys k) → IsSome (body_at bodies k)
 
 -- the lesser of two numbers, or the one that there is
 abbrev pub lesser : Option ℕ → Option ℕ → Option ℕ
