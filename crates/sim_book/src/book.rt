@@ -23,13 +23,25 @@ use std::alloc::Global;
 use std::marker::Model;
 
 /// Branches of one run, with the history of the commands that made them.
-#[derive(Drop)]
 pub struct Book<N: Node> {
     scenario: Scenario,
     branches: Vec<Kept<N>>,
     history: Vec<Entry>,
     numbers: [u32; 256],
     meter: N::Meter,
+}
+
+// Not derived: a crate that drops a book would prove the drop of each of its parts again.
+impl<N: Node> Drop for Book<N> {
+    fn drop(self) {
+        let Book {
+            scenario: _scenario,
+            branches: _branches,
+            history: _history,
+            numbers: _numbers,
+            meter: _meter,
+        } = self;
+    }
 }
 
 impl<N: Node> Model for Book<N> {
@@ -296,7 +308,13 @@ impl<N: Node> Book<N> {
         ensures legal { IsLegal (rules N.laws N.PROBES self.scenario) result.items
             (all_shown self.kept) }
     {
-        let Book { history, .. } = self;
+        let Book {
+            scenario: _scenario,
+            branches: _branches,
+            history,
+            numbers: _numbers,
+            meter: _meter,
+        } = self;
         history
     }
 }

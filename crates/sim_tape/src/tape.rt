@@ -32,12 +32,23 @@ use std::sync::Arc;
 /// The kept events of a run, a place among them, and, if memory allowed it, the world there with
 /// the records of the last events before it. A checkpoint, shared and never changed, is kept at the
 /// start and after each interval of events.
-#[derive(Drop)]
 pub struct Tape<N: Node> {
     log: Log,
     checkpoints: SharedList<PackedWorld<N>>,
     place: u32,
     walk: Walk<N>,
+}
+
+// Not derived: a crate that drops a tape would prove the drop of each of its parts again.
+impl<N: Node> Drop for Tape<N> {
+    fn drop(self) {
+        let Tape {
+            log: _log,
+            checkpoints: _checkpoints,
+            place: _place,
+            walk: _walk,
+        } = self;
+    }
 }
 
 impl<N: Node> Model for Tape<N> {
@@ -502,7 +513,12 @@ impl<N: Node> Tape<N> {
     pub(crate) fn take_over(&mut self, spent: Tape<N>)
         ensures { self.new ≡ with_world self.old.warm 0 self.old }
     {
-        let Tape { walk, .. } = spent;
+        let Tape {
+            log: _log,
+            checkpoints: _checkpoints,
+            place: _place,
+            walk,
+        } = spent;
         self.walk.take_over(walk);
     }
 

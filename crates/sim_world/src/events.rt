@@ -248,7 +248,7 @@ impl<N: Node> World<N> {
             N.Meter.work meter.new ≡ turned_by (turns_of self.world event)
             (N.Meter.work meter.old)) }
     {
-        let World { mut cluster } = self;
+        let mut cluster = self.into_cluster();
         let mut undo = Undo::empty(alloc);
         undo.trail.take_memory(&mut cluster.spare);
         cluster.apply(event, &mut undo, meter)?;
@@ -280,7 +280,7 @@ impl<N: Node> World<N> {
             N.Meter.work meter.new ≡ turned_by (turns_of self.world event)
             (N.Meter.work meter.old)) }
     {
-        let World { mut cluster } = self;
+        let mut cluster = self.into_cluster();
         cluster.take_over(undo);
         cluster.apply(event, undo, meter)?;
         Ok(World { cluster })
@@ -308,7 +308,7 @@ impl<N: Node> World<N> {
             N.Meter.work meter.new ≡ turned_if (acts self.world event.Step)
             (N.Meter.work meter.old)) }
     {
-        let World { mut cluster } = self;
+        let mut cluster = self.into_cluster();
         let host = cluster.step_for_good(meter)?;
         Ok((World { cluster }, host))
     }
@@ -332,7 +332,7 @@ impl<N: Node> World<N> {
         ensures work { OnOk result (
             N.Meter.work meter.new ≡ taken_back undo.changes (N.Meter.work meter.old)) }
     {
-        let World { mut cluster } = self;
+        let mut cluster = self.into_cluster();
         let mut spent = undo;
         cluster.undo(alloc, &mut spent, meter)?;
         spent.trail.leave_memory(&mut cluster.spare);
@@ -357,7 +357,7 @@ impl<N: Node> World<N> {
         ensures work { OnOk result (
             N.Meter.work meter.new ≡ taken_back undo.old.changes (N.Meter.work meter.old)) }
     {
-        let World { mut cluster } = self;
+        let mut cluster = self.into_cluster();
         cluster.undo(alloc, undo, meter)?;
         Ok(World { cluster })
     }

@@ -25,7 +25,6 @@ use std::marker::Model;
 use std::sync::Arc;
 
 /// A world in less memory, as in a checkpoint. Contracts see the world, its scenario and its age.
-#[derive(Drop)]
 pub struct PackedWorld<N: Node> {
     clock: u64,
     streams: Streams,
@@ -36,6 +35,23 @@ pub struct PackedWorld<N: Node> {
     held: u32,
     scenario: Arc<Scenario>,
     age: u32,
+}
+
+// Not derived, for the reason that `World` gives.
+impl<N: Node> Drop for PackedWorld<N> {
+    fn drop(self) {
+        let PackedWorld {
+            clock: _clock,
+            streams: _streams,
+            queue: _queue,
+            links: _links,
+            hosts: _hosts,
+            in_flight: _in_flight,
+            held: _held,
+            scenario: _scenario,
+            age: _age,
+        } = self;
+    }
 }
 
 impl<N: Node> Model for PackedWorld<N> {
