@@ -12,6 +12,10 @@ use Rattle.sim_script.specs.Script.{Text, Names, script_line}
 use Rattle.sim_script.specs.declared.script.ScriptLine.TheVariants.{Asked}
 use Rattle.sim_reseed.specs.Input.{with_line_end}
 use Rattle.sim_input.specs.Events.{AreRead, command_of}
+use Rattle.sim_input.specs.declared.events.LineError.{LineError}
+use Rattle.sim_input.specs.declared.events.LineError.TheVariants as line
+use Rattle.sim_reseed.specs.declared.error.ReseedError.{ReseedError}
+use Rattle.sim_reseed.specs.declared.error.ReseedError.TheVariants as reseed
 use Rattle.sim_cli.specs.declared.status.Status.{Status}
 use Rattle.sim_cli.specs.declared.status.Status.TheVariants.{Well, BadScenario, BadRequest}
 use Rattle.sim_cli.specs.declared.status.Status.TheVariants.{ReaderFailed, WriterFailed}
@@ -19,9 +23,21 @@ use Rattle.sim_cli.specs.declared.status.Status.TheVariants.{MemoryWanted}
 use Rattle.sim_cli.specs.Lines.{fault_line}
 use Rattle.sim_cli.specs.Play.{Ended, Nodes, names_of, read_scenario}
 use Rattle.sim_cli.specs.Subjects.{Ports}
+use Rattle.sim_export.specs.declared.input.InputError.{InputError}
+use Rattle.sim_export.specs.declared.input.InputError.TheVariants as unwritten
 use Rattle.sim_export.specs.declared.export.Export.{Export}
 use Rattle.sim_export.specs.declared.export.Export.TheVariants.{Input, Shown, Nowhere, BadRange}
 use Rattle.sim_export.specs.declared.export.Export.TheVariants.{BadCondition, BadScript, NoInput}
+
+-- why a run has no input: one of its events has no line
+abbrev pub no_input_by_line : LineError → InputError
+no_input_by_line line.NoLine = unwritten.NoInput
+no_input_by_line line.NoMemory = unwritten.NoMemory
+
+-- or its scenario has no numbered text, or begins no input
+abbrev pub no_input_by_scenario : ReseedError → InputError
+no_input_by_scenario reseed.NoMemory = unwritten.NoMemory
+no_input_by_scenario _ = unwritten.NoInput
 
 -- Cut as a play cuts it, the input is the text of this scenario, with a line end after its last
 -- line, and a script. If each name is read as its host, the lines of the script are read as the

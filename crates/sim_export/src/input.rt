@@ -16,7 +16,10 @@ pub enum InputError {
 }
 
 impl From<AllocError> for InputError {
-    ghost from_gives = { λ _ _. Unit {0} };
+    ghost use Rattle.std.specs.Prelude.{◌≡◌};
+    ghost use Rattle.sim_export.specs.declared.input.InputError.TheVariants as input;
+
+    ghost from_gives = { λ _ e. e ≡ input.NoMemory };
 
     fn from(_error: AllocError) -> InputError {
         InputError::NoMemory
@@ -24,7 +27,10 @@ impl From<AllocError> for InputError {
 }
 
 impl From<LineError> for InputError {
-    ghost from_gives = { λ _ _. Unit {0} };
+    ghost use Rattle.std.specs.Prelude.{◌≡◌};
+    ghost use Rattle.sim_export.specs.Exports.{no_input_by_line};
+
+    ghost from_gives = { λ error e. e ≡ no_input_by_line error };
 
     fn from(error: LineError) -> InputError {
         match error {
@@ -35,7 +41,10 @@ impl From<LineError> for InputError {
 }
 
 impl From<ReseedError> for InputError {
-    ghost from_gives = { λ _ _. Unit {0} };
+    ghost use Rattle.std.specs.Prelude.{◌≡◌};
+    ghost use Rattle.sim_export.specs.Exports.{no_input_by_scenario};
+
+    ghost from_gives = { λ error e. e ≡ no_input_by_scenario error };
 
     fn from(error: ReseedError) -> InputError {
         match error {

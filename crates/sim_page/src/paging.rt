@@ -88,7 +88,10 @@ enum WatchError {
 }
 
 impl From<AllocError> for WatchError {
-    ghost from_gives = { λ _ _. Unit {0} };
+    ghost use Rattle.std.specs.Prelude.{◌≡◌};
+    ghost use Rattle.sim_page.specs.declared.paging.WatchError.TheVariants as watch;
+
+    ghost from_gives = { λ _ e. e ≡ watch.NoMemory };
 
     fn from(_error: AllocError) -> WatchError {
         WatchError::NoMemory

@@ -69,7 +69,10 @@ pub(crate) enum OrderError {
 }
 
 impl From<AllocError> for OrderError {
-    ghost from_gives = { λ _ _. Unit {0} };
+    ghost use Rattle.std.specs.Prelude.{◌≡◌};
+    ghost use Rattle.sim_walk.specs.declared.order.OrderError.TheVariants as order;
+
+    ghost from_gives = { λ _ e. e ≡ order.NoMemory };
 
     fn from(_error: AllocError) -> OrderError {
         OrderError::NoMemory

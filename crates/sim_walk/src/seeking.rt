@@ -26,7 +26,10 @@ pub(crate) enum SeekError {
 }
 
 impl From<AllocError> for SeekError {
-    ghost from_gives = { λ _ _. Unit {0} };
+    ghost use Rattle.std.specs.Prelude.{◌≡◌};
+    ghost use Rattle.sim_walk.specs.declared.seeking.SeekError.TheVariants as seek;
+
+    ghost from_gives = { λ _ e. e ≡ seek.NoMemory };
 
     fn from(_error: AllocError) -> SeekError {
         SeekError::NoMemory
