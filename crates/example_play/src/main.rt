@@ -3,7 +3,7 @@
 //!
 //! This is all that a program over a protocol of one's own takes: a [`Subject`], which has the name
 //! of the protocol, the least number of its servers and the names of its probes, and a `main` of
-//! one line. `sim_perform::run` reads the command line and the input, and writes the answers.
+//! one line. `sim_program::run` reads the command line and the input, and writes the answers.
 //!
 //! Why it is built this way:
 //!
@@ -21,7 +21,7 @@ ghost use Rattle.std.specs.Prelude.{codes, [], ◌∷◌};
 
 use example_counter::{Counter, Message, Role};
 use sim_cli::{Only, Subject, Tally};
-use sim_perform::run;
+use sim_program::run;
 use std::process::ExitCode;
 
 struct Counting;

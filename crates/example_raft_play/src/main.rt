@@ -21,7 +21,7 @@ mod subject;
 use crate::subject::RaftSubject;
 use example_raft::{Eager, Hasty, Sound};
 use sim_cli::{Only, With};
-use sim_perform::run;
+use sim_program::run;
 use std::process::ExitCode;
 
 type Variants = With<RaftSubject<Sound>, With<RaftSubject<Eager>, Only<RaftSubject<Hasty>>>>;

@@ -10,10 +10,11 @@ use Rattle.sim_world.specs.declared.Event.TheVariants as event
 use Rattle.sim_world.specs.Events.{Rules, run, start, IsRunnable, unless_refused}
 use Rattle.sim_world.specs.Events as world
 use Rattle.sim_tape.proofs.Placing.{run-snoc}
-use Rattle.sim_book.specs.declared.Command.{Command}
-use Rattle.sim_book.specs.declared.Command.TheVariants as command
+use Rattle.sim_watch.specs.declared.command.Command.{Command}
+use Rattle.sim_watch.specs.declared.command.Command.TheVariants as command
 use Rattle.sim_book.specs.declared.Refusal.TheVariants as refusal
-use Rattle.sim_book.specs.Book.{Branch, Book, branch, branch_of, empty_branch, world_of}
+use Rattle.sim_book.specs.Book.{Branch, Book, branch, empty_branch, world_of}
+use Rattle.sim_watch.specs.Commands.{branch_of}
 use Rattle.sim_book.specs.Answer.{first_refusal, steps, is_idle, is_due_by, after_steps, run_stop_at, run_len, tick_end, tick_steps, not_at_end, events_full, idle}
 use Rattle.sim_book.specs.Headline.{AreBranches, HasStepWorlds}
 use Rattle.sim_book.proofs.Headlines.{some_is, first_free, not_less, inside, later_free}

@@ -10,13 +10,14 @@ use Rattle.sim_world.specs.World.{Scenario}
 use Rattle.sim_world.specs.Events.{Rules, rules}
 use Rattle.sim_tape.specs.Tape.{Tape}
 use Rattle.sim_watch.specs.Condition.{Cond, fault_of}
-use Rattle.sim_book.specs.declared.Command.{Command}
-use Rattle.sim_book.specs.declared.Command.TheVariants as command
+use Rattle.sim_watch.specs.declared.command.Command.{Command}
+use Rattle.sim_watch.specs.declared.command.Command.TheVariants as command
 use Rattle.sim_book.specs.declared.Refusal.{Refusal}
 use Rattle.sim_book.specs.declared.Refusal.TheVariants as refusal
 use Rattle.sim_book.specs.declared.Reply.{Reply}
 use Rattle.sim_book.specs.declared.Reply.TheVariants as reply
-use Rattle.sim_book.specs.Book.{Branch, Book, branch_of, branch, with_branch, empty_branch}
+use Rattle.sim_book.specs.Book.{Branch, Book, branch, with_branch, empty_branch}
+use Rattle.sim_watch.specs.Commands.{branch_of, makes_branch}
 use Rattle.sim_book.specs.Answer.{first_refusal, later_checks, refusal_of, branch_after, branches_made, answer_by, after_by}
 use Rattle.sim_book.specs.History.{IsTurn, leaves_room_for_want}
 use Rattle.sim_node.specs.Work.{Work}
@@ -24,7 +25,7 @@ use Rattle.sim_book.specs.Keeps.{Keeps}
 use Rattle.sim_book.specs.Works.{Works}
 use Rattle.sim_book.specs.Kept.{Kept, shown, all_shown, branch_with}
 use Rattle.sim_book.specs.OnBranch.{IsTurnOn, refusal_on, reply_on, after_on}
-use Rattle.sim_book.specs.BookOf.{makes_branch, AllKept}
+use Rattle.sim_book.specs.BookOf.{AllKept}
 
 module _ {State Msg : Type 0} (r : Rules State Msg) where
   pub made_none : (c : Command) (x : Branch) → makes_branch c ≡ false → branches_made r c x ≡ []

@@ -13,15 +13,16 @@ use Rattle.sim_world.specs.declared.Event.{Event}
 use Rattle.sim_world.specs.declared.Event.TheVariants as event
 use Rattle.sim_world.specs.Events.{Rules, rules, run, start, hosts_of}
 use Rattle.sim_tape.proofs.Placing.{run-front}
-use Rattle.sim_book.specs.declared.Command.{Command}
-use Rattle.sim_book.specs.declared.Command.TheVariants as command
+use Rattle.sim_watch.specs.declared.command.Command.{Command}
+use Rattle.sim_watch.specs.declared.command.Command.TheVariants as command
 use Rattle.sim_book.specs.declared.Refusal.{Refusal}
 use Rattle.sim_book.specs.declared.Refusal.TheVariants as refusal
 use Rattle.sim_book.specs.Kept.{Kept, shown, all_shown}
-use Rattle.sim_book.specs.Book.{Branch, Book, IsBranch, branch, branch_of, with_branch, empty_branch, at_place, with_events}
+use Rattle.sim_book.specs.Book.{Branch, Book, IsBranch, branch, with_branch, empty_branch, at_place, with_events}
+use Rattle.sim_watch.specs.Commands.{branch_of, makes_branch}
 use Rattle.sim_book.specs.Answer.{Check, first_refusal, later_checks, unknown_host, same_host, not_at_end, events_full, idle, refusal_of, branch_after, after_by, after}
 use Rattle.sim_book.specs.Headline.{is_warm, world_by_run, IsWorldOf, AreBranches, HasWorlds, BackAfterEvent, ForwardAfterBack}
-use Rattle.sim_book.specs.BookOf.{makes_branch, AllKept}
+use Rattle.sim_book.specs.BookOf.{AllKept}
 use Rattle.sim_book.proofs.Books.{made_none}
 
 pub first_free : (t : Bool) (why : Refusal) (rest : List Check) → first_refusal ((t, why) ∷ rest) ≡ None → (t ≡ false) × (first_refusal rest ≡ None)

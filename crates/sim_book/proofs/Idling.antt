@@ -8,13 +8,14 @@ use Rattle.sim_world.specs.declared.Event.{Event}
 use Rattle.sim_world.specs.World.{Scenario}
 use Rattle.sim_world.specs.Events.{Rules, rules}
 use Rattle.sim_tape.specs.Places.{world_of}
-use Rattle.sim_book.specs.declared.Command.{Command}
-use Rattle.sim_book.specs.declared.Command.TheVariants as command
+use Rattle.sim_watch.specs.declared.command.Command.{Command}
+use Rattle.sim_watch.specs.declared.command.Command.TheVariants as command
 use Rattle.sim_book.specs.declared.Refusal.{Refusal}
 use Rattle.sim_book.specs.declared.Refusal.TheVariants as refusal
 use Rattle.sim_book.specs.declared.Reply.{Reply}
 use Rattle.sim_book.specs.declared.Reply.TheVariants as reply
-use Rattle.sim_book.specs.Book.{Branch, Book, branch_of, branch, empty_branch}
+use Rattle.sim_book.specs.Book.{Branch, Book, branch, empty_branch}
+use Rattle.sim_watch.specs.Commands.{branch_of}
 use Rattle.sim_book.specs.Book as book
 use Rattle.sim_book.specs.Answer.{Check, checks, first_refusal, refusal_of, is_idle, answer, answer_by, done_reply}
 use Rattle.sim_book.specs.History.{IsTurn}

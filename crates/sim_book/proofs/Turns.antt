@@ -28,8 +28,8 @@ use Rattle.sim_book.specs.Tapes.{lengthened}
 use Rattle.sim_watch.specs.Condition.{Cond, fault_of, has_no_host, has_no_probe, is_empty}
 use Rattle.sim_watch.specs.declared.BadTerm.TheVariants as bad
 use Rattle.std.specs.Option.{unwrap_or}
-use Rattle.sim_book.specs.declared.Command.{Command}
-use Rattle.sim_book.specs.declared.Command.TheVariants as command
+use Rattle.sim_watch.specs.declared.command.Command.{Command}
+use Rattle.sim_watch.specs.declared.command.Command.TheVariants as command
 use Rattle.sim_book.specs.declared.Refusal.{Refusal}
 use Rattle.sim_book.specs.declared.Refusal.TheVariants as refusal
 use Rattle.sim_book.specs.declared.Stop.{Stop}

@@ -7,13 +7,13 @@ use Rattle.sim_world.specs.World.{Scenario}
 use Rattle.sim_world.specs.Events.{rules}
 use Rattle.sim_tape.specs.Tape.{Tape, raised, reach_at, reach_here}
 use Rattle.sim_tape.specs.Places.{world_of}
-use Rattle.sim_book.specs.declared.Command.{Command}
-use Rattle.sim_book.specs.declared.Command.TheVariants as command
+use Rattle.sim_watch.specs.declared.command.Command.{Command}
+use Rattle.sim_watch.specs.declared.command.Command.TheVariants as command
 use Rattle.sim_book.specs.declared.Refusal.{Refusal}
 use Rattle.sim_book.specs.declared.Refusal.TheVariants as refusal
 use Rattle.sim_book.specs.declared.Reply.{Reply}
 use Rattle.sim_book.specs.declared.Reply.TheVariants as reply
-use Rattle.sim_book.specs.Book.{branch_of}
+use Rattle.sim_watch.specs.Commands.{branch_of}
 use Rattle.sim_book.specs.Answer.{is_idle, answer}
 use Rattle.sim_book.specs.Kept.{Kept, all_shown}
 

@@ -11,13 +11,13 @@ use Rattle.sim_tape.specs.Tape.{Tape, is_within_reach, is_near_ahead, reach_here
 use Rattle.sim_tape.specs.Places.{acting, world_at}
 use Rattle.sim_tape.specs.Works.{undone_by, OnlyTurns, Plays, TakesAtMost, nodes_below}
 use Rattle.sim_tape.specs.Works.{nodes_at_end, nodes_made}
-use Rattle.sim_book.specs.declared.Command.{Command}
-use Rattle.sim_book.specs.declared.Command.TheVariants as command
+use Rattle.sim_watch.specs.declared.command.Command.{Command}
+use Rattle.sim_watch.specs.declared.command.Command.TheVariants as command
 use Rattle.sim_book.specs.declared.Refusal.{Refusal}
 use Rattle.sim_book.specs.declared.Refusal.TheVariants as refusal
 use Rattle.sim_book.specs.declared.Reply.{Reply}
 use Rattle.sim_book.specs.declared.Reply.TheVariants as reply
-use Rattle.sim_book.specs.Book.{branch_of}
+use Rattle.sim_watch.specs.Commands.{branch_of}
 use Rattle.sim_book.specs.Kept.{Kept}
 
 module _ {State Msg : Type 0} (r : Rules State Msg) where

@@ -4,12 +4,13 @@ ghost use Rattle.std.specs.List.{All};
 ghost use Rattle.sim_node.specs.Work.{Work};
 ghost use Rattle.sim_world.specs.World.{Scenario as ScenarioValue};
 ghost use Rattle.sim_world.specs.Events.{rules};
-ghost use Rattle.sim_book.specs.Book.{Book, branch_of, empty_branch, IsBranch};
+ghost use Rattle.sim_book.specs.Book.{Book, empty_branch, IsBranch};
+ghost use Rattle.sim_watch.specs.Commands.{branch_of, makes_branch};
 ghost use Rattle.sim_book.specs.Kept.{shown, all_shown};
 ghost use Rattle.sim_book.specs.OnBranch.{IsTurnOn};
 ghost use Rattle.sim_book.specs.Headline.{AreBranches};
 ghost use Rattle.sim_book.specs.History.{IsTurn};
-ghost use Rattle.sim_book.specs.BookOf.{makes_branch, IsKept, AllKept};
+ghost use Rattle.sim_book.specs.BookOf.{IsKept, AllKept};
 ghost use Rattle.sim_book.specs.Keeps.{Keeps, KeepsTapes};
 ghost use Rattle.sim_book.specs.Works.{Works, TakesWork};
 

@@ -12,12 +12,12 @@ use Rattle.sim_lines.specs.Waiting.{Waiting}
 use Rattle.sim_lines.proofs.Known.{Consumes-append, Consumes-none, prepend-none}
 use Rattle.sim_lines.proofs.Passing.{Passes-none, Passes-append, PassesSome-append}
 use Rattle.sim_world.specs.Events.{Rules}
-use Rattle.sim_book.specs.declared.Command.{Command}
+use Rattle.sim_watch.specs.declared.command.Command.{Command}
 use Rattle.sim_book.specs.declared.Entry.{Entry}
 use Rattle.sim_book.specs.declared.NotTaken.{NotTaken}
 use Rattle.sim_book.specs.declared.NotTaken.TheVariants.{HistoryFull, NoMemory}
 use Rattle.sim_book.specs.Answer.{answer, after}
-use Rattle.sim_book.specs.Book.{branch_of}
+use Rattle.sim_watch.specs.Commands.{branch_of}
 use Rattle.sim_replies.specs.Lines.{line, reply_words, turn_line}
 use Rattle.sim_script.specs.declared.script.ScriptLine.{ScriptLine}
 use Rattle.sim_script.specs.declared.script.ScriptLine.TheVariants.{Nothing, Bad, Asked}

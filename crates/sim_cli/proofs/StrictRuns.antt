@@ -10,7 +10,7 @@ use Rattle.sim_lines.specs.Waiting.{Waiting}
 use Rattle.sim_lines.proofs.Known.{Consumes-append, Consumes-none}
 use Rattle.sim_lines.proofs.Passing.{Passes-none, Passes-append}
 use Rattle.sim_world.specs.Events.{Rules}
-use Rattle.sim_book.specs.declared.Command.{Command}
+use Rattle.sim_watch.specs.declared.command.Command.{Command}
 use Rattle.sim_book.specs.declared.Entry.{Entry}
 use Rattle.sim_book.specs.declared.NotTaken.{NotTaken}
 use Rattle.sim_replies.specs.Lines.{turn_line}

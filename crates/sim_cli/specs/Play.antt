@@ -14,10 +14,11 @@ use Rattle.sim_scenario.specs.Scenario.{Protocol, ScenarioText, Fault, read, tex
 use Rattle.sim_script.specs.declared.script.ScriptLine.{ScriptLine}
 use Rattle.sim_script.specs.declared.script.ScriptLine.TheVariants.{Nothing, Bad, Asked}
 use Rattle.sim_script.specs.Script.{Text, Names, script_line}
-use Rattle.sim_book.specs.declared.Command.{Command}
+use Rattle.sim_watch.specs.declared.command.Command.{Command}
 use Rattle.sim_book.specs.declared.Entry.{Entry}
 use Rattle.sim_book.specs.declared.NotTaken.{NotTaken}
-use Rattle.sim_book.specs.Book.{Book, branch_of}
+use Rattle.sim_book.specs.Book.{Book}
+use Rattle.sim_watch.specs.Commands.{branch_of}
 use Rattle.sim_book.specs.Answer.{answer}
 use Rattle.sim_replies.specs.Lines.{line, reply_words, turn_line}
 use Rattle.sim_cli.specs.declared.status.Status.{Status}

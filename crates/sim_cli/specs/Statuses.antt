@@ -1,5 +1,5 @@
 -- The exit statuses of the program.
-use Rattle.std.specs.Prelude.{ℕ}
+use Rattle.std.specs.Prelude.{ℕ, ⊤}
 use Rattle.sim_cli.specs.declared.status.Status.{Status}
 use Rattle.sim_cli.specs.declared.status.Status.TheVariants.{Well, BadScenario, BadRequest}
 use Rattle.sim_cli.specs.declared.status.Status.TheVariants.{ReaderFailed, WriterFailed}
@@ -12,3 +12,12 @@ status_number BadRequest = 2
 status_number ReaderFailed = 3
 status_number WriterFailed = 3
 status_number MemoryWanted = 4
+
+-- a command ends without an answer: the reader failed, or memory was wanted
+abbrev pub Stops : Status → Type 0
+Stops Well = ⊥
+Stops BadScenario = ⊥
+Stops BadRequest = ⊥
+Stops ReaderFailed = ⊤
+Stops WriterFailed = ⊥
+Stops MemoryWanted = ⊤

@@ -8,7 +8,7 @@ use Rattle.sim_lines.specs.Cut.{head_of, Shows}
 use Rattle.sim_lines.specs.Left.{Passes, PassesSome}
 use Rattle.sim_lines.specs.Waiting.{CountsReads, Waiting}
 use Rattle.sim_world.specs.Events.{Rules}
-use Rattle.sim_book.specs.declared.Command.{Command}
+use Rattle.sim_watch.specs.declared.command.Command.{Command}
 use Rattle.sim_book.specs.declared.Entry.{Entry}
 use Rattle.sim_book.specs.declared.NotTaken.{NotTaken}
 use Rattle.sim_book.specs.declared.NotTaken.TheVariants.{HistoryFull, NoMemory}

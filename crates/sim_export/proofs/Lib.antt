@@ -1,4 +1,3 @@
 -- Lemmas on what is written of a run.
 pub mod Telling
 pub mod Opening
-mod Rereading

@@ -2,9 +2,9 @@
 use Rattle.std.proofs.Common.{[], ◌++◌, Option, refl, sym, subst, inl, inr}
 use Rattle.sim_lines.proofs.Known.{Appends-none}
 use Rattle.sim_script.specs.Script.{Text}
-use Rattle.sim_replay.specs.Following.{Stops}
 use Rattle.sim_cli.specs.declared.status.Status.{Status}
 use Rattle.sim_cli.specs.declared.status.Status.TheVariants.{Well, BadScenario, BadRequest, ReaderFailed, WriterFailed, MemoryWanted}
+use Rattle.sim_cli.specs.Statuses.{Stops}
 use Rattle.sim_cli.specs.Play.{Ended}
 use Rattle.sim_export.specs.declared.export.Export.{Export}
 use Rattle.sim_export.specs.declared.export.Export.TheVariants as export

@@ -1,3 +1,1 @@
 pub mod Exports
-pub mod SeedRuns
-pub mod Shrinks

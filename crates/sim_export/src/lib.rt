@@ -1,27 +1,22 @@
-//! Writes runs as inputs for a play.
+//! What is written of a run: an input for a play, another text that shows it, or why there is none.
 //!
-//! - [`write_run`] reads a scenario and writes the run of one of its seeds as an input: the
-//!   scenario with that seed, a line `---`, and a line of script for each event of the run. So a
-//!   place that a sweep prints is the place in the play of that input.
-//! - [`write_shrunk`] plays a script and writes its run as an input, up to the first place at which
-//!   a condition fails, without the faults that the failure does not need.
+//! - [`Export`] is what is written, with its text and the status of the program after it;
+//!   [`write_export`] writes it.
+//! - [`input_of`] returns the input that makes the events of a run: the text of its scenario, a line
+//!   `---`, and a line of script for each event.
 //!
-//! The contract (`Written` in `specs/Exports.antt`) is a round trip: cut and read as a play does
-//! it, the input has the text of the scenario, and the lines of its script are read as the commands
-//! that make exactly the events of the run. `specs/SeedRuns.antt` and `specs/Shrinks.antt` say
-//! which events these are.
+//! The contract of [`input_of`] is a round trip (`Makes` in `specs/Exports.antt`): cut and read as a
+//! play does it, the input has the text of the scenario, and the lines of its script are read as the
+//! commands that make exactly these events. `Written` says which bytes a task over a scenario
+//! writes, if a relation says which exports are right for it.
 //!
-//! Why it is built this way: writing a run needs no threads, so it is a task over the nodes of the
-//! protocol that the scenario names (`sim_cli::Task`), for every list of protocols.
+//! Why it is built this way: inputs of seeds, shrunk runs, logs and pages share it, and each has a
+//! relation of its own that says which exports are right.
 #![tactic(auto)]
 
 mod export;
 mod input;
-mod planned;
-mod shrinking;
 
 pub use export::{Export, write_export};
 pub use input::{InputError, input_of};
-pub use planned::{SeedRun, plan_of, report_plan, write_run};
-pub use shrinking::{Shrink, write_shrunk};
 pub use sim_cli::Status;

@@ -14,8 +14,8 @@ use Rattle.sim_world.specs.declared.Fault.{Fault}
 use Rattle.sim_world.specs.declared.Fault.TheVariants as fault
 use Rattle.sim_world.specs.declared.Event.{Event}
 use Rattle.sim_world.specs.declared.Event.TheVariants as event
-use Rattle.sim_book.specs.declared.Command.{Command}
-use Rattle.sim_book.specs.declared.Command.TheVariants as command
+use Rattle.sim_watch.specs.declared.command.Command.{Command}
+use Rattle.sim_watch.specs.declared.command.Command.TheVariants as command
 use Rattle.sim_script.specs.Words.{Text, Names, named, name_at, host, host_name, words, is_word, HasNoSpace}
 use Rattle.sim_script.specs.Script.{script_line, command_of, command_by, numbered_of, fault_of, a_host, two_hosts}
 use Rattle.sim_script.specs.declared.script.ScriptLine.TheVariants.{Asked}

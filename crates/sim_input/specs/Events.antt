@@ -5,8 +5,8 @@ use Rattle.sim_world.specs.declared.Event.{Event}
 use Rattle.sim_world.specs.declared.Event.TheVariants as event
 use Rattle.sim_world.specs.declared.Fault.{Fault}
 use Rattle.sim_world.specs.declared.Fault.TheVariants as fault
-use Rattle.sim_book.specs.declared.Command.{Command}
-use Rattle.sim_book.specs.declared.Command.TheVariants as command
+use Rattle.sim_watch.specs.declared.command.Command.{Command}
+use Rattle.sim_watch.specs.declared.command.Command.TheVariants as command
 use Rattle.sim_scenario.specs.Scenario.{all_some}
 use Rattle.sim_script.specs.Words.{Text, Names, is_word, host, host_name}
 

@@ -22,7 +22,7 @@ use Rattle.sim_perform.specs.declared.answer.Answer.TheVariants as answer
 use Rattle.sim_perform.specs.declared.answer.Form.{Form}
 use Rattle.sim_perform.specs.declared.hunting.Area.{Area}
 use Rattle.sim_perform.specs.Answers.{answer_line, answer_text, status_of}
-use Rattle.sim_replay.specs.Following.{Stops}
+use Rattle.sim_cli.specs.Statuses.{Stops}
 use Rattle.sim_perform.specs.Hunts.{hunt_answer}
 use Rattle.sim_perform.specs.Outcomes.{Outcome, EndsBy, WritesOutcome, WritesAnswer, Hunted, Performed, answered, faulty, outcome, outcome_of}
 

@@ -21,7 +21,8 @@ use Rattle.sim_cli.specs.Strict.{are_well}
 use Rattle.sim_cli.proofs.Judging.{not_all_well}
 use Rattle.sim_replay.specs.declared.stop.ScriptStop.{ScriptStop}
 use Rattle.sim_replay.specs.declared.stop.ScriptStop.TheVariants as stops
-use Rattle.sim_replay.specs.Following.{Stops, StopsScript}
+use Rattle.sim_cli.specs.Statuses.{Stops}
+use Rattle.sim_replay.specs.Following.{StopsScript}
 use Rattle.sim_scenario.specs.Scenario.{Protocol}
 use Rattle.sim_replay.specs.Played.{IsFault, IsWellIf, first_events, given_events}
 use Rattle.sim_perform.specs.Hunts.{Has, Serves, StopIs, if_well, planned_answer, search_answer, found_on, found_for, hunt_answer}

@@ -8,7 +8,7 @@ use Rattle.sim_node.specs.Node.{NodeLaws}
 use Rattle.sim_world.specs.World.{Scenario}
 use Rattle.sim_world.specs.Events.{Rules, rules}
 use Rattle.sim_watch.specs.Condition.{Cond}
-use Rattle.sim_watch.specs.Search.{first_failing, first_failing_seed}
+use Rattle.sim_scan.specs.Search.{first_failing, first_failing_seed}
 use Rattle.sim_search.specs.declared.SearchFault.{SearchFault}
 use Rattle.sim_search.specs.declared.SearchFault.TheVariants as fault
 use Rattle.sim_search.specs.Faults.{search_fault, sweep_fault}
@@ -18,7 +18,7 @@ use Rattle.sim_sweep.specs.Planned.{first_failing_planned_seed}
 use Rattle.sim_scenario.specs.Scenario.{Protocol}
 use Rattle.sim_script.specs.Script.{Text, Names, words}
 use Rattle.sim_script.specs.Conditions.{condition}
-use Rattle.sim_export.specs.SeedRuns.{plan_with}
+use Rattle.sim_repro.specs.SeedRuns.{plan_with}
 use Rattle.sim_replay.specs.Played.{first_events, given_events}
 use Rattle.sim_cli.specs.Turns.{beginning}
 use Rattle.sim_cli.specs.Play.{Nodes}

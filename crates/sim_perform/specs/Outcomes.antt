@@ -17,10 +17,10 @@ use Rattle.sim_cli.specs.Lines.{fault_line}
 use Rattle.sim_cli.specs.Play.{Nodes, Played, names_of, read_scenario}
 use Rattle.sim_cli.specs.Strict.{PlayedStrictly}
 use Rattle.sim_job.specs.declared.wanted.FaultPlan.{FaultPlan}
-use Rattle.sim_export.specs.declared.planned.SeedRun.{SeedRun}
+use Rattle.sim_repro.specs.declared.seed_run.SeedRun.{SeedRun}
 use Rattle.sim_export.specs.Exports.{Written}
-use Rattle.sim_export.specs.SeedRuns.{seed_run_right}
-use Rattle.sim_export.specs.Shrinks.{shrink_right}
+use Rattle.sim_repro.specs.SeedRuns.{seed_run_right}
+use Rattle.sim_repro.specs.Shrinks.{shrink_right}
 use Rattle.sim_page.specs.declared.log.LogRange.{LogRange}
 use Rattle.sim_page.specs.declared.paging.PageRequest.{PageRequest}
 use Rattle.sim_page.specs.Logs.{log_right}

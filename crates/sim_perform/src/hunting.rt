@@ -2,7 +2,7 @@
 ghost use Rattle.std.specs.Prelude.{◌≡◌, ◌<◌, ℕ, List, IfOk, IfErr, Some, Ok, vec_len};
 ghost use Rattle.std.specs.Io.KnownBytes.{prepend_known};
 ghost use Rattle.sim_world.specs.Events.{rules};
-ghost use Rattle.sim_replay.specs.Following.{Stops};
+ghost use Rattle.sim_cli.specs.Statuses.{Stops};
 ghost use Rattle.sim_perform.specs.Hunts.{IsTeam, StopIs, found_on, search_answer, sweep_answer};
 
 use crate::Status;
@@ -15,10 +15,11 @@ use sim_job::{FaultPlan, Team};
 use sim_lines::Ahead;
 use sim_node::{NoMemory, Node};
 use sim_replay::{ScriptStop, given_events, played};
+use sim_scan::pieces;
 use sim_search::{OpenGate, search, sweep};
 use sim_tally::Tally;
 use sim_tape::Frozen;
-use sim_watch::{Cond, pieces};
+use sim_watch::Cond;
 use std::alloc::Global;
 use std::io::Read;
 use std::rt::Clock;

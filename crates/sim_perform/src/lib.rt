@@ -9,13 +9,6 @@
 //! that library. With `--progress` it reports on standard error how many pieces are done, at most
 //! twice a second; the standard output does not change.
 //!
-//! [`run`] is the whole of a program: it reads the words of the command line and passes the job to
-//! `perform`, over the file that the words name or the standard input, and the standard output. If
-//! a file cannot be opened or read, it reports that on standard error, with status 3. Help goes to
-//! the standard output with status 0, a mistake to standard error with status 2. Words that are not
-//! UTF-8 end with status 2 and are not repeated. A failure of standard error does not change the
-//! status.
-//!
 //! The contract of `perform` covers all these jobs, for every reader and writer whose bytes
 //! contracts can name (`Performed` in `specs/Outcomes.antt`). The output of a hunt is a function of
 //! its input: the line of the scenario's fault, of the first failing place of the run that the
@@ -39,13 +32,11 @@ mod answer;
 mod hunting;
 mod performing;
 mod planned;
-mod program;
 mod progress;
 mod reasons;
 mod searchable;
 
 pub use performing::perform;
-pub use program::run;
 pub use searchable::Searchable;
 pub use sim_cli::Status;
-pub use sim_job::{FaultPlan, Job, LineError, Request, Team, request};
+pub use sim_job::{FaultPlan, Job, Team};

@@ -4,12 +4,13 @@ use Rattle.std.proofs.lemmas.List.{length-map, length-set}
 use Rattle.std.specs.Io.KnownBytes.{Consumes, IsAtEnd}
 use Rattle.std.specs.Str.Lines.{lines}
 use Rattle.sim_world.specs.Events.{Rules}
-use Rattle.sim_book.specs.declared.Command.{Command}
+use Rattle.sim_watch.specs.declared.command.Command.{Command}
 use Rattle.sim_book.specs.declared.Entry.{Entry}
 use Rattle.sim_book.specs.declared.NotTaken.{NotTaken}
 use Rattle.sim_book.specs.declared.NotTaken.TheVariants.{HistoryFull, NoMemory}
 use Rattle.sim_book.specs.declared.Refusal.{Refusal}
-use Rattle.sim_book.specs.Book.{Book, branch, branch_of}
+use Rattle.sim_book.specs.Book.{Book, branch}
+use Rattle.sim_watch.specs.Commands.{branch_of}
 use Rattle.sim_book.specs.Answer.{after_by, branch_after, branches_made, refusal_of}
 use Rattle.sim_book.specs.Kept.{BookView, shown}
 use Rattle.sim_lines.specs.Cut.{Shows}

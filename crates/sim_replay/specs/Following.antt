@@ -5,26 +5,17 @@ use Rattle.std.specs.Str.Lines.{lines}
 use Rattle.sim_world.specs.Events.{Rules}
 use Rattle.sim_script.specs.declared.script.ScriptLine.{ScriptLine}
 use Rattle.sim_script.specs.Script.{Text, Names}
-use Rattle.sim_cli.specs.declared.status.Status.{Status}
 use Rattle.sim_cli.specs.declared.status.Status.TheVariants as status
 use Rattle.sim_cli.specs.Turns.{Course}
 use Rattle.sim_cli.specs.Play.{end_from, plain_next}
+use Rattle.sim_cli.specs.Statuses.{Stops}
 use Rattle.sim_cli.specs.Strict.{Explains, IsFirstFault, are_well, is_well}
 use Rattle.sim_replay.specs.declared.stop.LineStop.{LineStop}
 use Rattle.sim_replay.specs.declared.stop.LineStop.TheVariants as line
 use Rattle.sim_replay.specs.declared.stop.ScriptStop.{ScriptStop}
 use Rattle.sim_replay.specs.declared.stop.ScriptStop.TheVariants as whole
 
--- a hunt ends without an answer: the reader failed, or memory was wanted
-abbrev pub Stops : Status → Type 0
-Stops status.Well = ⊥
-Stops status.BadScenario = ⊥
-Stops status.BadRequest = ⊥
-Stops status.ReaderFailed = ⊤
-Stops status.WriterFailed = ⊥
-Stops status.MemoryWanted = ⊤
-
--- the same, or a line is at fault
+-- the script ends without an answer, or a line is at fault
 abbrev pub StopsScript : ScriptStop → Type 0
 StopsScript (whole.Ended ended) = Stops ended
 StopsScript (whole.Fault fault) = ⊤

@@ -3,7 +3,8 @@ ghost use Rattle.std.specs.Prelude.{◌≡◌, ◌<◌, ◌&&◌, ℕ, List, IfO
 ghost use Rattle.std.specs.Prelude.{length, slice_index_or};
 ghost use Rattle.std.specs.Io.KnownBytes.{prepend_known};
 ghost use Rattle.sim_world.specs.Events.{rules};
-ghost use Rattle.sim_replay.specs.Following.{Stops, StopsScript};
+ghost use Rattle.sim_replay.specs.Following.{StopsScript};
+ghost use Rattle.sim_cli.specs.Statuses.{Stops};
 ghost use Rattle.sim_replay.specs.Played.{IsFault, IsWellIf, first_events, given_events};
 ghost use Rattle.sim_book.specs.Kept.{Kept as KeptValue};
 

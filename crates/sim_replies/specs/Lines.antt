@@ -18,7 +18,7 @@ use Rattle.sim_book.specs.declared.Reply.TheVariants as reply
 use Rattle.sim_book.specs.declared.Entry.{Entry}
 use Rattle.sim_book.specs.declared.NotTaken.{NotTaken}
 use Rattle.sim_book.specs.declared.NotTaken.TheVariants as not_taken
-use Rattle.sim_book.specs.Book.{branch_of}
+use Rattle.sim_watch.specs.Commands.{branch_of}
 use Rattle.sim_script.specs.Words.{Text, Names, host_name, probe_name}
 pub use Rattle.sim_replies.specs.Spacing.{spaced, field, line}
 use Rattle.sim_replies.specs.Trace.{trace_words}

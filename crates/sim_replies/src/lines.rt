@@ -4,7 +4,7 @@ ghost use Rattle.sim_replies.specs.Lines.{line, move_words, reply_words, spaced,
 ghost use Rattle.sim_replies.specs.Lines.{turn_line};
 
 use crate::ending::Ending;
-use crate::named::{branch_of, not_taken_name, refusal_name};
+use crate::named::{not_taken_name, refusal_name};
 use crate::trace::tell_trace;
 use crate::view::tell_view;
 use sim_book::{Entry, NotTaken, Reply, Stop};
@@ -78,7 +78,7 @@ pub fn tell_turn(
 {
     text.clear();
     match turn {
-        Ok(entry) => tell_reply(alloc, text, names, branch_of(&entry.command), &entry.reply),
+        Ok(entry) => tell_reply(alloc, text, names, entry.command.branch(), &entry.reply),
         Err(why) => {
             text.push_str(not_taken_name(*why))?;
             text.push('\n')

@@ -1,34 +1,11 @@
 //! The words of a reply's parts.
 ghost use Rattle.std.specs.Prelude.{◌≡◌};
-ghost use Rattle.sim_book.specs.Book.{branch_of as number_of};
 ghost use Rattle.sim_replies.specs.Lines.{refusal_words, not_taken_words, state_word, kind_word};
 ghost use Rattle.sim_replies.specs.Lines.{up_word, yes_word};
 
-use sim_book::{Command, NotTaken, Refusal};
+use sim_book::{NotTaken, Refusal};
 use sim_links::LinkState;
 use sim_world::Kind;
-
-/// Returns the branch that a command names.
-pub fn branch_of(command: &Command) -> u32
-    ensures { result ≡ number_of command.now }
-{
-    match command {
-        Command::Step(branch)
-        | Command::Tick(branch)
-        | Command::Run(branch, _)
-        | Command::Fault(branch, _)
-        | Command::Back(branch, _)
-        | Command::Forward(branch, _)
-        | Command::Goto(branch, _)
-        | Command::Rewind(branch, _)
-        | Command::Cut(branch)
-        | Command::Branch(branch, _)
-        | Command::Watch(branch, _)
-        | Command::Unwatch(branch, _)
-        | Command::Look(branch, _)
-        | Command::Freeze(branch) => *branch,
-    }
-}
 
 /// Returns the number and name of a refusal.
 pub fn refusal_name(refusal: Refusal) -> &'static str

@@ -1,6 +1,6 @@
 -- The command that a line gives.
-use Rattle.sim_book.specs.declared.Command.{Command}
-use Rattle.sim_book.specs.declared.Command.TheVariants as command
+use Rattle.sim_watch.specs.declared.command.Command.{Command}
+use Rattle.sim_watch.specs.declared.command.Command.TheVariants as command
 use Rattle.sim_script.specs.declared.ask.Form.{Form}
 use Rattle.sim_script.specs.declared.ask.Form.TheVariants.{Plain, Watch}
 

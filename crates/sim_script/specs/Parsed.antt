@@ -1,8 +1,8 @@
 -- What the parsed words of a command mean.
 use Rattle.std.specs.Prelude.{Option, None, Some}
 use Rattle.std.specs.Option.{option_map}
-use Rattle.sim_book.specs.declared.Command.{Command}
-use Rattle.sim_book.specs.declared.Command.TheVariants as command
+use Rattle.sim_watch.specs.declared.command.Command.{Command}
+use Rattle.sim_watch.specs.declared.command.Command.TheVariants as command
 use Rattle.sim_script.specs.declared.script.Parsed.{Parsed}
 use Rattle.sim_script.specs.declared.script.Parsed.TheVariants as parsed
 use Rattle.sim_script.specs.Words.{Names, words}

@@ -7,8 +7,8 @@ use Rattle.sim_world.specs.declared.Fault.{Fault}
 use Rattle.sim_world.specs.declared.Fault.TheVariants as fault
 use Rattle.sim_world.specs.declared.Query.{Query}
 use Rattle.sim_world.specs.declared.Query.TheVariants as query
-use Rattle.sim_book.specs.declared.Command.{Command}
-use Rattle.sim_book.specs.declared.Command.TheVariants as command
+use Rattle.sim_watch.specs.declared.command.Command.{Command}
+use Rattle.sim_watch.specs.declared.command.Command.TheVariants as command
 use Rattle.sim_script.specs.declared.script.ScriptLine.{ScriptLine}
 use Rattle.sim_script.specs.declared.script.ScriptLine.TheVariants.{Nothing, Bad, Asked}
 pub use Rattle.sim_script.specs.Words.{Text, words, number, Names, host, probe}

@@ -1,9 +1,8 @@
 //! The command that a line gives.
 ghost use Rattle.std.specs.Prelude.{◌≡◌, IfOk};
 
-use sim_book::Command;
 use sim_node::NoMemory;
-use sim_watch::{Cond, SharedCond};
+use sim_watch::{Command, Cond, SharedCond};
 use std::alloc::Global;
 use std::marker::Model;
 
@@ -25,7 +24,7 @@ pub struct Ask {
 }
 
 impl Model for Ask {
-    ghost use Rattle.sim_book.specs.declared.Command.{Command};
+    ghost use Rattle.sim_watch.specs.declared.command.Command.{Command};
 
     ghost Value = { Command };
 

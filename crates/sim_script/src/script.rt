@@ -11,7 +11,7 @@ use crate::ask::{Ask, Form};
 use crate::condition::condition_of;
 use crate::names::Names;
 use crate::words::{next_word, parse_number};
-use sim_book::Command;
+use sim_watch::Command;
 use sim_world::{Fault, Query};
 
 /// The greatest length of a line (bytes). A longer line is bad.

@@ -3,7 +3,7 @@ use Rattle.std.proofs.Common.{◌≡◌, ℕ, ◌+◌, ◌-◌, ◌*◌, ◌/◌
 use Rattle.std.proofs.Math.Nat.{div-mul-le_self, mul-div-le, le-div_iff_mul-le, mul-le-mul_right, mod-lt, eq-or-lt_of_le}
 use Rattle.std.proofs.lemmas.Nat.{mul-add-lt}
 use Rattle.sim_node.specs.Numbers.{least}
-use Rattle.sim_watch.specs.Search.{pieces, piece}
+use Rattle.sim_scan.specs.Search.{pieces, piece}
 use Rattle.sim_watch.proofs.Firsts.{least_is, least_none, side}
 use Rattle.sim_tape.proofs.Joined.{quotient, multiple}
 use Rattle.sim_claims.specs.Best.{IsFirst}

@@ -3,14 +3,15 @@ ghost use Rattle.std.specs.Prelude.{◌≡◌, ℕ, ◌<◌, ◌≤◌, false, l
 ghost use Rattle.std.specs.Prelude.{vec_len, Option};
 ghost use Rattle.sim_world.specs.Events.{rules, IsRunnable};
 ghost use Rattle.sim_watch.specs.Condition.{fault_of};
-ghost use Rattle.sim_watch.specs.Search.{pieces, piece, first_failing};
+ghost use Rattle.sim_scan.specs.Search.{pieces, piece, first_failing};
 ghost use Rattle.sim_search.specs.Faults.{is_bad_search, search_fault, reason};
 
 use crate::SearchFault;
 use sim_claims::{Gate, Pieces, least};
 use sim_node::{NoMemory, Node};
+use sim_scan::{Finding, piece, pieces, scan_after};
 use sim_tape::{Frozen, Tape};
-use sim_watch::{Cond, Finding, piece, pieces, scan_after};
+use sim_watch::Cond;
 use std::alloc::Global;
 use std::sync::Wait;
 use std::thread::Threads;

@@ -2,13 +2,14 @@
 ghost use Rattle.std.specs.Prelude.{◌≡◌, ℕ, ◌+◌, ◌^◌, ◌<◌, ◌≤◌, false, None, IfOk, OnOk, IfErr};
 ghost use Rattle.std.specs.Prelude.{vec_len, Option};
 ghost use Rattle.sim_watch.specs.Condition.{fault_of};
-ghost use Rattle.sim_watch.specs.Search.{failing_of_seed, first_failing_seed};
+ghost use Rattle.sim_scan.specs.Search.{failing_of_seed, first_failing_seed};
 ghost use Rattle.sim_search.specs.Faults.{is_bad_sweep, sweep_fault, reason};
 
 use crate::{MAX_EVENTS, MAX_SEEDS, SearchFault};
 use sim_claims::{Gate, Pieces, least};
 use sim_node::{NoMemory, Node};
-use sim_watch::{Cond, scan_seed};
+use sim_scan::scan_seed;
+use sim_watch::Cond;
 use sim_world::Scenario;
 use std::alloc::Global;
 use std::marker::PhantomData;

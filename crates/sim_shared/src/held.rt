@@ -2,8 +2,8 @@
 ghost use Rattle.std.specs.Prelude.{◌≡◌, ℕ, length};
 ghost use Rattle.sim_tape.specs.Tape.{Frozen as FrozenValue};
 ghost use Rattle.sim_world.specs.World.{Scenario as ScenarioValue};
-ghost use Rattle.sim_book.specs.declared.Command.{Command};
-ghost use Rattle.sim_book.specs.declared.Command.TheVariants.{Freeze};
+ghost use Rattle.sim_watch.specs.declared.command.Command.{Command};
+ghost use Rattle.sim_watch.specs.declared.command.Command.TheVariants.{Freeze};
 ghost use Rattle.sim_book.specs.Freezing.{GivesFrozen};
 ghost use Rattle.sim_shared.specs.Full.{TellsFull};
 

@@ -7,7 +7,7 @@ use Rattle.sim_world.specs.declared.Event.{Event}
 use Rattle.sim_world.specs.World.{World, Scenario}
 use Rattle.sim_world.specs.Events.{Rules, next, start, run}
 use Rattle.sim_watch.specs.Condition.{Cond}
-use Rattle.sim_watch.specs.Search.{fails_of, fails_at, first_failing}
+use Rattle.sim_scan.specs.Search.{fails_of, fails_at, first_failing}
 use Rattle.sim_watch.proofs.Firsts.{least_is}
 use Rattle.sim_search.proofs.Leasts.{least_tells}
 use Rattle.sim_plan.specs.Happening.{happening}

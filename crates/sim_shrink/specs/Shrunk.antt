@@ -4,7 +4,7 @@ use Rattle.std.specs.Prelude.{slice_set, slice_index_or, Option, Some, None}
 use Rattle.sim_world.specs.declared.Event.{Event}
 use Rattle.sim_world.specs.Events.{Rules, start}
 use Rattle.sim_watch.specs.Condition.{Cond}
-use Rattle.sim_watch.specs.Search.{first_failing}
+use Rattle.sim_scan.specs.Search.{first_failing}
 use Rattle.sim_search.specs.declared.SearchFault.{SearchFault}
 use Rattle.sim_search.specs.Faults.{fault_after}
 use Rattle.sim_plan.specs.Happening.{happening}

@@ -13,8 +13,8 @@ use Rattle.sim_world.specs.Events.{Rules, rules, start, next}
 use Rattle.sim_tape.specs.Works.{OnlyTurns}
 use Rattle.sim_tape.proofs.Placing.{at-next}
 use Rattle.sim_watch.specs.Condition.{Cond, holds}
-use Rattle.sim_watch.specs.Search.{fails_at, first_failing}
-use Rattle.sim_watch.proofs.Scans.{at_start, fails_here, found_is, found_none, turns_within}
+use Rattle.sim_scan.specs.Search.{fails_at, first_failing}
+use Rattle.sim_scan.proofs.Scans.{at_start, fails_here, found_is, found_none, turns_within}
 use Rattle.sim_plan.specs.Happening.{happening}
 use Rattle.sim_plan.proofs.Runs.{happening_on, happening_off}
 use Rattle.sim_sweep.specs.Planned.{failing_of_run}

@@ -8,7 +8,7 @@ use Rattle.sim_world.specs.World.{Scenario}
 use Rattle.sim_world.specs.Events.{Rules, rules}
 use Rattle.sim_world.specs.Seeds.{numbered}
 use Rattle.sim_watch.specs.Condition.{Cond}
-use Rattle.sim_watch.specs.Search.{first_failing}
+use Rattle.sim_scan.specs.Search.{first_failing}
 use Rattle.sim_plan.specs.declared.plan.Plan.{Plan}
 use Rattle.sim_plan.specs.Happening.{planned_run}
 

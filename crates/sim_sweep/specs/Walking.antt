@@ -5,7 +5,7 @@ use Rattle.sim_world.specs.Records.{InHand}
 use Rattle.sim_world.specs.Events.{Rules}
 use Rattle.sim_tape.specs.Places.{IsAt}
 use Rattle.sim_watch.specs.Condition.{Cond}
-use Rattle.sim_watch.specs.Search.{fails_at}
+use Rattle.sim_scan.specs.Search.{fails_at}
 use Rattle.sim_plan.specs.Happening.{happening}
 
 -- The world is at a place of the run, and the events in `rest` make the remainder of the run. The

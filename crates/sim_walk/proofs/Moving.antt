@@ -6,14 +6,15 @@ use Rattle.sim_world.specs.World.{Scenario}
 use Rattle.sim_world.specs.Events.{Rules}
 use Rattle.sim_world.specs.declared.Event.TheVariants as event
 use Rattle.sim_tape.specs.Tape.{Frozen}
-use Rattle.sim_book.specs.declared.Command.{Command}
-use Rattle.sim_book.specs.declared.Command.TheVariants as command
+use Rattle.sim_watch.specs.declared.command.Command.{Command}
+use Rattle.sim_watch.specs.declared.command.Command.TheVariants as command
 use Rattle.sim_book.specs.declared.Refusal.{Refusal}
 use Rattle.sim_book.specs.declared.Refusal.TheVariants as refusal
 use Rattle.sim_book.specs.declared.Reply.{Reply}
 use Rattle.sim_book.specs.declared.Reply.TheVariants as reply
 use Rattle.sim_book.specs.declared.Stop.{Stop}
-use Rattle.sim_book.specs.Book.{Branch, Book, branch, branch_of, with_branch, empty_branch}
+use Rattle.sim_book.specs.Book.{Branch, Book, branch, with_branch, empty_branch}
+use Rattle.sim_watch.specs.Commands.{branch_of}
 use Rattle.sim_book.specs.Kept.{Kept, shown, all_shown, first_kept}
 use Rattle.sim_book.specs.Answer.{tick_addition, run_addition, refusal_of, branch_after, branches_made, reply_of, answer_by, after_by}
 use Rattle.sim_book.specs.History.{IsTurn}

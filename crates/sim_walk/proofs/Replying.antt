@@ -5,9 +5,10 @@ use Rattle.sim_node.specs.Node.{NodeLaws}
 use Rattle.sim_world.specs.World.{Scenario}
 use Rattle.sim_world.specs.Events.{rules}
 use Rattle.sim_script.specs.Script.{Names}
-use Rattle.sim_book.specs.Book.{branch, branch_of}
+use Rattle.sim_book.specs.Book.{branch}
+use Rattle.sim_watch.specs.Commands.{branch_of}
 use Rattle.sim_book.specs.Kept.{BookView, all_shown}
-use Rattle.sim_book.specs.declared.Command.{Command}
+use Rattle.sim_watch.specs.declared.command.Command.{Command}
 use Rattle.sim_book.specs.declared.Entry.{Entry}
 use Rattle.sim_book.specs.declared.NotTaken.{NotTaken}
 use Rattle.sim_replies.specs.Lines.{turn_line}

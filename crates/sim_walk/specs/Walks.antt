@@ -5,11 +5,12 @@ use Rattle.std.specs.Io.KnownBytes.{Appends}
 use Rattle.std.specs.declared.alloc.AllocError.{AllocError}
 use Rattle.sim_world.specs.Events.{Rules}
 use Rattle.sim_script.specs.Script.{Text, Names}
-use Rattle.sim_book.specs.declared.Command.{Command}
-use Rattle.sim_book.specs.declared.Command.TheVariants.{Goto}
+use Rattle.sim_watch.specs.declared.command.Command.{Command}
+use Rattle.sim_watch.specs.declared.command.Command.TheVariants.{Goto}
 use Rattle.sim_book.specs.declared.Entry.{Entry}
 use Rattle.sim_book.specs.declared.NotTaken.{NotTaken}
-use Rattle.sim_book.specs.Book.{branch, branch_of}
+use Rattle.sim_book.specs.Book.{branch}
+use Rattle.sim_watch.specs.Commands.{branch_of}
 use Rattle.sim_replies.specs.Lines.{turn_line}
 use Rattle.sim_cli.specs.Turns.{Course, Takes}
 use Rattle.sim_walk.specs.declared.account.Account.{Account}

@@ -1,7 +1,8 @@
 //! Answers an order, and carries it out on the book.
 ghost use Rattle.std.specs.Prelude.{◌≡◌, ◌≤◌, [], length, IfOk, string_bytes};
 ghost use Rattle.sim_world.specs.Events.{rules};
-ghost use Rattle.sim_book.specs.Book.{branch as branch_in, branch_of};
+ghost use Rattle.sim_book.specs.Book.{branch as branch_in};
+ghost use Rattle.sim_watch.specs.Commands.{branch_of};
 ghost use Rattle.sim_book.specs.Kept.{all_shown};
 ghost use Rattle.sim_cli.specs.Turns.{course_of, Takes};
 ghost use Rattle.sim_replies.specs.Lines.{turn_line};
@@ -65,21 +66,6 @@ fn events_before(alloc: Global, list: &EventList, place: u32) -> Result<Vec<Even
         }
     }
     Ok(events)
-}
-
-// Returns the branch of a command.
-fn branch_of(command: &Command) -> u32
-    ensures { result ≡ branch_of command.now }
-{
-    match command {
-        Command::Step(b) | Command::Tick(b) | Command::Cut(b) | Command::Freeze(b) => *b,
-        Command::Run(b, _) | Command::Back(b, _) | Command::Forward(b, _) => *b,
-        Command::Goto(b, _) | Command::Rewind(b, _) | Command::Branch(b, _) => *b,
-        Command::Fault(b, _) => *b,
-        Command::Watch(b, _) => *b,
-        Command::Unwatch(b, _) => *b,
-        Command::Look(b, _) => *b,
-    }
 }
 
 // Appends the numbers of the watches of a branch, or that it has none.
@@ -208,11 +194,11 @@ impl Desk<'_> {
             self.now.opened.now.names (course_of book.old) command result (course_of book.new) }
         ensures scenario { book.new.scenario ≡ book.old.scenario }
     {
-        let branch = branch_of(&command);
-        let from = place_of(book, branch);
+        let number = command.branch();
+        let from = place_of(book, number);
         let turn = turn_on(self.alloc, book, command);
         let reply = self.reply_to(&turn)?;
-        let account = self.account(book, branch, from, &turn)?;
+        let account = self.account(book, number, from, &turn)?;
         Ok(Answer { reply, account })
     }
 

@@ -16,7 +16,7 @@
 //! docs/SCENARIO.md, docs/SCRIPT.md, docs/SEARCH.md, docs/WALK.md, docs/LOG.md and docs/PAGE.md
 //! describe them.
 //!
-//! This crate has no logic of its own: `sim_perform::run` does all and returns the exit status. It
+//! This crate has no logic of its own: `sim_program::run` does all and returns the exit status. It
 //! is 0, or 1 for a bad scenario, 2 for a wrong command line or a request that cannot be carried
 //! out, 3 if the input or the output failed, 4 for want of memory. A crate is a library or a
 //! program, so everything that can be proved or tested over any reader and writer is in the
@@ -24,7 +24,7 @@
 #![tactic(auto)]
 
 use sim_cli::Shipped;
-use sim_perform::run;
+use sim_program::run;
 use std::process::ExitCode;
 
 fn main(rt: HostRuntime) -> ExitCode {

@@ -5,7 +5,7 @@ use Rattle.sim_tape.specs.Tape.{Tape, with_world, with_event, reach_here}
 use Rattle.sim_tape.specs.Works.{Plays, nodes_at_end}
 use Rattle.sim_book.specs.Works.{Works}
 use Rattle.sim_book.specs.Keeps.{Keeps}
-use Rattle.sim_book.specs.declared.Command.TheVariants as command
+use Rattle.sim_watch.specs.declared.command.Command.TheVariants as command
 use Rattle.sim_book.specs.declared.Reply.{Reply}
 use Rattle.sim_book.proofs.Turns.{fault_on, add_keeps}
 use Rattle.sim_book.proofs.branch.fault.Goals as goal

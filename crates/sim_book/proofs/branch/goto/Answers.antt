@@ -1,5 +1,5 @@
 use Rattle.sim_book.specs.Works.{Works}
-use Rattle.sim_book.specs.declared.Command.TheVariants as command
+use Rattle.sim_watch.specs.declared.command.Command.TheVariants as command
 use Rattle.sim_book.specs.declared.Reply.{Reply}
 use Rattle.std.proofs.Common.{arith, sym, subst}
 use Rattle.sim_book.proofs.Turns.{goto_on}

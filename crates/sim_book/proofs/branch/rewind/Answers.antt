@@ -6,7 +6,7 @@ use Rattle.sim_book.proofs.Looking.{looks_none}
 use Rattle.sim_book.proofs.Undoing.{undone_none, rewind_undoes}
 use Rattle.sim_world.specs.Events.{rules}
 use Rattle.sim_book.specs.Keeps.{Keeps}
-use Rattle.sim_book.specs.declared.Command.TheVariants as command
+use Rattle.sim_watch.specs.declared.command.Command.TheVariants as command
 use Rattle.sim_book.specs.declared.Reply.{Reply}
 use Rattle.sim_book.proofs.branch.rewind.Goals as goal
 

@@ -2,7 +2,7 @@ use Rattle.sim_world.specs.declared.Event.TheVariants as event
 use Rattle.sim_tape.specs.Tape.{Tape, reach_here}
 use Rattle.sim_book.specs.Works.{Works}
 use Rattle.sim_book.specs.Keeps.{Keeps}
-use Rattle.sim_book.specs.declared.Command.TheVariants as command
+use Rattle.sim_watch.specs.declared.command.Command.TheVariants as command
 use Rattle.sim_book.specs.declared.Reply.{Reply}
 use Rattle.std.proofs.Common.{◌≡◌, true, arith, sym, ap, subst}
 use Rattle.sim_world.specs.Events.{rules}

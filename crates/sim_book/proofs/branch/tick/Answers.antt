@@ -3,7 +3,7 @@ use Rattle.sim_tape.specs.Tape.{reach_here}
 use Rattle.std.proofs.Common.{◌≡◌, true, arith, sym, subst}
 use Rattle.sim_book.proofs.Turns.{tick_on, run_keeps, run_works}
 use Rattle.sim_book.specs.Keeps.{Keeps}
-use Rattle.sim_book.specs.declared.Command.TheVariants as command
+use Rattle.sim_watch.specs.declared.command.Command.TheVariants as command
 use Rattle.sim_book.specs.declared.Reply.{Reply}
 use Rattle.sim_book.proofs.branch.tick.Goals as goal
 

@@ -3,7 +3,7 @@ use Rattle.sim_world.specs.Events.{rules}
 use Rattle.sim_book.specs.Kept.{Kept, all_shown, shown}
 use Rattle.sim_book.specs.Book.{empty_branch}
 use Rattle.sim_book.specs.History.{IsTurn}
-use Rattle.sim_book.specs.declared.Command.TheVariants as command
+use Rattle.sim_watch.specs.declared.command.Command.TheVariants as command
 use Rattle.sim_book.specs.declared.Reply.TheVariants as reply
 use Rattle.std.proofs.lemmas.List.Elements.{All-push}
 use Rattle.sim_book.specs.BookOf.{IsKept, AllKept}

@@ -1,5 +1,5 @@
 use Rattle.std.proofs.Common.{sym, ap, ◌∙◌, refl}
-use Rattle.sim_book.specs.declared.Command.TheVariants as command
+use Rattle.sim_watch.specs.declared.command.Command.TheVariants as command
 use Rattle.sim_book.proofs.Books.{kept_turn, kept_keeps}
 use Rattle.sim_book.proofs.carry.on_branch.Goals as goal
 

@@ -2,7 +2,7 @@ use Rattle.std.proofs.Common.{◌≡◌, ◌<◌, ℕ, length, ap, Result, Ok, E
 use Rattle.std.specs.Prelude.{IfOk, OnOk, OnErr}
 use Rattle.sim_node.specs.Node.{NodeLaws}
 use Rattle.sim_world.specs.Events.{rules}
-use Rattle.sim_book.specs.declared.Command.{Command}
+use Rattle.sim_watch.specs.declared.command.Command.{Command}
 use Rattle.sim_book.specs.declared.Entry.{Entry}
 use Rattle.sim_book.specs.declared.NotTaken.{NotTaken}
 use Rattle.sim_book.specs.BookOf.{IsTaken, Turned}

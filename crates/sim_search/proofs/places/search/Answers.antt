@@ -1,6 +1,6 @@
 use Rattle.std.proofs.Common.{◌≡◌, ◌≤◌, length, sym, ap, subst, ◌∙◌, arith}
 use Rattle.sim_world.specs.Events.{rules}
-use Rattle.sim_watch.specs.Search.{pieces, fails_at}
+use Rattle.sim_scan.specs.Search.{pieces, fails_at}
 use Rattle.sim_claims.specs.Best.{IsFirst}
 use Rattle.sim_search.specs.Faults.{is_bad_search}
 use Rattle.sim_search.proofs.Cutting.{place_none, place_some, found_in}

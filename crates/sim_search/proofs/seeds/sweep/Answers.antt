@@ -1,5 +1,5 @@
 use Rattle.std.proofs.Common.{◌≡◌, ◌+◌, ℕ, sym, subst, ◌∙◌}
-use Rattle.sim_watch.specs.Search.{failing_of_seed}
+use Rattle.sim_scan.specs.Search.{failing_of_seed}
 use Rattle.sim_claims.specs.Best.{IsFirst}
 use Rattle.sim_search.specs.Faults.{is_bad_sweep}
 use Rattle.sim_search.proofs.Seeding.{seed_none, seed_some}

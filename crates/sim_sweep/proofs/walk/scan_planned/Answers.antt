@@ -2,7 +2,7 @@ use Rattle.std.proofs.Common.{◌+◌, not, length, sym, ap, ◌∙◌, arith}
 use Rattle.sim_world.specs.World.{Scenario}
 use Rattle.sim_world.specs.Events.{rules, start}
 use Rattle.sim_watch.specs.Condition.{Cond, holds, fault_of}
-use Rattle.sim_watch.proofs.Scans.{fails_here, turns_within}
+use Rattle.sim_scan.proofs.Scans.{fails_here, turns_within}
 use Rattle.sim_plan.specs.Happening.{happening}
 use Rattle.sim_sweep.proofs.Walks.{turns_on, turns_found, walking_least, walking_start, walking_on, walking_young, walking_room, walking_most, found_early, found_late}
 use Rattle.sim_sweep.proofs.walk.scan_planned.Goals as goal

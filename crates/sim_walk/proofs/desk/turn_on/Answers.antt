@@ -3,10 +3,11 @@ use Rattle.std.specs.Prelude.{IfOk, OnOk, OnErr}
 use Rattle.sim_node.specs.Node.{NodeLaws}
 use Rattle.sim_world.specs.World.{Scenario}
 use Rattle.sim_world.specs.Events.{rules}
-use Rattle.sim_book.specs.declared.Command.{Command}
+use Rattle.sim_watch.specs.declared.command.Command.{Command}
 use Rattle.sim_book.specs.declared.Entry.{Entry}
 use Rattle.sim_book.specs.declared.NotTaken.{NotTaken}
-use Rattle.sim_book.specs.Book.{branch, branch_of}
+use Rattle.sim_book.specs.Book.{branch}
+use Rattle.sim_watch.specs.Commands.{branch_of}
 use Rattle.sim_book.specs.BookOf.{IsTaken, Turned}
 use Rattle.sim_book.specs.Headline.{AreBranches}
 use Rattle.sim_book.specs.Kept.{BookView, all_shown}

@@ -1,5 +1,5 @@
 use Rattle.std.proofs.Common.{◌≡◌, ◌/◌, sym, ap, subst, ◌∙◌}
-use Rattle.sim_watch.specs.declared.places.Piece.{Piece}
+use Rattle.sim_scan.specs.declared.places.Piece.{Piece}
 use Rattle.sim_search.proofs.Cutting.{one_interval}
 use Rattle.sim_search.proofs.places.PlacesPiecesScanner.scan.Goals as goal
 

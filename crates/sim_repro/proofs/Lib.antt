@@ -1,0 +1,2 @@
+-- Lemmas on inputs that repeat a run.
+mod Rereading

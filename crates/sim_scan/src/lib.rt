@@ -1,0 +1,23 @@
+//! Scans for the first place of a run at which a condition fails.
+//!
+//! [`pieces`] and [`piece`] cut a range of places at the checkpoints of a run. [`scan`] finds the
+//! first failing place of a piece, [`scan_after`] does the same with the tape of the piece before,
+//! and [`scan_seed`] finds the first failing place of a scenario's own steps. Their contracts also
+//! bound the work: one walk from the checkpoint below the piece, fewer turns than the interval
+//! between two checkpoints, at most one copy of a world, and no undo.
+//!
+//! Why it is built this way:
+//!
+//! - A piece begins at a checkpoint, so the walk of a piece and the walk from its checkpoint are
+//!   one.
+//! - A sweep walks a world and not a tape, with steps that keep no record. A step changes one host
+//!   alone, so the condition is tested only after a step of a concerned host.
+#![tactic(auto)]
+
+mod cutting;
+mod places;
+mod scanning;
+
+pub use cutting::{piece, pieces};
+pub use places::{Finding, Piece};
+pub use scanning::{scan, scan_after, scan_seed};
