@@ -44,9 +44,9 @@ pub(crate) fn finish<W: Write>(outlet: &mut Outlet, writer: &mut W, status: Stat
 
 /// Takes the turn that a line asks for. If there is no memory for its condition, the turn is not
 /// taken.
-pub fn turn_of<N: Node>(alloc: Global, book: &mut Book<N>, ask: Ask) -> Result<Entry, NotTaken>
-    ensures takes { Takes (rules N.laws N.PROBES book.old.scenario) (course_of book.old) ask result
-        (course_of book.new) }
+pub fn turn_of<N: Node>(alloc: Global, book: &mut Book<N>, ask: Ask<'_>) -> Result<Entry, NotTaken>
+    ensures takes { Takes (rules N.laws N.PROBES book.old.scenario) (course_of book.old) ask.entry
+        result (course_of book.new) }
     ensures scenario { book.new.scenario ≡ book.old.scenario }
 {
     match ask.into_command(alloc) {

@@ -40,13 +40,13 @@ fn answer_asked<N: Node, W: Write>(
     alloc: Global,
     book: &mut Book<N>,
     names: &Names,
-    ask: Ask,
+    ask: Ask<'_>,
     text: &mut String,
     outlet: &mut Outlet,
     writer: &mut W,
 ) -> Result<(), Halt>
     ensures answers { AnswersStrictly (rules N.laws N.PROBES book.old.scenario) names.now
-        (course_of book.old) (course_of book.new) (ScriptLine.Asked ask)
+        (course_of book.old) (course_of book.new) (ScriptLine.Asked ask.entry)
         (W.contents writer.old) (W.contents writer.new) outlet.old outlet.new result }
     ensures scenario { book.new.scenario ≡ book.old.scenario }
 {

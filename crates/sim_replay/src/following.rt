@@ -23,11 +23,11 @@ fn follow_ask<N: Node>(
     alloc: Global,
     book: &mut Book<N>,
     names: &Names,
-    ask: Ask,
+    ask: Ask<'_>,
     strict: bool,
 ) -> Result<(), LineStop>
     ensures follows { FollowsLine (rules N.laws N.PROBES book.old.scenario) names.now strict
-        (course_of book.old) (course_of book.new) (ScriptLine.Asked ask) result }
+        (course_of book.old) (course_of book.new) (ScriptLine.Asked ask.entry) result }
     ensures scenario { book.new.scenario ≡ book.old.scenario }
     ensures some { 0 < length book.old.kept → 0 < length book.new.kept }
 {

@@ -3,8 +3,8 @@ use Rattle.std.specs.Prelude.{Option, None, Some}
 use Rattle.std.specs.Option.{option_map}
 use Rattle.sim_watch.specs.declared.command.Command.{Command}
 use Rattle.sim_watch.specs.declared.command.Command.TheVariants as command
-use Rattle.sim_script.specs.declared.script.Parsed.{Parsed}
-use Rattle.sim_script.specs.declared.script.Parsed.TheVariants as parsed
+use Rattle.sim_script.specs.declared.ask.Parsed.{Parsed}
+use Rattle.sim_script.specs.declared.ask.Parsed.TheVariants as parsed
 use Rattle.sim_script.specs.Words.{Names, words}
 use Rattle.sim_script.specs.Conditions.{condition}
 

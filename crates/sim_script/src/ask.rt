@@ -1,48 +1,52 @@
 //! The command that a line gives.
 ghost use Rattle.std.specs.Prelude.{◌≡◌, IfOk};
 
+use crate::condition::condition_of;
+use crate::names::Names;
 use sim_node::NoMemory;
 use sim_watch::{Command, Cond, SharedCond};
 use std::alloc::Global;
 use std::marker::Model;
 
-/// What a command line asks. The condition of a watch is inline, since reading a line takes no
-/// memory.
+/// What the words of a command mean. It is small: the condition of a watch is still its text, since
+/// a condition takes hundreds of bytes, which each call would move.
 #[derive(Drop)]
-pub(crate) enum Form {
+pub(crate) enum Parsed<'a> {
     /// Any command but a watch.
     Plain(Command),
-    /// A watch, with its branch.
-    Watch(u32, Cond),
+    /// A watch, with its branch and the text of its condition.
+    Watch(u32, &'a [u8]),
 }
 
-/// A command as a line gives it; its condition has no memory of its own yet. Contracts see the
+/// A command as a line gives it; its condition is still a text of the line. Contracts see the
 /// command.
 #[derive(Drop)]
-pub struct Ask {
-    pub(crate) form: Form,
+pub struct Ask<'a> {
+    pub(crate) names: &'a Names,
+    pub(crate) parsed: Parsed<'a>,
 }
 
-impl Model for Ask {
+impl<'a> Model for Ask<'a> {
     ghost use Rattle.sim_watch.specs.declared.command.Command.{Command};
 
     ghost Value = { Command };
 
     ghost use Rattle.sim_script.specs.Asks.{command_in};
 
-    ghost view = { λ ask. command_in ask.form };
+    ghost view = { λ ask. command_in ask.names.now ask.parsed };
 }
 
-impl Ask {
+impl<'a> Ask<'a> {
     /// Returns the command. Fails only for want of memory for a condition.
     #[inline]
     pub fn into_command(self, alloc: Global) -> Result<Command, NoMemory>
-        ensures { IfOk result (λ c. c ≡ self) }
+        ensures { IfOk result (λ c. c ≡ self.entry) }
     {
-        let Ask { form } = self;
-        match form {
-            Form::Plain(command) => Ok(command),
-            Form::Watch(branch, cond) => {
+        let Ask { names, parsed } = self;
+        match parsed {
+            Parsed::Plain(command) => Ok(command),
+            Parsed::Watch(branch, text) => {
+                let cond = condition_of(names, text).unwrap_or(Cond::new());
                 Ok(Command::Watch(branch, SharedCond::new(alloc, cond)?))
             }
         }

@@ -15,8 +15,9 @@
 //! ```
 //!
 //! Reading takes no memory, for any line, whatever its bytes. Only a condition needs memory, when
-//! its `Ask` becomes a command, since a command holds it in shared memory. So do the words about a
-//! mistake, which are tested and not proved.
+//! its `Ask` becomes a command, since a command holds it in shared memory. An `Ask` holds the text
+//! of the condition, which is read again then: a condition takes hundreds of bytes, and each line
+//! would move them. The words about a mistake need memory too; they are tested and not proved.
 //!
 //! The contract of `line_of` is a definition over the list of the line's words: a table of first
 //! words, each with what may follow (`specs/Script.antt`). A condition has two definitions in

@@ -7,7 +7,7 @@ ghost use Rattle.sim_script.specs.Script.{fault_of, query_of, a_host, a_number, 
 ghost use Rattle.sim_script.specs.Script.{a_host_and_probe, nothing, words, number};
 ghost use Rattle.sim_script.specs.Parsed.{meant};
 
-use crate::ask::{Ask, Form};
+use crate::ask::{Ask, Parsed};
 use crate::condition::condition_of;
 use crate::names::Names;
 use crate::words::{next_word, parse_number};
@@ -22,12 +22,12 @@ pub(crate) const MAX_DIGITS: usize = 9;
 
 /// What a line of a script asks.
 #[derive(Drop)]
-pub enum ScriptLine {
+pub enum ScriptLine<'a> {
     /// An empty line, or a comment.
     Nothing,
     /// A line that is no command.
     Bad,
-    Asked(Ask),
+    Asked(Ask<'a>),
 }
 
 /// Reads a number of a command, of 1 to 9 decimal digits.
@@ -186,16 +186,6 @@ fn parse_numbered(branch: u32, word: &[u8], rest: &[u8]) -> Option<Command>
     }
 }
 
-/// What the words of a command mean. It is small: the condition of a watch is still its text, since
-/// a condition takes hundreds of bytes, which each call would move.
-#[derive(Drop)]
-enum Parsed<'a> {
-    /// Any command but a watch.
-    Plain(Command),
-    /// A watch, with its branch and the text of its condition.
-    Watch(u32, &'a [u8]),
-}
-
 /// Returns a command that is no watch, if there is one.
 fn plain<'a>(command: Option<Command>) -> Option<Parsed<'a>>
     ensures { (names : _) → meant names result ≡ command }
@@ -204,13 +194,14 @@ fn plain<'a>(command: Option<Command>) -> Option<Parsed<'a>>
 }
 
 /// Reads a line that sets a watch, by the text of its condition.
-fn parse_watch(names: &Names, branch: u32, text: &[u8]) -> ScriptLine
+fn parse_watch<'a>(names: &'a Names, branch: u32, text: &'a [u8]) -> ScriptLine<'a>
     ensures { result ≡ asked (option_map (Command.Watch branch)
         (condition names.now (words text.now))) }
 {
     match condition_of(names, text) {
-        Some(cond) => ScriptLine::Asked(Ask {
-            form: Form::Watch(branch, cond),
+        Some(_) => ScriptLine::Asked(Ask {
+            names,
+            parsed: Parsed::Watch(branch, text),
         }),
         None => ScriptLine::Bad,
     }
@@ -274,7 +265,7 @@ fn parse_command<'a>(names: &Names, text: &'a [u8]) -> Option<Parsed<'a>>
 
 /// Reads a line of a script, given without its line end. Takes no memory.
 #[tactic(auto, unfolding(crate::specs::Script::script_line))]
-pub fn line_of(names: &Names, line: &[u8]) -> ScriptLine
+pub fn line_of<'a>(names: &'a Names, line: &'a [u8]) -> ScriptLine<'a>
     ensures { result ≡ script_line names.now line.now }
 {
     if line.is_empty() || line[0] == b'#' {
@@ -285,7 +276,8 @@ pub fn line_of(names: &Names, line: &[u8]) -> ScriptLine
     }
     match parse_command(names, line) {
         Some(Parsed::Plain(command)) => ScriptLine::Asked(Ask {
-            form: Form::Plain(command),
+            names,
+            parsed: Parsed::Plain(command),
         }),
         Some(Parsed::Watch(branch, text)) => parse_watch(names, branch, text),
         None => ScriptLine::Bad,

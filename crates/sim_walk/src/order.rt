@@ -1,7 +1,7 @@
 //! The requests that a line of a walk can make.
 use crate::topic::{Kind, Topic, topic_of};
 use sim_book::Command;
-use sim_script::{Ask, Expected, LineMistake, Names, ScriptLine, line_of, mistake_of};
+use sim_script::{Expected, LineMistake, Names, ScriptLine, line_of, mistake_of};
 use sim_watch::SharedCond;
 use sim_world::Fault;
 use std::alloc::{AllocError, Global};
@@ -106,11 +106,11 @@ impl Reading<'_> {
         OrderError::Mistake(LineMistake { word, expected })
     }
 
-    // Returns what a line of a script asks for that begins with these words.
-    fn line(&self, begin: &str, rest: &str) -> Result<Ask, OrderError> {
+    // Returns the command of a line of a script that begins with these words.
+    fn command(&self, begin: &str, rest: &str) -> Result<Command, OrderError> {
         let line = format!(in self.alloc; "{begin} {rest}")?;
         match line_of(self.names, line.as_bytes()) {
-            ScriptLine::Asked(ask) => Ok(ask),
+            ScriptLine::Asked(ask) => Ok(ask.into_command(self.alloc)?),
             ScriptLine::Nothing | ScriptLine::Bad => {
                 match mistake_of(self.names, line.as_bytes()) {
                     Some(mistake) => Err(self.mistake(mistake.word, mistake.expected)),
@@ -118,12 +118,6 @@ impl Reading<'_> {
                 }
             }
         }
-    }
-
-    // Returns the command of such a line.
-    fn command(&self, begin: &str, rest: &str) -> Result<Command, OrderError> {
-        let ask = self.line(begin, rest)?;
-        Ok(ask.into_command(self.alloc)?)
     }
 
     // Reads a line of a script, on the branch of the line.
@@ -139,7 +133,7 @@ impl Reading<'_> {
 
     // Fails if any words are left.
     fn alone(&self, rest: &str) -> Result<(), OrderError> {
-        let _step = self.line("step", rest)?;
+        let _step = self.command("step", rest)?;
         Ok(())
     }
 
