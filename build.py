@@ -73,7 +73,8 @@ def main(programs):
     cited = cited_crates()
     for program in programs:
         if not (ROOT / "crates" / program / "src" / "main.rt").is_file() or program not in cited:
-            sys.exit(f"build.py: there is no program crates/{program}")
+            print(f"build.py: there is no program crates/{program}", file=sys.stderr)
+            sys.exit(2)
     libraries = {program: libraries_below(program, cited) for program in programs}
     for crate in dict.fromkeys(name for names in libraries.values() for name in names):
         prove(crate, libraries_below(crate, cited), "rt", "lib")
