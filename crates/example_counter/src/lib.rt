@@ -36,7 +36,7 @@ pub enum Message {
 }
 
 /// The role of a host.
-#[derive(Clone, Copy, Debug, PartialEq, Eq)]
+#[derive(Clone, Copy, Debug)]
 pub enum Role {
     /// A client waits for the answer to this operation, from 1.
     Client { next: u64 },
@@ -48,7 +48,7 @@ pub enum Role {
 }
 
 /// The state of a host.
-#[derive(Clone, Copy, Debug, PartialEq, Eq)]
+#[derive(Clone, Copy)]
 pub struct State {
     pub setup: Setup,
     pub me: u16,

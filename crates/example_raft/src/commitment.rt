@@ -245,7 +245,7 @@ impl Server {
             effects.new }
         ensures back { LeadsBack result self.old self.new }
     {
-        if self.standing.rank == Rank::Leader {
+        if matches!(self.standing.rank, Rank::Leader) {
             return self.put(from, value, here, effects);
         }
         if let Some(leader) = self.standing.leader {

@@ -3,7 +3,7 @@ use sim_hosts::{Boxed, HostSet};
 use sim_node::Setup;
 
 /// A value in the log, with the term of the leader that added it. No entry has the term 0.
-#[derive(Clone, Copy, Debug, PartialEq, Eq)]
+#[derive(Clone, Copy, Debug)]
 pub struct Entry {
     pub term: u64,
     pub value: u64,
@@ -11,7 +11,7 @@ pub struct Entry {
 
 /// A candidate's request for a vote: its term, the number of entries of its log, and the term of
 /// the last one.
-#[derive(Clone, Copy, Debug, PartialEq, Eq)]
+#[derive(Clone, Copy, Debug)]
 pub struct Ask {
     pub term: u64,
     pub len: u8,
@@ -20,7 +20,7 @@ pub struct Ask {
 
 /// A leader's message in this term: after `prev` entries, the last of them of the term `before`,
 /// comes this entry, if any. `commit` entries are committed.
-#[derive(Clone, Copy, Debug, PartialEq, Eq)]
+#[derive(Clone, Copy, Debug)]
 pub struct Append {
     pub term: u64,
     pub prev: u8,
@@ -31,7 +31,7 @@ pub struct Append {
 
 /// A follower's answer in a term: its log is the leader's up to `at` entries, or else the leader
 /// should try again after `at` entries.
-#[derive(Clone, Copy, Debug, PartialEq, Eq)]
+#[derive(Clone, Copy, Debug)]
 pub struct Ack {
     pub agrees: bool,
     pub at: u8,
@@ -40,7 +40,7 @@ pub struct Ack {
 
 /// A message. A client's value is 1000 times the client's number, plus the number of its operation,
 /// from 1.
-#[derive(Clone, Copy, Debug, PartialEq, Eq)]
+#[derive(Clone, Copy, Debug)]
 pub enum Message {
     /// A client asks to commit a value.
     Put(u64),
@@ -59,14 +59,14 @@ pub enum Message {
 }
 
 /// A client: the operation that it waits for, from 1, and the server that it asks.
-#[derive(Clone, Copy, Debug, PartialEq, Eq)]
+#[derive(Clone, Copy, Debug)]
 pub struct Client {
     pub next: u64,
     pub server: u16,
 }
 
 /// The rank of a server in its term.
-#[derive(Clone, Copy, Debug, PartialEq, Eq)]
+#[derive(Clone, Copy, Debug)]
 pub enum Rank {
     Follower,
     Candidate,
@@ -74,7 +74,7 @@ pub enum Rank {
 }
 
 /// The state of a server, but for its log and what it knows of the others.
-#[derive(Clone, Copy, Debug, PartialEq, Eq)]
+#[derive(Clone, Copy, Debug)]
 pub struct Standing {
     pub term: u64,
     /// The candidate for which it has voted in this term.
@@ -95,7 +95,7 @@ pub struct Standing {
 }
 
 /// The number of entries that a host has acknowledged in a term.
-#[derive(Clone, Copy, Debug, PartialEq, Eq)]
+#[derive(Clone, Copy, Debug)]
 pub struct Peer {
     pub term: u64,
     pub has: u8,
@@ -112,7 +112,7 @@ pub struct Server {
 
 /// The context in which a server reacts: the rules that it follows, the setup of the cluster, its
 /// number, and the random word.
-#[derive(Clone, Copy, Debug)]
+#[derive(Clone, Copy)]
 pub struct Context {
     pub rules: Rules,
     pub setup: Setup,
@@ -136,7 +136,7 @@ pub struct State {
 }
 
 /// What a reaction changed in the log or in the knowledge of the others: the value before.
-#[derive(Clone, Copy, Debug, PartialEq, Eq)]
+#[derive(Clone, Copy)]
 pub enum Change {
     Nothing,
     /// This place of the log had this entry.
@@ -146,7 +146,7 @@ pub enum Change {
 }
 
 /// The record of a reaction: the parts of the state before it that may have changed.
-#[derive(Clone, Copy, Debug, PartialEq, Eq)]
+#[derive(Clone, Copy)]
 pub enum RaftUndo {
     Client(Client),
     Server { standing: Standing, change: Change },

@@ -1,5 +1,5 @@
 /// Which of two mistakes a server makes.
-#[derive(Clone, Copy, Debug, PartialEq, Eq)]
+#[derive(Clone, Copy)]
 pub struct Rules {
     /// It commits an entry of an older term because a majority has it.
     pub eager: bool,

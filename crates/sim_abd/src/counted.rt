@@ -10,7 +10,7 @@ use std::marker::Model;
 
 /// A client whose current operation has a number of 16 bits, so that its requests fit into
 /// messages. Contracts see the client.
-#[derive(Clone, Copy, Debug, PartialEq, Eq)]
+#[derive(Clone, Copy, Debug)]
 pub struct CountedClient {
     inner: Client,
 }

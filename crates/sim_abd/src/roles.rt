@@ -4,7 +4,7 @@ use sim_hosts::HostSet;
 use sim_node::Setup;
 
 /// A value with its tag: a number and its writer.
-#[derive(Clone, Copy, Debug, PartialEq, Eq)]
+#[derive(Clone, Copy, Debug)]
 pub struct Tagged {
     pub number: u64,
     pub writer: u64,
@@ -13,7 +13,7 @@ pub struct Tagged {
 
 /// A message. A request of a client has an even number if it asks, an odd one if it stores. The
 /// number comes first, next to the tag, to save bytes.
-#[derive(Clone, Copy, Debug, PartialEq, Eq)]
+#[derive(Clone, Copy, Debug)]
 pub enum AbdMsg {
     /// A client asks for the value of a server.
     Ask(u32),
@@ -26,7 +26,7 @@ pub enum AbdMsg {
 }
 
 /// The phase of a client's operation.
-#[derive(Clone, Copy, Debug, PartialEq, Eq)]
+#[derive(Clone, Copy, Debug)]
 pub enum Phase {
     Resting,
     Asking,
@@ -34,7 +34,7 @@ pub enum Phase {
 }
 
 /// A client.
-#[derive(Clone, Copy, Debug, PartialEq, Eq)]
+#[derive(Clone, Copy, Debug)]
 pub struct Client {
     /// The number of the current operation, from 1.
     pub next: u32,
@@ -47,14 +47,14 @@ pub struct Client {
 }
 
 /// A host and its request, to be answered when the stored value is stable.
-#[derive(Clone, Copy, Debug, PartialEq, Eq)]
+#[derive(Clone, Copy, Debug)]
 pub struct Owed {
     pub host: u16,
     pub request: u32,
 }
 
 /// A server.
-#[derive(Clone, Copy, Debug, PartialEq, Eq)]
+#[derive(Clone, Copy, Debug)]
 pub struct Server {
     pub kept: Tagged,
     /// The number of syncs that it waits for.
@@ -63,14 +63,14 @@ pub struct Server {
 }
 
 /// The role of a host.
-#[derive(Clone, Copy, Debug, PartialEq, Eq)]
+#[derive(Clone, Copy, Debug)]
 pub enum Role {
     Client(CountedClient),
     Server(Server),
 }
 
 /// The state of a host.
-#[derive(Clone, Copy, Debug)]
+#[derive(Clone, Copy)]
 pub struct State {
     pub setup: Setup,
     pub me: u16,

@@ -11,7 +11,7 @@ use std::fmt;
 const MAX_TOLD: usize = 256;
 
 /// Why a line of a script is at fault.
-#[derive(Clone, Copy, Debug, PartialEq, Eq)]
+#[derive(Clone, Copy, Debug)]
 pub enum LineFault {
     /// The line is no command.
     Bad(LineMistake),

@@ -24,7 +24,7 @@ pub enum EchoMsg {
 }
 
 /// The record of a reaction: the counter before it.
-#[derive(Clone, Copy, Debug, PartialEq, Eq)]
+#[derive(Clone, Copy, PartialEq, Eq)]
 pub enum EchoUndo {
     /// The reaction changed nothing.
     Nothing,

@@ -9,7 +9,7 @@ use sim_world::Event;
 use std::alloc::{AllocError, Global};
 
 /// Why a run has no input.
-#[derive(Clone, Copy, Debug, PartialEq, Eq)]
+#[derive(Clone, Copy, Debug)]
 pub enum InputError {
     NoInput,
     NoMemory,

@@ -4,7 +4,7 @@ ghost use Rattle.sim_hosts.specs.Hosts.{nobody, is_in, joined, size, servers_fro
 use sim_node::Setup;
 
 /// A set of hosts: the bit of each host that is in it is set.
-#[derive(Clone, Copy, Debug, PartialEq, Eq)]
+#[derive(Clone, Copy, Debug)]
 pub struct HostSet {
     pub bits: u32,
 }

@@ -4,7 +4,7 @@ ghost use Rattle.sim_hosts.specs.Waiting.{lowest_waiting, restored, IsPlacedSlot
 use sim_node::Setup;
 
 /// A host's slot before a reaction: the record by which a change of the table is undone.
-#[derive(Clone, Copy, Debug, PartialEq, Eq)]
+#[derive(Clone, Copy)]
 pub enum SlotBefore<A> {
     /// The reaction changed no slot.
     Same,

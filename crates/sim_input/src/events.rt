@@ -14,7 +14,7 @@ use sim_world::{Event, Fault};
 use std::alloc::{AllocError, Global};
 
 /// Why an event or a condition is not written.
-#[derive(Clone, Copy, Debug, PartialEq, Eq)]
+#[derive(Clone, Copy, Debug)]
 pub enum LineError {
     /// No words are read as it: an advance of the clock, a condition with no term or with a number
     /// of 20 digits, or one that names a host or a probe that has no name.

@@ -17,7 +17,7 @@ pub struct FaultPlan {
 }
 
 /// What the program must do, and with which input.
-#[derive(Clone, Copy, Debug, PartialEq, Eq)]
+#[derive(Clone, Copy, PartialEq, Eq)]
 pub struct Request<'a> {
     pub job: Job<'a>,
     /// The name of the file with the input, or `None` for the standard input.

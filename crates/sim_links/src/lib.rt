@@ -42,7 +42,7 @@ pub enum LinkState {
 }
 
 /// A change of one direction.
-#[derive(Clone, Copy, Debug, PartialEq, Eq)]
+#[derive(Clone, Copy)]
 pub enum Change {
     Hold,
     Release,
@@ -60,7 +60,7 @@ pub struct Way {
 }
 
 /// The record of a change of the direction from a to b: the change, and the state before it.
-#[derive(Clone, Copy, Debug, PartialEq, Eq)]
+#[derive(Clone, Copy)]
 pub struct LinkUndo {
     pub a: u16,
     pub b: u16,

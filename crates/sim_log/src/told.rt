@@ -95,7 +95,7 @@ fn lost_by<N: Node>(alloc: Global, world: &World<N>, host: u16) -> Result<Vec<u6
 
 /// How a fault changes the links: the direction from the first host to the second and, if the fault
 /// goes both ways, then the opposite one.
-#[derive(Clone, Copy, Debug, PartialEq, Eq)]
+#[derive(Clone, Copy)]
 pub struct LinkFault {
     pub word: &'static str,
     pub change: Change,

@@ -62,7 +62,7 @@ pub const MAX_EFFECTS: usize = 40;
 /// The hosts are numbered from 0. Hosts below `servers` are servers, the others are clients. Each
 /// node boots with the setup of its cluster. The limits: at least one server and one client, at
 /// most 32 hosts, and 1 to 1,000 operations for each client.
-#[derive(Clone, Copy, Debug, PartialEq, Eq)]
+#[derive(Clone, Copy)]
 pub struct Setup {
     /// The number of servers.
     pub servers: u16,
@@ -74,7 +74,7 @@ pub struct Setup {
 }
 
 /// An input to which a node reacts.
-#[derive(Debug, Drop)]
+#[derive(Drop)]
 pub enum Input<M> {
     /// The host has started: the first input after each boot.
     Start,

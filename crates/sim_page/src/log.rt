@@ -14,7 +14,7 @@ use std::alloc::Global;
 use std::fmt::Debug;
 
 /// Which events are shown, and how.
-#[derive(Clone, Copy, Debug, PartialEq, Eq)]
+#[derive(Clone, Copy)]
 pub struct LogRange {
     /// The first event, from 1 on; 1 by default.
     pub from: Option<u64>,

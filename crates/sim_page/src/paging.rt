@@ -18,7 +18,7 @@ use std::fmt::Debug;
 use std::io::{Read, Write};
 
 /// What a page shows beside the run.
-#[derive(Clone, Copy, Debug, PartialEq, Eq)]
+#[derive(Clone, Copy)]
 pub struct PageRequest<'a> {
     /// The heading.
     pub title: Option<&'a str>,
@@ -81,7 +81,7 @@ impl<'a, H: Eprint> Task for Paging<'a, H> {
 }
 
 // Why the conditions to watch could not be read.
-#[derive(Clone, Copy, Debug, PartialEq, Eq)]
+#[derive(Clone, Copy)]
 enum WatchError {
     BadCondition,
     NoMemory,

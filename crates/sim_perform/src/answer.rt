@@ -13,7 +13,7 @@ use std::alloc::Global;
 use std::fmt;
 
 /// The answer of a search or a sweep.
-#[derive(Clone, Copy, Debug, PartialEq, Eq)]
+#[derive(Clone, Copy)]
 pub enum Answer {
     /// The condition fails at this place, and at none before it.
     Place(u32),
@@ -57,7 +57,7 @@ impl Answer {
 }
 
 /// How an answer is written.
-#[derive(Clone, Copy, Debug, PartialEq, Eq)]
+#[derive(Clone, Copy)]
 pub enum Form {
     /// In words.
     Words,
@@ -67,7 +67,7 @@ pub enum Form {
 }
 
 /// The numbers of a sweep.
-#[derive(Clone, Copy, Debug, PartialEq, Eq)]
+#[derive(Clone, Copy)]
 pub struct Swept {
     pub first: u64,
     pub count: u64,

@@ -10,7 +10,7 @@ pub const MAX_SPACING: u32 = 65_536;
 pub const MAX_PLANNED: u64 = 65_534;
 
 /// How a run is planned.
-#[derive(Clone, Copy, Debug, PartialEq, Eq)]
+#[derive(Clone, Copy)]
 pub struct Plan {
     /// One event in this many is a fault or a healing, on average: 2 to 65,536. With `None`, each
     /// planned event is a step.

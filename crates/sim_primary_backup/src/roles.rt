@@ -3,7 +3,7 @@ use sim_hosts::{Boxed, HostSet, SlotBefore};
 use sim_node::Setup;
 
 /// A message. A client counts its puts from 1; the primary counts all puts as it applies them.
-#[derive(Clone, Copy, Debug, PartialEq, Eq)]
+#[derive(Clone, Copy, Debug)]
 pub enum BackupMsg {
     /// A client asks to put this value into a cell, as its put of this number.
     Put(u64, u64),
@@ -17,7 +17,7 @@ pub enum BackupMsg {
 }
 
 /// The progress of a server.
-#[derive(Clone, Copy, Debug, PartialEq, Eq)]
+#[derive(Clone, Copy, Debug)]
 pub struct Progress {
     /// The number of puts that it has applied.
     pub applied: u64,
@@ -28,14 +28,14 @@ pub struct Progress {
 }
 
 /// The cells and the progress of a server.
-#[derive(Clone, Copy, Debug, PartialEq, Eq)]
+#[derive(Clone, Copy, Debug)]
 pub struct Store {
     pub cells: [u64; 16],
     pub progress: Progress,
 }
 
 /// The put that the primary sends to the backups. After a restart it has no client.
-#[derive(Clone, Copy, Debug, PartialEq, Eq)]
+#[derive(Clone, Copy, Debug)]
 pub struct Request {
     pub client: Option<u16>,
     /// The backups that have the put.
@@ -44,7 +44,7 @@ pub struct Request {
 }
 
 /// A put that waits.
-#[derive(Clone, Copy, Debug, PartialEq, Eq)]
+#[derive(Clone, Copy, Debug)]
 pub struct Waiter {
     pub number: u64,
     pub val: u64,
@@ -76,7 +76,7 @@ pub struct State {
 }
 
 /// The value of a cell before a reaction.
-#[derive(Clone, Copy, Debug, PartialEq, Eq)]
+#[derive(Clone, Copy)]
 pub enum CellBefore {
     /// The reaction changed no cell.
     Same,
@@ -85,14 +85,14 @@ pub enum CellBefore {
 }
 
 /// The cell and the slot that a reaction of the primary changed, as they were before.
-#[derive(Clone, Copy, Debug, PartialEq, Eq)]
+#[derive(Clone, Copy)]
 pub struct Changes {
     pub cell: CellBefore,
     pub slot: SlotBefore<Waiter>,
 }
 
 /// The record of a reaction: the parts of the state before it that may have changed.
-#[derive(Clone, Copy, Debug, PartialEq, Eq)]
+#[derive(Clone, Copy)]
 pub enum BackupUndo {
     /// A client that waited for the end of this put.
     Client {

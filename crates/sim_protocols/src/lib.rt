@@ -28,7 +28,7 @@ pub use sim_primary_backup::{BackupMsg, BackupUndo, PrimaryBackup};
 pub use sim_two_phase::{CommitMsg, CommitUndo, TwoPhase};
 
 /// The protocols.
-#[derive(Clone, Copy, Debug, PartialEq, Eq)]
+#[derive(Clone, Copy)]
 pub enum Protocol {
     Echo,
     PrimaryBackup,

@@ -7,7 +7,7 @@ use std::fmt;
 use thiserror::Error;
 
 /// The keys of a scenario, in the order in which their faults are checked.
-#[derive(Clone, Copy, Debug, PartialEq, Eq)]
+#[derive(Clone, Copy, Debug)]
 pub enum Key {
     Format,
     Seed,

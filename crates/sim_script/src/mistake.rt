@@ -78,7 +78,7 @@ impl fmt::Display for Expected {
 /// Why a line is bad: the number of a word, from 1, and what was expected there. If a word is
 /// missing, the number is one past the last word. A line that is too long counts as a mistake at
 /// its first word.
-#[derive(Clone, Copy, Debug, PartialEq, Eq)]
+#[derive(Clone, Copy, Debug)]
 pub struct LineMistake {
     pub word: u32,
     pub expected: Expected,

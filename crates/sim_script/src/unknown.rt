@@ -5,7 +5,7 @@ use crate::names::Names;
 use crate::words::next_word;
 
 /// A name in a condition that no host or no probe has.
-#[derive(Clone, Copy, Debug, PartialEq, Eq)]
+#[derive(Clone, Copy)]
 pub(crate) enum Unknown<'a> {
     Host(&'a [u8]),
     Probe(&'a [u8]),

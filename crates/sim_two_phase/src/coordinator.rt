@@ -167,7 +167,7 @@ impl Coordinator {
         ensures back { restored result self.new.waiting ≡ self.old.waiting }
         ensures host { IsPlacedSlot result }
     {
-        if self.conduct.phase == Phase::Resting {
+        if matches!(self.conduct.phase, Phase::Resting) {
             return self.begin(setup, effects);
         }
         self.conduct.timed_out(setup, effects);

@@ -4,7 +4,7 @@ use sim_node::Setup;
 
 /// A message. The coordinator counts transactions from 1, a client its operations from 1. A flag
 /// comes first, next to the tag, to save bytes.
-#[derive(Clone, Copy, Debug, PartialEq, Eq)]
+#[derive(Clone, Copy, Debug)]
 pub enum CommitMsg {
     /// A client asks for a transaction, for its operation of this number.
     Begin(u64),
@@ -23,7 +23,7 @@ pub enum CommitMsg {
 }
 
 /// The outcome of transaction 1.
-#[derive(Clone, Copy, Debug, PartialEq, Eq)]
+#[derive(Clone, Copy, Debug)]
 pub enum First {
     Open,
     Committed,
@@ -31,7 +31,7 @@ pub enum First {
 }
 
 /// The phase of the coordinator.
-#[derive(Clone, Copy, Debug, PartialEq, Eq)]
+#[derive(Clone, Copy, Debug)]
 pub enum Phase {
     /// It does nothing.
     Resting,
@@ -49,14 +49,14 @@ pub enum Phase {
 }
 
 /// A client to be answered when the commit is stable, and the number of its operation.
-#[derive(Clone, Copy, Debug, PartialEq, Eq)]
+#[derive(Clone, Copy, Debug)]
 pub struct Owed {
     pub client: u16,
     pub number: u64,
 }
 
 /// The coordinator's last transaction, and its phase.
-#[derive(Clone, Copy, Debug, PartialEq, Eq)]
+#[derive(Clone, Copy, Debug)]
 pub struct Conduct {
     /// The number of the transaction, 0 before the first.
     pub transaction: u64,
@@ -86,7 +86,7 @@ pub enum Status {
 }
 
 /// A participant.
-#[derive(Clone, Copy, Debug, PartialEq, Eq)]
+#[derive(Clone, Copy, Debug)]
 pub struct Participant {
     /// The last transaction that it was asked for, 0 before the first.
     pub transaction: u64,
@@ -115,14 +115,14 @@ pub struct State {
 
 /// The slots that a reaction changed, as they were before: of the host that asked, and of the host
 /// for which a transaction was begun after that.
-#[derive(Clone, Copy, Debug, PartialEq, Eq)]
+#[derive(Clone, Copy)]
 pub struct Slots {
     pub asked: SlotBefore<u64>,
     pub begun: SlotBefore<u64>,
 }
 
 /// The record of a reaction: the parts of the state before it that may have changed.
-#[derive(Clone, Copy, Debug, PartialEq, Eq)]
+#[derive(Clone, Copy)]
 pub enum CommitUndo {
     /// A client that waited for this operation.
     Client { next: u64 },

@@ -59,7 +59,7 @@ pub(crate) struct Request {
 }
 
 /// Why a line makes no request.
-#[derive(Clone, Copy, Debug, PartialEq, Eq)]
+#[derive(Clone, Copy)]
 pub(crate) enum OrderError {
     /// This word is not what is expected there.
     Mistake(LineMistake),

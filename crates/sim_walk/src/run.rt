@@ -103,7 +103,7 @@ pub(crate) fn pass<N: Node>(
 }
 
 /// The serials of a world at a place, to describe an event that leads there or away.
-#[derive(Clone, Copy, Debug, PartialEq, Eq)]
+#[derive(Clone, Copy)]
 pub(crate) struct Serials {
     /// The serial of the first pending occurrence.
     pub(crate) first: Option<u64>,

@@ -16,7 +16,7 @@ const HOLDS_HERE: &str =
     "the condition holds here: go forward, or `first COND` goes to where it first fails";
 
 /// Why there is no such place.
-#[derive(Clone, Copy, Debug, PartialEq, Eq)]
+#[derive(Clone, Copy)]
 pub(crate) enum SeekError {
     /// No place passes the test, for this reason.
     Nowhere(&'static str),

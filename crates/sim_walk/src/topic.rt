@@ -4,7 +4,7 @@ use std::alloc::{AllocError, Global};
 use strsim::osa_distance;
 
 /// The kind of a command, by its first word.
-#[derive(Clone, Copy, Debug, PartialEq, Eq)]
+#[derive(Clone, Copy)]
 pub(crate) enum Kind {
     /// A line of a script.
     Line,

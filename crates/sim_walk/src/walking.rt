@@ -22,7 +22,7 @@ use std::fmt::Debug;
 use std::io::{Read, Write};
 
 /// How a walk is shown.
-#[derive(Clone, Copy, Debug, PartialEq, Eq)]
+#[derive(Clone, Copy)]
 pub struct Style {
     /// Whether a prompt is written before each command is read, as for a terminal. If not, each
     /// command is written before its answer.
@@ -40,7 +40,7 @@ struct Walker<'a, N: Node> {
 }
 
 // How a line ended.
-#[derive(Clone, Copy, Debug, PartialEq, Eq)]
+#[derive(Clone, Copy)]
 enum Turned {
     On,
     /// The walk is over.

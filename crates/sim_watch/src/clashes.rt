@@ -9,7 +9,7 @@ use sim_node::Node;
 use sim_world::World;
 
 /// What no two running hosts may show together.
-#[derive(Clone, Copy, Debug, PartialEq, Eq)]
+#[derive(Clone, Copy)]
 pub(crate) enum Clash {
     /// The same value of a probe, other than this number.
     Same(u8, u64),

@@ -31,7 +31,7 @@ use std::alloc::Global;
 use std::marker::Model;
 
 /// The fate of an effect.
-#[derive(Clone, Copy, Debug, PartialEq, Eq)]
+#[derive(Clone, Copy)]
 pub enum Fate {
     /// The message or the timer is pending, due at this time (ms).
     Pending { due: u64, serial: u64 },

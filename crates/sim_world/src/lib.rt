@@ -153,7 +153,7 @@ pub enum Refusal {
 }
 
 /// What can be looked at.
-#[derive(Clone, Copy, Debug, PartialEq, Eq)]
+#[derive(Clone, Copy)]
 pub enum Query {
     /// the clock, the serials and the streams of the whole world, and the numbers of pending
     /// occurrences and of held messages
