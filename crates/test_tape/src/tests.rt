@@ -3,22 +3,12 @@
 //! * `tapes_go_by_their_rows`: a tape that never has memory; places, clocks and views other than
 //!   one works out by hand; more turns, copies or undos than a call may take.
 //! * `branches_and_frozen_runs`: a branch, or a frozen run, that changes with its origin.
-//! * `walks_are_as_plain_runs`, `walks_by_long_intervals_are_as_plain_runs`: any call that leaves
-//!   another world, other events or a shorter reach than steps from the start do, or that works
-//!   more.
-mod calls;
-mod plain;
 mod scene;
-mod walks;
 
 use scene::{Act, Scene};
-use sim_links::Way;
-use sim_node::Setup;
-use sim_world::{Event, Fault, Scenario};
+use sim_world::{Event, Fault};
 use std::alloc::Global;
 use std::test::Fail;
-use test_support::Setting;
-use walks::Walk;
 
 // The first run, which ends after six steps.
 const RUN: [Act; 6] = [
@@ -29,27 +19,6 @@ const RUN: [Act; 6] = [
     Act::Step(30),
     Act::Step(40),
 ];
-
-// Returns a scenario of two servers and two clients, over ways that lose one message in ten.
-fn large_scenario(interval: u32, window: u32) -> Result<Scenario, Fail> {
-    let setting = Setting {
-        seed: [0; 32],
-        way: Way {
-            latency_min: 10,
-            latency_max: 19,
-            loss: 100,
-        },
-        disk_latency: 0,
-        setup: Setup {
-            servers: 2,
-            hosts: 4,
-            ops: [20; 32],
-        },
-        interval,
-        window,
-    };
-    Ok(setting.scenario()?)
-}
 
 // The interval, the window, the acts to begin with, and the acts to check.
 type Row = (u32, u32, &'static [Act], &'static [Act]);
@@ -147,6 +116,7 @@ const ROWS: [Row; 7] = [
             Act::Jump(5, (0, 0, 1), 30),
             Act::Jump(1, (1, 2, 0), 0),
             Act::Jump(4, (0, 2, 0), 20),
+            Act::Jump(6, (2, 0, 0), 40),
         ],
     ),
     // Each event has its checkpoint.
@@ -204,29 +174,4 @@ fn freezes(alloc: Global) -> Result<(), Fail> {
 fn branches_and_frozen_runs(rt: HostRuntime) -> Result<(), Fail> {
     branches(rt.alloc())?;
     freezes(rt.alloc())
-}
-
-// Walks at random: first adds this many events, then makes this many calls.
-fn walk(alloc: Global, scenario: &Scenario, first: u32, calls: u32) -> Result<(), Fail> {
-    let mut walk = Walk::new(alloc, scenario)?;
-    walk.adds(first)?;
-    walk.turns(calls)
-}
-
-#[test]
-fn walks_are_as_plain_runs(rt: HostRuntime) -> Result<(), Fail> {
-    for interval in [1, 2, 3, 7] {
-        for window in [1, 2, 64, 4096] {
-            walk(rt.alloc(), &large_scenario(interval, window)?, 0, 300)?;
-        }
-    }
-    Ok(())
-}
-
-#[test]
-fn walks_by_long_intervals_are_as_plain_runs(rt: HostRuntime) -> Result<(), Fail> {
-    for window in [1, 2, 64, 4096] {
-        walk(rt.alloc(), &large_scenario(1024, window)?, 1_020, 100)?;
-    }
-    Ok(())
 }

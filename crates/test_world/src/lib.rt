@@ -7,7 +7,6 @@
 //! there, back by the records, and there again. `tests.rt` says what each test would catch.
 //!
 //! - `plays`: words, losses, latencies, links, crashes, restarts, refusals, the clock.
-//! - `walks`: a few thousand random events, each undone.
 //! - `limits`: 4,096 messages in flight, and the memory of a record that is used again.
 //! - `counts`: what a meter counts when it counts at run time.
 //! - `scribe`: a node that does nothing but write to its disk, since echo has none.

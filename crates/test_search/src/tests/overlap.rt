@@ -9,7 +9,7 @@ use std::test::Fail;
 #[test]
 fn two_workers_search_at_once(rt: HostRuntime) -> Result<(), Fail> {
     let (meeting, gate) = (Meeting::new(), Meeting::new());
-    let scenario = echoes()?;
+    let scenario = echoes(2, 2, 4)?;
     let cond = next_at_most(1, 3)?;
     let run = frozen_run(rt.alloc(), &scenario, 6, &mut Comer::late(&meeting))?;
     let meters = comers(rt.alloc(), &meeting)?;
@@ -26,7 +26,7 @@ fn two_workers_search_at_once(rt: HostRuntime) -> Result<(), Fail> {
 #[test]
 fn two_workers_sweep_at_once(rt: HostRuntime) -> Result<(), Fail> {
     let (meeting, gate) = (Meeting::new(), Meeting::new());
-    let scenario = echoes()?;
+    let scenario = echoes(2, 2, 4)?;
     let cond = next_at_most(1, 3)?;
     let meters = comers(rt.alloc(), &meeting)?;
     let found = sweep::<Echo<Comer>, _, _>(

@@ -17,7 +17,7 @@ use std::thread::Threads;
 
 // Returns the run of the six steps that can happen.
 fn six_steps(alloc: Global) -> Result<Frozen<Echo<Tally>>, Fail> {
-    frozen_run(alloc, &echoes()?, 7, &mut Tally::new())
+    frozen_run(alloc, &echoes(2, 2, 4)?, 7, &mut Tally::new())
 }
 
 // For two pieces: 1 for each time that it was entered, and 1,000 for each time that it was left.
@@ -140,7 +140,7 @@ fn swept<R: Threads + Wait + Sync>(
         count,
         events,
     } = seeds;
-    let scenario = echoes()?;
+    let scenario = echoes(2, 2, 4)?;
     let meters = tallies(alloc, workers)?;
     Ok(sweep::<Echo<Tally>, _, _>(
         rt, alloc, &scenario, first, count, events, cond, meters, &OpenGate,
@@ -174,7 +174,7 @@ fn seeds_from(first: u64, count: u64, events: u64) -> Seeds {
 #[test]
 fn seeds_of_echo(rt: HostRuntime) -> Result<(), Fail> {
     sweeps(&rt, rt.alloc(), seeds_from(0, 3, 6), 1, Some((0, 4)))?;
-    sweeps(&rt, rt.alloc(), seeds_from(5, 3, 6), 3, None)?;
+    sweeps(&rt, rt.alloc(), seeds_from(5, 3_000, 6), 3, None)?;
     sweeps(&rt, rt.alloc(), seeds_from(7, 2, 3), 1, None)
 }
 

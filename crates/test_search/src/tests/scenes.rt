@@ -11,9 +11,9 @@ use sim_world::{Event, Scenario};
 use std::alloc::Global;
 use std::test::Fail;
 
-/// Returns a scenario of one server and one client of echo, which has two operations; each message
-/// takes 10 ms. The interval is four events.
-pub fn echoes() -> Result<Scenario, Fail> {
+/// Returns a scenario of one server of echo and its clients, of this many operations each. A message
+/// takes 10 ms.
+pub fn echoes(hosts: u16, operations: u16, interval: u32) -> Result<Scenario, Fail> {
     let ways = Ways::all(Way {
         latency_min: 10,
         latency_max: 10,
@@ -21,27 +21,10 @@ pub fn echoes() -> Result<Scenario, Fail> {
     });
     let setup = Setup {
         servers: 1,
-        hosts: 2,
-        ops: [2; 32],
-    };
-    Ok(Scenario::new([0; 32], 100, ways, 0, setup, 4, 2)?)
-}
-
-/// Returns a scenario of one server of echo and its clients, of a thousand operations each. A
-/// message takes 1 to 100 ms, and this many in a thousand are lost: a client whose message was lost
-/// goes no further. The interval is the greatest.
-pub fn crowd(hosts: u16, loss: u32) -> Result<Scenario, Fail> {
-    let ways = Ways::all(Way {
-        latency_min: 1,
-        latency_max: 100,
-        loss,
-    });
-    let setup = Setup {
-        servers: 1,
         hosts,
-        ops: [1_000; 32],
+        ops: [operations; 32],
     };
-    Ok(Scenario::new([7; 32], 100, ways, 0, setup, 1_024, 64)?)
+    Ok(Scenario::new([0; 32], 100, ways, 0, setup, interval, 2)?)
 }
 
 /// Returns the condition that the client's next operation is at most this.

@@ -1,10 +1,9 @@
 //! Small runs of echo, by acts.
-use super::calls::{self, same};
 use sim_echo::Echo;
-use sim_node::Node;
-use sim_tape::{EventList, Frozen, Tape};
-use sim_world::{Coming, Event, Kind, Refusal, View};
+use sim_tape::{Frozen, Tape};
+use sim_world::{Coming, Event, Kind, Query, Refusal, View};
 use std::alloc::Global;
+use std::fmt::Debug;
 use std::test::Fail;
 use test_support::{Counts, TWO_ECHOES};
 
@@ -44,19 +43,12 @@ pub struct Scene {
     meter: Counts,
 }
 
-// Checks that these are six events, and the last one is a step.
-fn are_six_steps(events: &EventList) -> Result<(), Fail> {
-    same(&events.len(), &6, "events")?;
-    same(&events.get(5), &Some(Event::Step), "the last event")?;
-    same(&events.get(6), &None, "past the last event")
-}
-
-// Checks that a frozen run has the limits of a scene at intervals of four events, and the events of
-// the first run.
-fn is_the_first_run<N: Node>(alloc: Global, frozen: &Frozen<N>) -> Result<(), Fail> {
-    same(&frozen.interval(), &4, "interval")?;
-    same(&frozen.hosts(), &2, "hosts")?;
-    are_six_steps(&frozen.events().share(alloc)?)
+// Fails unless two values are equal.
+fn same<T: PartialEq + Debug>(seen: &T, wanted: &T, what: &str) -> Result<(), Fail> {
+    if seen == wanted {
+        return Ok(());
+    }
+    Err(Fail::new(format_args!("{what}: {seen:?}, not {wanted:?}")))
 }
 
 impl Scene {
@@ -72,7 +64,10 @@ impl Scene {
 
     /// Makes a cold branch of the first events, with a meter of its own.
     pub fn branch(&self, to: u32, clock: u64) -> Result<Scene, Fail> {
-        let tape = calls::split(self.alloc, &self.tape, to)?;
+        if self.tape.len() < to {
+            return Err(Fail::from("past the end"));
+        }
+        let tape = self.tape.split(self.alloc, to)?;
         same(&tape.warm(), &false, "warm")?;
         let branch = Scene {
             alloc: self.alloc,
@@ -87,16 +82,14 @@ impl Scene {
     /// its events.
     pub fn gives_tapes(&mut self) -> Result<(), Fail> {
         let frozen = self.tape.freeze(self.alloc)?;
-        self.takes_tapes(&frozen)
-    }
-
-    // Checks that the frozen first run makes tapes.
-    fn takes_tapes(&mut self, frozen: &Frozen<Echo<Counts>>) -> Result<(), Fail> {
-        is_the_first_run(self.alloc, frozen)?;
-        calls::truncate(&mut self.tape, 0)?;
-        self.thaws(frozen, 3, (3, 2, 0), 10)?;
-        self.thaws(frozen, 4, (0, 2, 0), 20)?;
-        self.thaws(frozen, 6, (2, 2, 0), 40)
+        let _events = frozen.events().share(self.alloc)?;
+        if self.tape.place() != self.tape.len() {
+            return Err(Fail::from("not at the end"));
+        }
+        self.tape.truncate(0);
+        self.thaws(&frozen, 3, (3, 2, 0), 10)?;
+        self.thaws(&frozen, 4, (0, 2, 0), 20)?;
+        self.thaws(&frozen, 6, (2, 2, 0), 40)
     }
 
     // Checks that a frozen run makes a warm tape at a place, which takes this much work.
@@ -107,8 +100,11 @@ impl Scene {
         work: (u64, u64, u64),
         clock: u64,
     ) -> Result<(), Fail> {
+        if frozen.events().len() < place {
+            return Err(Fail::from("past the end"));
+        }
         let before = self.meter.counted();
-        self.tape = calls::tape_at(self.alloc, frozen, place, &mut self.meter)?;
+        self.tape = frozen.tape(self.alloc, place, &mut self.meter)?;
         same(&self.meter.since(before), &work, "the work of a frozen run")?;
         same(&self.tape.warm(), &true, "warm")?;
         self.is_at(place, 6, clock)
@@ -121,8 +117,14 @@ impl Scene {
         same(&self.tape.clock(), &clock, "clock")
     }
 
+    // Adds an event at the end, if it can happen.
     fn add(&mut self, event: Event) -> Result<(), Fail> {
-        calls::add(self.alloc, &mut self.tape, event, &mut self.meter)
+        if self.tape.place() != self.tape.len() || 65_536 <= self.tape.len() {
+            return Err(Fail::from("no place for an event"));
+        }
+        self.tape.make_warm(self.alloc, &mut self.meter)?;
+        self.tape.here().can(event)?;
+        Ok(self.tape.add(self.alloc, event, &mut self.meter)?)
     }
 
     fn step(&mut self, clock: u64) -> Result<(), Fail> {
@@ -130,9 +132,27 @@ impl Scene {
         same(&self.tape.clock(), &clock, "clock after a step")
     }
 
+    // Goes back by this many events.
+    fn back(&mut self, count: u32) -> Result<(), Fail> {
+        if self.tape.place() < count {
+            return Err(Fail::from("past the start"));
+        }
+        Ok(self.tape.back(self.alloc, count, &mut self.meter)?)
+    }
+
+    // Goes forward by this many events.
+    fn forward(&mut self, count: u32) -> Result<(), Fail> {
+        let (place, len) = (self.tape.place(), self.tape.len());
+        if len - place < count {
+            return Err(Fail::from("past the end"));
+        }
+        Ok(self.tape.forward(self.alloc, count, &mut self.meter)?)
+    }
+
     fn shows(&mut self, place: u32, view: View) -> Result<(), Fail> {
         same(&self.tape.place(), &place, "place")?;
-        let seen = calls::summary(self.alloc, &mut self.tape, &mut self.meter)?;
+        self.tape.make_warm(self.alloc, &mut self.meter)?;
+        let seen = self.tape.here().look(Query::Summary);
         same(&seen, &view, "summary")
     }
 
@@ -143,18 +163,23 @@ impl Scene {
             host: 0,
             kind: Kind::Message,
         };
-        let seen = calls::next(self.alloc, &mut self.tape, &mut self.meter)?;
+        self.tape.make_warm(self.alloc, &mut self.meter)?;
+        let seen = self.tape.here().look(Query::Next);
         same(&seen, &View::Next(Some(coming)), "next")
     }
 
     fn is_idle(&mut self) -> Result<(), Fail> {
-        let answer = calls::can(self.alloc, &mut self.tape, Event::Step, &mut self.meter)?;
+        self.tape.make_warm(self.alloc, &mut self.meter)?;
+        let answer = self.tape.here().can(Event::Step);
         same(&answer, &Err(Refusal::Idle), "answer")
     }
 
     fn jump(&mut self, to: u32, work: (u64, u64, u64), clock: u64) -> Result<(), Fail> {
+        if self.tape.len() < to {
+            return Err(Fail::from("past the end"));
+        }
         let before = self.meter.counted();
-        calls::goto(self.alloc, &mut self.tape, to, &mut self.meter)?;
+        self.tape.goto(self.alloc, to, &mut self.meter)?;
         same(&self.meter.since(before), &work, "the work of a jump")?;
         self.is_at(to, 6, clock)
     }
@@ -164,13 +189,8 @@ impl Scene {
         match act {
             Act::Add(event) => self.add(event),
             Act::Step(clock) => self.step(clock),
-            Act::Back(count) => calls::back(self.alloc, &mut self.tape, count, &mut self.meter),
-            Act::Forward(count) => calls::forward(
-                self.alloc,
-                &mut self.tape,
-                count,
-                &mut self.meter,
-            ),
+            Act::Back(count) => self.back(count),
+            Act::Forward(count) => self.forward(count),
             Act::Cut => {
                 self.tape.cut();
                 Ok(())

@@ -5,7 +5,7 @@ use sim_node::Node;
 use sim_world::{Event, World};
 use std::alloc::Global;
 use std::test::Fail;
-use test_support::{Counts, applied, looks, ran};
+use test_support::{Counts, applied, ran};
 
 // Takes a step, and undoes it.
 fn steps_and_back<N: Node>(
@@ -17,29 +17,25 @@ fn steps_and_back<N: Node>(
     Ok(next.undo(alloc, undo, meter)?)
 }
 
-// Returns whether a copy of a world shows the same, and so does one that was packed and opened.
-fn is_copied<N: Node>(alloc: Global, world: &World<N>, meter: &mut N::Meter) -> Result<bool, Fail> {
-    let seen = looks(alloc, world)?;
-    let copied = looks(alloc, &world.copy(alloc, meter)?)?;
-    let opened = looks(alloc, &world.pack(alloc, meter)?.open(alloc, meter)?)?;
-    Ok(copied == seen && opened == seen)
+// Copies a world, and opens a packed copy of it.
+fn copies<N: Node>(alloc: Global, world: &World<N>, meter: &mut N::Meter) -> Result<(), Fail> {
+    let _copy = world.copy(alloc, meter)?;
+    let _opened = world.pack(alloc, meter)?.open(alloc, meter)?;
+    Ok(())
 }
 
-// Returns the counts at the start, after a step and its undo, after two copies, and after two more
-// copies of a world in which one of two hosts is stopped.
+// Returns the counts at the start, after a step and its undo, after three copies of a world of two
+// hosts, and after three more once one of the hosts is stopped.
 fn counted(alloc: Global) -> Result<[(u64, u64, u64); 4], Fail> {
     let mut meter = Counts::new();
     let world = World::<Echo<Counts>>::start(alloc, &TWO_ECHOES.scenario()?, &mut meter)?;
     let start = meter.counted();
     let world = steps_and_back(alloc, world, &mut meter)?;
     let back = meter.counted();
-    let mut are_alike = is_copied(alloc, &world, &mut meter)?;
+    copies(alloc, &world, &mut meter)?;
     let copied = meter.counted();
     let stopped = ran(alloc, world, &[CRASH], &mut meter)?;
-    are_alike &= is_copied(alloc, &stopped, &mut meter)?;
-    if !are_alike {
-        return Err(Fail::from("a copy shows something else"));
-    }
+    copies(alloc, &stopped, &mut meter)?;
     Ok([start, back, copied, meter.counted()])
 }
 

@@ -13,7 +13,7 @@ const IDLE: Act = Act::Refused(Event::Step, Refusal::Idle);
 // The greatest latency (the least is 10 ms), the loss, and the acts of two hosts of echo.
 type EchoPlay = (u32, u32, &'static [Act]);
 
-const ECHO_PLAYS: [EchoPlay; 15] = [
+const ECHO_PLAYS: [EchoPlay; 16] = [
     // A first run goes to its end. A client that is done stays done when it is stopped.
     (
         10,
@@ -73,6 +73,25 @@ const ECHO_PLAYS: [EchoPlay; 15] = [
             Act::Summary(0, 2, 0, 0, 0, 0),
             Act::Fault(Fault::RepairOneway(1, 0)),
             Act::Link(1, 0, LinkState::Through, 0),
+        ],
+    ),
+    // A cut of 0 and 1 goes both ways and drops what is held, and a repair opens both directions.
+    (
+        10,
+        0,
+        &[
+            Act::Steps(2),
+            Act::Fault(Fault::Hold(0, 1)),
+            STEP,
+            Act::Link(0, 1, LinkState::Held, 1),
+            Act::Fault(Fault::Cut(0, 1)),
+            IDLE,
+            Act::Link(0, 1, LinkState::Cut, 0),
+            Act::Link(1, 0, LinkState::Cut, 0),
+            Act::Fault(Fault::Repair(1, 0)),
+            Act::Link(0, 1, LinkState::Through, 0),
+            Act::Link(1, 0, LinkState::Through, 0),
+            Act::Summary(10, 3, 2, 0, 0, 0),
         ],
     ),
     // A release is undone.
