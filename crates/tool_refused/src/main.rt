@@ -1,5 +1,4 @@
-//! Carries out commands on a book, from a shared book's seat, and as whole jobs of the program, and
-//! repeats each that wanted memory.
+//! Carries out commands on a book, and repeats each that wanted memory.
 //!
 //! A command that wanted memory must leave all branches unchanged, and the next command goes on. So
 //! the output in the end does not depend on which allocations were refused. The program ends well
@@ -8,22 +7,19 @@
 //! Why it is built this way:
 //!
 //! - No contract can say that memory was refused, so a body that gives up is still proved. Here
-//!   each command and each job must succeed when it is given again.
+//!   each command must succeed when it is given again.
+//! - The calls of a shared book and the jobs of the program are not here: by their contracts a call
+//!   that is not taken adds no entry, and a search that wants memory writes nothing.
 //! - `rt try --fail-alloc N` refuses the allocation of number N, and `1..` each in turn. All of
 //!   these runs must print the same text.
 #![tactic(auto)]
 
 mod book;
-mod jobs;
 mod opening;
-mod seats;
 
 use std::alloc::Global;
 use std::io;
 use std::process::ExitCode;
-use std::rt::Clock;
-use std::sync::Wait;
-use std::thread::Threads;
 
 /// What went wrong.
 #[derive(Clone, Copy, Debug, PartialEq, Eq)]
@@ -60,24 +56,18 @@ fn again<T, F: Fn() -> Result<T, Trouble>>(attempt: F) -> Result<T, Trouble>
     attempt()
 }
 
-/// Returns the lines of a book and of the jobs. Checks that a second book and a seat give the same
-/// lines.
-fn told<R: Threads + Wait + Sync + Clock + Eprint>(
-    rt: &R,
-    alloc: Global,
-) -> Result<String, Trouble> {
+/// Returns the lines of a book. Checks that a second book gives the same lines.
+fn told(alloc: Global) -> Result<String, Trouble> {
     let first = again(|| book::lines(alloc))?;
     let second = again(|| book::lines(alloc))?;
-    let shared = again(|| seats::lines(rt, alloc))?;
-    if first.as_str() != second.as_str() || first.as_str() != shared.as_str() {
+    if first.as_str() != second.as_str() {
         return Err(Trouble::Wrong);
     }
-    let others = again(|| jobs::lines(rt, alloc))?;
-    again(|| Ok(format!(in alloc; "{first}{others}")?))
+    Ok(first)
 }
 
 fn main(rt: HostRuntime) -> io::Result<ExitCode> {
-    match told(&rt, rt.alloc()) {
+    match told(rt.alloc()) {
         Ok(lines) => {
             print!(rt; "{lines}")?;
             Ok(ExitCode::from(0))
