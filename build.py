@@ -4,20 +4,34 @@
     ./build.py                              crates/simback
     ./build.py simback example_raft_play    these programs
 
-Each library is proved after those that it stands on, and each program after them. The programs are
-then crates/NAME/out/NAME. What is proved is kept in the folders out/, so a later run proves only
-what has changed. At a crate that is not proved, this ends with the status of its check. Each crate
-has a line at its end with its seconds on the clock and of the processors.
+The programs are then crates/NAME/out/NAME. What is proved is kept in the folders out/, so a later
+run proves only what has changed. At a crate that is not proved, this prints what its check said and
+ends with its status. Each crate has a line at its end with its seconds on the clock.
+
+Libraries that do not stand on each other are proved side by side, first those with the longest
+chain of others above them. rt works on one crate of a checkout at a time, so each lane has a copy
+of the crates in a folder of temporary files. rt itself takes what it proved in one copy over to
+another.
 """
 
+import concurrent.futures
 import os
 import pathlib
-import resource
+import shutil
 import subprocess
 import sys
+import tempfile
+import threading
 import time
 
 ROOT = pathlib.Path(__file__).resolve().parent
+
+# The memory that the check of an upper crate takes, in bytes.
+MEMORY_OF_A_CHECK = 4 << 30
+
+# The work of a crate, in lines, from which on its check gets all processors but one. The largest
+# crates stand on each other, and all others wait for them.
+LARGE = 3000
 
 
 def cited_crates():
@@ -38,35 +52,111 @@ def libraries_below(crate, cited):
     return list(found)
 
 
-def lines_of(crate):
-    """Returns the number of lines of a crate's code."""
-    return sum(len(it.read_bytes().splitlines()) for it in ROOT.glob(f"crates/{crate}/src/*.rt"))
-
-
-def jobs_for(crate, libraries):
-    """Returns the number of jobs for a check. Each job loads the libraries below before it checks
-    anything, so a crate that is very small beside them takes one."""
-    is_small = 60 * lines_of(crate) < sum(map(lines_of, libraries))
-    return 1 if is_small else len(os.sched_getaffinity(0))
-
-
-def prove(crate, libraries, *words):
-    """Runs a command of rt in the folder of a crate. Ends this program if the command fails."""
-    jobs = jobs_for(crate, libraries)
-    print(f"== {crate}", flush=True)
-    start, used = time.monotonic(), processor_seconds()
+def work_of(crate):
+    """Returns about how long the check of a crate takes, in lines of code."""
     folder = ROOT / "crates" / crate
-    ended = subprocess.run([*words[:2], "--jobs", str(jobs), *words[2:]], cwd=folder)
+    count = {kind: sum(len(it.read_bytes().splitlines())
+                       for part in ("src", "specs", "proofs")
+                       for it in folder.glob(f"{part}/**/*.{kind}"))
+             for kind in ("rt", "antt")}
+    return count["rt"] + count["antt"] // 3
+
+
+def lanes_to_use():
+    """Returns how many checks run at once: one a processor, as many as the memory holds."""
+    memory = os.sysconf("SC_PHYS_PAGES") * os.sysconf("SC_PAGE_SIZE")
+    return max(1, min(len(os.sched_getaffinity(0)), memory // MEMORY_OF_A_CHECK))
+
+
+class Lanes:
+    """Copies of the crates, each for one command of rt at a time."""
+
+    def __init__(self, room, count):
+        self.free = [pathlib.Path(room) / str(number) for number in range(count)]
+        self.every, self.lock = list(self.free), threading.Lock()
+        for lane in self.free:
+            leave_out = shutil.ignore_patterns("out", "must-fail")
+            shutil.copytree(ROOT / "crates", lane / "crates", ignore=leave_out)
+            shutil.copy(ROOT / "crates.txt", lane)
+            (lane / ".git").mkdir()
+
+    def prove(self, crate, jobs):
+        """Proves a library in a free lane. Returns rt's status, what it said, and its seconds."""
+        with self.lock:
+            lane = self.free.pop()
+        start = time.monotonic()
+        words = ["rt", "lib", "--jobs", str(jobs)]
+        ended = subprocess.run(words, cwd=lane / "crates" / crate, stdin=subprocess.DEVNULL,
+                               stdout=subprocess.PIPE, stderr=subprocess.STDOUT, text=True)
+        with self.lock:
+            self.free.append(lane)
+        return ended.returncode, ended.stdout, time.monotonic() - start
+
+    def bring(self, crate):
+        """Moves what the lanes kept of a crate to this checkout, unless it has some already."""
+        out = ROOT / "crates" / crate / "out"
+        for lane in self.every:
+            for part in ("incremental", "rlib"):
+                kept = lane / "crates" / crate / "out" / part
+                if kept.is_dir() and not (out / part).is_dir():
+                    out.mkdir(exist_ok=True)
+                    shutil.move(kept, out / part)
+
+
+def longest_chains(libraries, cited):
+    """Returns how much work each library and the longest chain of those above it take."""
+    chain = {}
+    for crate in reversed(libraries):
+        above = [chain[name] for name in libraries if crate in cited[name]]
+        chain[crate] = work_of(crate) + max(above, default=0)
+    return chain
+
+
+def jobs_for(crate, ready, idle, count):
+    """Returns the number of jobs for the check of a crate, beside `ready` crates that can begin."""
+    return max(1, count - 1) if work_of(crate) > LARGE else max(1, idle // ready)
+
+
+def prove_all(libraries, cited):
+    """Proves libraries side by side. Ends this program if one is not proved."""
+    chain = longest_chains(libraries, cited)
+    left, proved, running = sorted(libraries, key=lambda it: -chain[it]), set(), {}
+    count, failure = lanes_to_use(), 0
+    with tempfile.TemporaryDirectory(prefix="simback-build-") as room, \
+            concurrent.futures.ThreadPoolExecutor(count) as pool:
+        lanes = Lanes(room, count)
+        while running or (left and not failure):
+            ready = [it for it in left if not failure and proved.issuperset(cited[it])]
+            idle = count - sum(jobs for _, jobs in running.values())
+            for crate in ready[:idle]:
+                jobs = jobs_for(crate, len(ready), idle, count)
+                if idle < jobs:
+                    break
+                running[pool.submit(lanes.prove, crate, jobs)] = crate, jobs
+                left.remove(crate)
+                idle -= jobs
+            done, _ = concurrent.futures.wait(
+                running, return_when=concurrent.futures.FIRST_COMPLETED)
+            for it in done:
+                crate, _ = running.pop(it)
+                status, said, seconds = it.result()
+                print(f"{said}== {crate}" if status else f"== {crate}: {seconds:.0f} s", flush=True)
+                failure = failure or status
+                proved |= {crate} if not status else set()
+        for crate in libraries:
+            lanes.bring(crate)
+    if failure:
+        sys.exit(failure)
+
+
+def build(program):
+    """Proves and builds a program over proved libraries. Ends this program if that fails."""
+    start = time.monotonic()
+    ended = subprocess.run(["rt", "run", "--jobs", "1", "--", "help"],
+                           cwd=ROOT / "crates" / program, stdin=subprocess.DEVNULL)
     if ended.returncode:
         sys.exit(ended.returncode)
-    seconds, used = time.monotonic() - start, processor_seconds() - used
-    print(f"== {crate}: {seconds:.0f} s, of the processors {used:.0f} s", flush=True)
-
-
-def processor_seconds():
-    """Returns the seconds that all commands so far took of the processors."""
-    used = resource.getrusage(resource.RUSAGE_CHILDREN)
-    return used.ru_utime + used.ru_stime
+    print(f"== {program}: {time.monotonic() - start:.0f} s", flush=True)
 
 
 def main(programs):
@@ -75,11 +165,10 @@ def main(programs):
         if not (ROOT / "crates" / program / "src" / "main.rt").is_file() or program not in cited:
             print(f"build.py: there is no program crates/{program}", file=sys.stderr)
             sys.exit(2)
-    libraries = {program: libraries_below(program, cited) for program in programs}
-    for crate in dict.fromkeys(name for names in libraries.values() for name in names):
-        prove(crate, libraries_below(crate, cited), "rt", "lib")
+    below = dict.fromkeys(it for program in programs for it in libraries_below(program, cited))
+    prove_all(list(below), cited)
     for program in programs:
-        prove(program, libraries[program], "rt", "run", "--", "help")
+        build(program)
 
 
 if __name__ == "__main__":
