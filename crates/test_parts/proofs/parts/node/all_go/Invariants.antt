@@ -1,5 +1,5 @@
 use Rattle.std.proofs.Common.{◌≡◌}
-use Rattle.test_parts.proofs.tests.node.all_go.Given as goal
+use Rattle.test_parts.proofs.parts.node.all_go.Given as goal
 
 -- the effects stay those of four hosts
 abbrev pub invariant-loop-act : goal.invariant-loop-act

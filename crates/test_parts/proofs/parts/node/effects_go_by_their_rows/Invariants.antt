@@ -1,5 +1,5 @@
 use Rattle.std.proofs.Common.{◌≡◌}
-use Rattle.test_parts.proofs.tests.node.effects_go_by_their_rows.Given as goal
+use Rattle.test_parts.proofs.parts.node.effects_go_by_their_rows.Given as goal
 
 -- the effects stay those of four hosts
 abbrev pub invariant-loop-acts : goal.invariant-loop-acts

@@ -1,11 +1,11 @@
 use Rattle.std.proofs.Common.{[], ◌∷◌, ◌++◌, ap, ◌∙◌}
 use Rattle.std.specs.Prelude.{All}
-use Rattle.test_threads.specs.declared.tests.lock.Note.{Note}
+use Rattle.test_parts.specs.declared.threads.lock.Note.{Note}
 use Rattle.sim_lock.specs.Entries.{HasEntry}
 use Rattle.sim_lock.specs.Seats.{IsOf, IsReceipt}
 use Rattle.sim_lock.proofs.Gathering.{all_at}
 use Rattle.sim_lock.proofs.Receipts.{all_then, ok_is}
-use Rattle.test_threads.proofs.tests.lock.ask_both.Goals as goal
+use Rattle.test_parts.proofs.threads.lock.ask_both.Goals as goal
 
 pub returns-clause-one : goal.returns-clause-one
 returns-clause-one g c =

@@ -3,8 +3,8 @@ ghost use Rattle.std.specs.Prelude.{◌≡◌, ◌≤◌, ◌<◌, ◌+◌, ℕ,
 ghost use Rattle.std.specs.Prelude.{IfOk, OnOk, count_by, IsTrue};
 ghost use Rattle.sim_lock.specs.Entries.{HasEntry};
 ghost use Rattle.sim_lock.specs.Seats.{IsOf, IsReceipt};
-ghost use Rattle.test_threads.specs.declared.tests.lock.Ask.TheVariants.{Freeze};
-ghost use Rattle.test_threads.specs.declared.tests.lock.Full.{Full};
+ghost use Rattle.test_parts.specs.declared.threads.lock.Ask.TheVariants.{Freeze};
+ghost use Rattle.test_parts.specs.declared.threads.lock.Full.{Full};
 
 use sim_lock::{Freezes, History, Kept, Lock, Seat};
 use std::alloc::{AllocError, Global};

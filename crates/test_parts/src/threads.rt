@@ -1,5 +1,15 @@
-//! What the proofs of the lock and of the division of work leave open: that calls succeed if
-//! memory is ample, and that several threads work at once.
+//! Tests of sessions at a lock of a plain list, and of searches over a row of numbers.
+//!
+//! `sim_lock` and `sim_claims` are the two libraries in which threads meet. Their contracts hold
+//! for every order in which threads run. They cannot say that a call returns, that it succeeds if
+//! memory is ample, or that two threads work at once.
+//!
+//! - `lock`: two sessions make calls in two threads, and the history at the end has every receipt.
+//! - `claims`: each piece is scanned once, and none past a finding, for any number of workers. Two
+//!   workers wait for each other inside a piece: they meet only if both run.
+//!
+//! The value under the lock is a list of notes, and the search is over a row of numbers. So a
+//! failure here is one of the lock or of the claims, and not of a book or a tape.
 //!
 //! What each test catches:
 //! - `lock::two_sessions`: a seat that never takes the lock, or gives up; a receipt that the

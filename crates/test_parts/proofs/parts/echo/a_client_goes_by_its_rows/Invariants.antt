@@ -1,5 +1,5 @@
 use Rattle.std.proofs.Common.{◌≡◌}
-use Rattle.test_parts.proofs.tests.echo.a_client_goes_by_its_rows.Given as goal
+use Rattle.test_parts.proofs.parts.echo.a_client_goes_by_its_rows.Given as goal
 
 -- the client keeps its setup
 abbrev pub invariant-loop-n : goal.invariant-loop-n

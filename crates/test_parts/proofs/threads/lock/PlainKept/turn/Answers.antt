@@ -1,8 +1,8 @@
 use Rattle.std.proofs.Common.{◌+◌, sym, ap, ◌∙◌}
 use Rattle.std.specs.Prelude.{◌==◌, count_by}
 use Rattle.std.proofs.lemmas.List.Sums.{length-filter}
-use Rattle.test_threads.specs.declared.tests.lock.Note.{Note}
-use Rattle.test_threads.proofs.tests.lock.PlainKept.turn.Goals as goal
+use Rattle.test_parts.specs.declared.threads.lock.Note.{Note}
+use Rattle.test_parts.proofs.threads.lock.PlainKept.turn.Goals as goal
 
 pub returns-clause-number : goal.returns-clause-number
 returns-clause-number c =
