@@ -2,8 +2,9 @@
 
 ghost use Rattle.sim_scenario.specs.Hosts.{IsNumbered};
 
-use super::said::{names_are, same, scenario, ways_are};
+use super::said::{names_are, scenario, ways_are};
 use super::texts::{LINES, text_with};
+use crate::same::same;
 use sim_links::Way;
 use sim_scenario::ScenarioText;
 use std::alloc::Global;

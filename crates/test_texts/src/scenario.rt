@@ -1,5 +1,19 @@
-//! Texts of scenarios. The expected values were worked out from the format's description. What each
-//! test would catch, where proofs say nothing or definitions may be wrong:
+//! Texts of scenarios: each fault by its number and key, and the values of a text.
+//!
+//! The reader is proved to follow a definition: a list of checks, of which the first that fails is
+//! the fault. These tests compare the definition with docs/SCENARIO.md. The expected values were
+//! worked out from that page.
+//!
+//! - `rows`, `links`: texts with a fault each, or with several, so that the order of faults is
+//!   checked too. A row has only what differs from a text without a fault.
+//! - `texts`, `said`: texts that are scenarios, and the values of each.
+//! - `sentences`: the sentence for a text with each of the faults.
+//! - The limit of 65,536 bytes, no text at all, and line ends of two bytes.
+//!
+//! Rows are lines of a long text, and not an array of tuples: the prover takes a text as one value,
+//! and such an array part by part.
+//!
+//! What each test would catch, where proofs say nothing or definitions may be wrong:
 //!
 //! * `tables_hold`: a text that is refused with another fault, number or key than the format says,
 //!   or refused though it is a scenario; the order of faults.
@@ -10,14 +24,14 @@
 //!   names.
 
 mod links;
-mod protocols;
 mod rows;
 mod said;
 mod sentences;
 mod texts;
 
+use crate::same::same;
 use links::{LINES_2, both_formats, ways_of_links};
-use said::{names_are, same, scenario, ways_are};
+use said::{names_are, scenario, ways_are};
 use sim_links::Way;
 use sim_scenario::{ScenarioFault, ScenarioText, is_name};
 use std::alloc::{AllocError, Global};

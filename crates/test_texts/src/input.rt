@@ -1,4 +1,16 @@
-//! Inputs that are written. What each test would catch, where the proofs say nothing:
+//! Written scripts and conditions, and mistakes in bad lines.
+//!
+//! It is proved that the texts of `sim_input` read back as the same events or the same condition,
+//! and that `sim_script::mistake_of` finds a mistake in exactly the bad lines. Neither says which
+//! of several texts is written, nor which word of a line is named. These tests do, by texts that
+//! were written by hand after docs/SCRIPT.md.
+//!
+//! - A script with a line of each kind of event, conditions with each kind of term and each sign,
+//!   and events and conditions that cannot be written.
+//! - `mistakes`: bad lines of each kind, each with the word that makes it bad and what was expected
+//!   there; and the sentences about texts that are no condition.
+//!
+//! What each test would catch, where the proofs say nothing:
 //!
 //! * `scripts`: a line that reads back as its event, but differs from docs/SCRIPT.md, and an event
 //!   that is refused though it has a line.
@@ -8,6 +20,8 @@
 //!   reason.
 //! * `mistakes::bad_conditions`: a condition that is refused with no word about it, or with the
 //!   wrong one; a name that does not exist and is not found.
+mod mistakes;
+
 ghost use Rattle.std.specs.Prelude.{◌≡◌, codes, [], ◌∷◌, vec_len, IfOk};
 
 use sim_input::{LineError, push_condition, script};

@@ -2,8 +2,8 @@
 //! what is allowed.
 
 use super::links::LINES_2;
-use super::protocols::Shipped;
 use super::texts::{LINES, padded, text_with};
+use crate::shipped::Shipped;
 use sim_explain::{Explanation, KnownProtocol};
 use sim_scenario::{ScenarioFault, read};
 use std::alloc::{AllocError, Global};

@@ -1,26 +1,26 @@
-//! Scenarios with the seed of a numbered run. The expected texts were worked out by hand. What each
-//! test would catch, where the proofs say nothing:
+//! Scenarios with the seed of a numbered run. The expected texts were worked out by hand.
+//!
+//! It is proved that such a text is read as the scenario with the number in its seed. The contract
+//! leaves open how the text is laid out, and the definition could put the number elsewhere than the
+//! code of a sweep does.
+//!
+//! - The text of run 654 of an example is compared byte by byte, in the order of keys in which the
+//!   library for TOML prints tables.
+//! - Three numbers, with the bytes of the seed that each gives.
+//! - A text for each error, so that no error has another name than the documentation says.
+//!
+//! What each test would catch, where the proofs say nothing:
 //!
 //! * `a_sweep_finds_a_play`: a call that never succeeds, a number at another place than a sweep
 //!   puts it, a text that is not laid out as the library prints tables.
 //! * `bytes_of_a_number`: the other order of bytes, or other places, in definition and code alike.
 //! * `texts_are_refused`: an error of another name than the documentation says.
 
-mod shipped;
-
-use shipped::Shipped;
+use crate::same::same;
+use crate::shipped::Shipped;
 use sim_reseed::{ReseedError, join_input, numbered_input, numbered_text};
 use std::alloc::Global;
-use std::fmt::Debug;
 use std::test::Fail;
-
-/// Fails unless two values are equal.
-fn same<T: PartialEq + Debug>(seen: &T, wanted: &T, what: &str) -> Result<(), Fail> {
-    if seen == wanted {
-        return Ok(());
-    }
-    Err(Fail::new(format_args!("{what}: {seen:?}, not {wanted:?}")))
-}
 
 /// The scenario of `examples/torn-commit.play`, with a link.
 const SCENARIO: &str = "# Two-phase commit on slow disks.

@@ -1,5 +1,5 @@
 //! Bad lines, and why they are bad.
-use crate::tests::names;
+use crate::input::names;
 use sim_script::{Expected, mistake_of, tell_bad_condition};
 use std::alloc::Global;
 use std::test::Fail;

@@ -1,6 +1,6 @@
 //! Texts, and the answers to them.
 
-use super::protocols::Shipped;
+use crate::shipped::Shipped;
 use sim_scenario::read;
 use std::alloc::{AllocError, Global};
 use std::test::Fail;

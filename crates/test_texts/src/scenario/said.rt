@@ -3,21 +3,13 @@
 ghost use Rattle.std.specs.Prelude.{IfOk};
 ghost use Rattle.sim_scenario.specs.Hosts.{IsNumbered};
 
-use super::protocols::Shipped;
+use crate::same::same;
+use crate::shipped::Shipped;
 use indexmap::IndexMap;
 use sim_links::{Way, Ways};
 use sim_scenario::{ScenarioText, host_name, host_number, read};
 use std::alloc::Global;
-use std::fmt::Debug;
 use std::test::Fail;
-
-/// Fails unless two values are equal.
-pub fn same<T: PartialEq + Debug>(seen: &T, wanted: &T, what: &str) -> Result<(), Fail> {
-    if seen == wanted {
-        return Ok(());
-    }
-    Err(Fail::new(format_args!("{what}: {seen:?}, not {wanted:?}")))
-}
 
 /// Reads the scenario of a text.
 pub fn scenario(alloc: Global, text: &str) -> Result<ScenarioText, Fail>
