@@ -1,22 +1,15 @@
-//! Tests of the small parts of a world: streams, queue, links, disk, nodes, echo, lines. There is
-//! nothing else here.
+//! Tests of the small parts: those of a world, lines of input, and the two libraries in which
+//! threads meet. There is nothing else here. The head of each module says what its tests check.
 //!
-//! The contracts of these libraries are equations of whole values. What they cannot say is that a
-//! call succeeds if memory is ample, and that a definition is the one that was meant: that the
-//! words of a stream are really those of ChaCha20, say. These tests check both, in a file for each
-//! part.
+//! - `parts`: streams, queue, links, disk, nodes, echo, lines.
+//! - `threads`: sessions at a lock of a plain list, and searches over a row of numbers.
 //!
-//! - A test is rows of acts on one value, each act with its expected answer, and one function that
-//!   carries out an act. The prover goes through that function once, whatever the number of rows.
-//! - Each act that changes something is also undone, and the value is checked again.
-//! - The words of streams are compared with those of another implementation of ChaCha20; the head
-//!   of `tests/streams.rt` names it.
-//! - Readers and writers take a byte at a time and fail after a given number of calls, each number
-//!   in turn.
-//!
-//! All parts are in one crate, and not each beside its library: a crate with tests is proved twice,
-//! once with them and once without. Here what is proved twice is an empty library.
+//! Tests stand in few crates, by what they stand on: each crate of tests loads all libraries below
+//! it, and is compiled with them. The crate is one of tests alone, since a crate with tests is
+//! proved twice. Here that is an empty library.
 #![tactic(auto)]
 
 #[cfg(test)]
-mod tests;
+mod parts;
+#[cfg(test)]
+mod threads;

@@ -1,5 +1,0 @@
-use Rattle.sim_lock.specs.Seats.{IsOf}
-use Rattle.test_threads.proofs.tests.lock.a_full_list_takes_no_command.Given as goal
-
-abbrev pub invariant-loop : goal.invariant-loop
-invariant-loop g l = IsOf l.seat l.lock
