@@ -26,7 +26,7 @@ use Rattle.sim_world.specs.World.{Body, Occurrence, World, host_at}
 use Rattle.sim_world.specs.Events.{Rules, start, run}
 use Rattle.sim_world.specs.Looks.{looked}
 use Rattle.sim_world.specs.Records.{AnswersFor}
-use Rattle.test_world.proofs.Rows.{scenario_with, on_rows}
+use Rattle.test_world.proofs.EchoRows.{scenario_with, on_rows}
 
 -- what the node read at its boot, and how many syncs have come since
 record Scribe : Type 0 where

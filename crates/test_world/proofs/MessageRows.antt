@@ -21,7 +21,7 @@ use Rattle.sim_world.specs.World.{Body, Occurrence, World, is_full}
 use Rattle.sim_world.specs.Events.{Rules, start, run}
 use Rattle.sim_world.specs.Looks.{looked}
 use Rattle.sim_world.specs.Records.{AnswersFor}
-use Rattle.test_world.proofs.Rows.{scenario_with, on_rows}
+use Rattle.test_world.proofs.EchoRows.{scenario_with, on_rows}
 
 -- It keeps the time (ms) and the word of its last input; from its boot on, its number and 0.
 abbrev Last : Type 0

@@ -7,7 +7,7 @@ use Rattle.sim_world.specs.Events.{Rules, rules}
 use Rattle.sim_abd.specs.declared.roles.AbdMsg.{AbdMsg}
 use Rattle.sim_abd.specs.declared.roles.State.{State}
 use Rattle.sim_abd.specs.Abd.{abd}
-use Rattle.test_protocols.proofs.Base.{on_rows, with_setup, seen, steps}
+use Rattle.test_world.proofs.ProtocolBase.{on_rows, with_setup, seen, steps}
 
 abbrev fast : Rules State AbdMsg
 fast = rules abd 3 (with_setup (record { servers = 1; hosts = 2; ops = 0 ∷ 2 ∷ replicate 30 0 }) 0)

@@ -1,5 +1,21 @@
-//! Runs of Raft with three servers and two clients, there and back and the same again. What each
-//! test would catch, where proofs say nothing:
+//! Worked rows of Raft, computed as lemmas over its tables in `proofs/`, and runs of its variants
+//! with three servers and two clients.
+//!
+//! `example_raft` proves that each variant does what its table says. It does not prove that Raft is
+//! safe, and two variants are not. So these tests check what the tables are for:
+//!
+//! - A cluster of the sound variant elects leaders, commits and gets its clients through, under the
+//!   faults that break the other two.
+//! - `Hasty`, which reports a vote before it is stable, elects two leaders in one term. `Eager`,
+//!   which commits entries of older terms by counting, commits two values at one place. Each run
+//!   has only the few faults that this takes.
+//! - The rows of `proofs/RaftRows.antt` are single inputs that a reader can compare with
+//!   docs/RAFT.md.
+//!
+//! Each run goes there, back by the records and there again, so it also shows that every reaction
+//! of a node of real size can be undone.
+//!
+//! What each test would catch, where proofs say nothing:
 //!
 //! * `sound_raft_is_done`: a node that never has memory; tables that are not Raft, so that a
 //!   cluster never elects or never commits. It suffers the faults of the other two.

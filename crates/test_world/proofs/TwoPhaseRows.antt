@@ -13,7 +13,7 @@ use Rattle.sim_world.specs.Events.{Rules, rules, run}
 use Rattle.sim_two_phase.specs.declared.roles.CommitMsg.{CommitMsg}
 use Rattle.sim_two_phase.specs.declared.roles.State.{State}
 use Rattle.sim_two_phase.specs.TwoPhase.{two_phase}
-use Rattle.test_protocols.proofs.Base.{on_rows, three_hosts, with_setup, seen, steps}
+use Rattle.test_world.proofs.ProtocolBase.{on_rows, three_hosts, with_setup, seen, steps}
 
 abbrev fast : Rules State CommitMsg
 fast = rules two_phase 2 (with_setup three_hosts 0)

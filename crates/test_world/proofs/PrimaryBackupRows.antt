@@ -9,7 +9,7 @@ use Rattle.sim_world.specs.Events.{Rules, rules}
 use Rattle.sim_primary_backup.specs.declared.roles.BackupMsg.{BackupMsg}
 use Rattle.sim_primary_backup.specs.declared.roles.State.{State}
 use Rattle.sim_primary_backup.specs.PrimaryBackup.{primary_backup}
-use Rattle.test_protocols.proofs.Base.{on_rows, three_hosts, with_setup, seen, steps}
+use Rattle.test_world.proofs.ProtocolBase.{on_rows, three_hosts, with_setup, seen, steps}
 
 abbrev fast : Rules State BackupMsg
 fast = rules primary_backup 2 (with_setup three_hosts 0)
