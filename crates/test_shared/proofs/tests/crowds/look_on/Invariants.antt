@@ -1,5 +1,0 @@
-use Rattle.sim_shared.specs.Sharing.{IsAt}
-use Rattle.test_shared.proofs.tests.crowds.look_on.Given as goal
-
-abbrev pub invariant-loop : goal.invariant-loop
-invariant-loop g l = IsAt l.shared l.seat
