@@ -1,7 +1,7 @@
 //! The definition of the command line. To clap a number is a word like any other: `line.rt` reads
 //! it, so that the message for a wrong one is the program's own.
 ghost use Rattle.std.specs.Prelude.{codes, IfOk, ◌≡◌};
-ghost use Rattle.clap.specs.Words.{app_of};
+ghost use Rattle.clap.specs.Words.{App, Shape, app_of, with_subcommand};
 ghost use Rattle.sim_job.specs.CommandLine as line;
 ghost use Rattle.sim_job.specs.CommandLine.{IsArgument, IsCommand};
 
@@ -295,17 +295,29 @@ fn bare<'a>(alloc: Global) -> Command<'a>
         .subcommand_required(true)
 }
 
+/// The program with one more subcommand. The results are taken as they are, so `program` has no exit
+/// at which the prover goes through the commands so far.
+fn with<'a>(
+    program: Result<Command<'a>, AllocError>,
+    subcommand: Result<Command<'a>, AllocError>,
+) -> Result<Command<'a>, AllocError>
+    ensures { (app : App) (shape : Shape) → IfOk program.entry (λ c. app_of c ≡ app)
+        → IfOk subcommand.entry (IsCommand shape)
+        → IfOk result (λ c. app_of c ≡ with_subcommand app shape) }
+{
+    program?.subcommand(subcommand?)
+}
+
 /// The command line of the program.
 pub(crate) fn program<'a>(alloc: Global) -> Result<Command<'a>, AllocError>
     ensures { IfOk result (λ c. app_of c ≡ line.program) }
 {
-    bare(alloc)
-        .subcommand(play(alloc)?)?
-        .subcommand(search(alloc)?)?
-        .subcommand(sweep(alloc)?)?
-        .subcommand(script(alloc)?)?
-        .subcommand(shrink(alloc)?)?
-        .subcommand(log(alloc)?)?
-        .subcommand(page(alloc)?)?
-        .subcommand(walk(alloc)?)
+    let program = with(Ok(bare(alloc)), play(alloc));
+    let program = with(program, search(alloc));
+    let program = with(program, sweep(alloc));
+    let program = with(program, script(alloc));
+    let program = with(program, shrink(alloc));
+    let program = with(program, log(alloc));
+    let program = with(program, page(alloc));
+    with(program, walk(alloc))
 }
