@@ -141,12 +141,18 @@ pub fn push_lines(text: &mut String, parted: &str) -> Result<(), AllocError> {
     Ok(())
 }
 
+/// Plays what a reader gives. All tests but two call `play` here: the prover takes half a minute for
+/// each call of it over the protocols that ship.
+pub fn played(alloc: Global, reader: &mut Pieces<'_>, writer: &mut Narrow<'_>) -> Status {
+    play::<Shipped, _, _, _>(&Quiet, alloc, reader, writer)
+}
+
 /// Returns the status of the play of two texts, one after the other, if it writes exactly this.
 pub fn status_of(alloc: Global, head: &[u8], script: &[u8], want: &[u8]) -> Option<Status> {
     let mut reader = Pieces::new(head, script);
     reader.most = 65_536;
     let mut writer = Narrow::wide(want);
-    let status = play::<Shipped, _, _, _>(&Quiet, alloc, &mut reader, &mut writer);
+    let status = played(alloc, &mut reader, &mut writer);
     writer.is_done().then_some(status)
 }
 

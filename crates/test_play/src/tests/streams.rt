@@ -2,6 +2,7 @@
 ghost use Rattle.std.specs.Prelude.{codes, [], ◌∷◌};
 
 use super::ports::{Narrow, Pieces, Quiet};
+use super::scenes::played;
 use sim_cli::{EchoSubject, Only, Shipped, Status, Subject, Tally, With, play};
 use sim_node::Node;
 use sim_protocols::Echo;
@@ -210,7 +211,7 @@ fn plays_a_byte_at_a_time(rt: HostRuntime) {
     for example in [FIRST, EACH] {
         let mut reader = example.reader();
         let mut writer = Narrow::new(example.answers);
-        let status = play::<Shipped, _, _, _>(&Quiet, rt.alloc(), &mut reader, &mut writer);
+        let status = played(rt.alloc(), &mut reader, &mut writer);
         assert_eq!(rt; (status, status.number()), (Status::Well, 0));
         // All is flushed before each line that takes a read, and at the end.
         assert!(rt; writer.took(example.answers, example.answers.len()) && writer.to_flush == 0);
@@ -227,7 +228,7 @@ fn a_read_fails<A: Abort + Drop>(rt: &A, alloc: Global, example: &Example, reads
     let mut reader = example.reader();
     reader.reads_left = reads;
     let mut writer = Narrow::new(example.answers);
-    let status = play::<Shipped, _, _, _>(&Quiet, alloc, &mut reader, &mut writer);
+    let status = played(alloc, &mut reader, &mut writer);
     let told = writer.told(example.answers);
     let is_whole = told.last().is_none_or(|byte| *byte == b'\n');
     let want = if reads <= example.len() {
@@ -269,7 +270,7 @@ fn a_write_fails<A: Abort + Drop>(
     reader.most = most;
     let mut writer = Narrow::new(example.answers);
     writer.writes_left = writes;
-    let status = play::<Shipped, _, _, _>(&Quiet, alloc, &mut reader, &mut writer);
+    let status = played(alloc, &mut reader, &mut writer);
     assert!(rt; writer.took(example.answers, writes), "at write {writes}");
     let want = if example.answers.len() <= writes {
         Status::Well
@@ -306,7 +307,7 @@ fn a_flush_fails<A: Abort + Drop>(
     reader.most = 100_000;
     let mut writer = Narrow::new(want);
     writer.flushes_left = flushes;
-    let status = play::<Shipped, _, _, _>(&Quiet, alloc, &mut reader, &mut writer);
+    let status = played(alloc, &mut reader, &mut writer);
     assert_eq!(rt; status, Status::WriterFailed, "at flush {flushes}");
     assert!(rt; writer.took(want, want.len()), "at flush {flushes}");
 }
@@ -328,7 +329,7 @@ fn a_writer_that_takes_nothing_has_failed(rt: HostRuntime) {
     let mut reader = FIRST.reader();
     let mut writer = Narrow::new(FIRST_ANSWERS);
     writer.most = 0;
-    let status = play::<Shipped, _, _, _>(&Quiet, rt.alloc(), &mut reader, &mut writer);
+    let status = played(rt.alloc(), &mut reader, &mut writer);
     assert_eq!(rt; status, Status::WriterFailed);
     assert!(rt; writer.took(FIRST_ANSWERS, 0));
 }
@@ -354,7 +355,7 @@ impl Read for Marks {
 fn leaves<A: Abort + Drop>(rt: &A, alloc: Global, input: &[u8], left: usize, want: &[u8]) {
     let mut reader = Pieces::new(input, b"");
     let mut writer = Narrow::new(want);
-    let status = play::<Shipped, _, _, _>(&Quiet, alloc, &mut reader, &mut writer);
+    let status = played(alloc, &mut reader, &mut writer);
     assert_eq!(rt; (status, reader.rest.len()), (Status::BadScenario, left));
     assert!(rt; writer.took(want, want.len()));
 }

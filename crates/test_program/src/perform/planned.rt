@@ -1,9 +1,8 @@
 //! Sweeps over runs whose events are planned, from the words of the command line.
 use super::conditions::{ABD, PRIMARY_BACKUP};
-use super::hunts::ends;
-use sim_cli::Shipped;
+use super::hunts::{ends, performed};
 use sim_job::request;
-use sim_perform::{Status, perform};
+use sim_perform::Status;
 use std::alloc::{AllocError, Global};
 use std::process::Abort;
 use std::rt::Clock;
@@ -200,11 +199,9 @@ fn written<R: Threads + Wait + Sync + Clock + Eprint + Abort>(
     input: &str,
     words: &[&str],
 ) -> String {
-    let mut reader = input.as_bytes();
-    let mut text = Vec::new(alloc);
-    let status = match request(alloc, words) {
-        Ok(asked) => perform::<Shipped, R, _, _>(rt, alloc, &asked.job, &mut reader, &mut text),
-        Err(_) => Status::BadRequest,
+    let (status, text) = match request(alloc, words) {
+        Ok(asked) => performed(rt, alloc, &asked.job, input),
+        Err(_) => (Status::BadRequest, Vec::new(alloc)),
     };
     assert!(rt; status == Status::Well);
     match String::from_utf8(text) {

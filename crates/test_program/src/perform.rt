@@ -18,7 +18,7 @@
 //!   the job, or is reported with less than a play reports.
 mod command_line;
 mod conditions;
-mod hunts;
+pub mod hunts;
 mod planned;
 mod shown;
 mod strict;

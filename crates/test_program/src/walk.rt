@@ -577,15 +577,15 @@ place 28 clock 63
 28 clock 63: crash a
 ";
 
-// A walk of this input writes `want` for these commands, and ends well.
-fn is_walked<R: Eprint + Abort>(
+// Returns the status and the output of a walk of this input by these commands. All tests call `walk`
+// here: the prover takes a minute for each call of it over the protocols that ship.
+fn walked<R: Eprint>(
     rt: &R,
     alloc: Global,
     input: &str,
     commands: &str,
     is_prompted: bool,
-    want: &str,
-) -> Result<(), Fail> {
+) -> (Status, Vec<u8>) {
     let mut written = Vec::new(alloc);
     let style = Style { is_prompted };
     let mut reader = input.as_bytes();
@@ -598,6 +598,19 @@ fn is_walked<R: Eprint + Abort>(
         &mut typed,
         &mut written,
     );
+    (ended, written)
+}
+
+// A walk of this input writes `want` for these commands, and ends well.
+fn is_walked<R: Eprint + Abort>(
+    rt: &R,
+    alloc: Global,
+    input: &str,
+    commands: &str,
+    is_prompted: bool,
+    want: &str,
+) -> Result<(), Fail> {
+    let (ended, written) = walked(rt, alloc, input, commands, is_prompted);
     assert!(rt; ended == Status::Well);
     let text = str::from_utf8(written.as_slice())?;
     assert!(rt; text == want, "{text}");
@@ -652,19 +665,8 @@ fn crashes_over_writes(rt: HostRuntime) -> Result<(), Fail> {
 #[test]
 fn a_fault_of_the_script(rt: HostRuntime) -> Result<(), Fail> {
     let alloc = rt.alloc();
-    let mut written = Vec::new(alloc);
-    let style = Style { is_prompted: false };
     let input = format!(in alloc; "{PINGS}back 5\n")?;
-    let mut reader = input.as_bytes();
-    let mut typed = b"look\n".as_slice();
-    let ended = walk::<Shipped, _, _, _, _>(
-        &rt,
-        alloc,
-        &mut reader,
-        style,
-        &mut typed,
-        &mut written,
-    );
+    let (ended, written) = walked(&rt, alloc, input.as_str(), "look\n", false);
     assert!(rt; ended == Status::BadRequest);
     assert!(rt; written.is_empty());
     Ok(())

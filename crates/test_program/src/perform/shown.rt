@@ -1,8 +1,7 @@
 //! The log and the page of a run, from the words of the command line.
-use super::hunts::ends;
-use sim_cli::Shipped;
+use super::hunts::{ends, performed};
 use sim_job::request;
-use sim_perform::{Status, perform};
+use sim_perform::Status;
 use std::alloc::Global;
 use std::process::Abort;
 use std::rt::Clock;
@@ -119,9 +118,7 @@ fn a_page_with_a_title_that_would_leave_its_place(rt: HostRuntime) -> Result<(),
         "w.next <= 1; done w",
     ];
     let asked = request(alloc, words.as_slice()).expect(&rt, "a request");
-    let mut reader = INPUT.as_bytes();
-    let mut written = Vec::new(alloc);
-    let ended = perform::<Shipped, _, _, _>(&rt, alloc, &asked.job, &mut reader, &mut written);
+    let (ended, written) = performed(&rt, alloc, &asked.job, INPUT);
     assert!(rt; ended == Status::Well);
     let page = str::from_utf8(written.as_slice())?;
     assert!(rt; page.contains("\"title\":\"\\u003c/script>\""));

@@ -77,6 +77,22 @@ pub fn sweep(workers: u64, first: u64, count: u64, events: u64, cond: &str) -> J
     }
 }
 
+// Returns the status and the output of a job over an input. All tests call `perform` here: the
+// prover takes two minutes for each call of it over the protocols that ship.
+pub fn performed<R: Threads + Wait + Sync + Clock + Eprint>(
+    rt: &R,
+    alloc: Global,
+    job: &Job<'_>,
+    input: &str,
+) -> (Status, Vec<u8>)
+    requires { HasFewWorkers job.now }
+{
+    let mut reader = input.as_bytes();
+    let mut written = Vec::new(alloc);
+    let ended = perform::<Shipped, R, _, _>(rt, alloc, job, &mut reader, &mut written);
+    (ended, written)
+}
+
 // Returns whether a job over an input ends with this status, and writes this.
 pub fn ends<R: Threads + Wait + Sync + Clock + Eprint>(
     rt: &R,
@@ -88,9 +104,7 @@ pub fn ends<R: Threads + Wait + Sync + Clock + Eprint>(
 ) -> bool
     requires { HasFewWorkers job }
 {
-    let mut reader = input.as_bytes();
-    let mut written = Vec::new(alloc);
-    let ended = perform::<Shipped, R, _, _>(rt, alloc, &job, &mut reader, &mut written);
+    let (ended, written) = performed(rt, alloc, &job, input);
     ended == status && written.as_slice() == want.as_bytes()
 }
 

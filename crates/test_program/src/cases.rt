@@ -1,0 +1,64 @@
+//! Random cases with the outputs of a plain simulator, `tests/oracle`. It is written from the
+//! documents, shares no code and no definition with the program, and is not proved. `rows` has the
+//! cases, which tests/rows.py writes; tests/fuzz.py tries any number of others.
+//!
+//! What the test catches: a definition of a world, a node, a play, a search, a plan, a log or a
+//! script that is not the one that was meant, in code and contract alike; a job that gives up.
+mod rows;
+
+use crate::cases::rows::CASES;
+use crate::perform::hunts::performed;
+use sim_job::request;
+use std::alloc::{AllocError, Global};
+use std::process::Abort;
+use std::rt::Clock;
+use std::sync::Wait;
+use std::thread::Threads;
+
+// Returns the words of a command line, which stand on a line each.
+fn words_of(alloc: Global, lines: &str) -> Result<Vec<&str>, AllocError> {
+    let mut words = Vec::new(alloc);
+    words.push("simback")?;
+    for line in lines.lines() {
+        words.push(line)?;
+    }
+    Ok(words)
+}
+
+// Returns whether the words over an input give this exit status and this output.
+fn gives<R: Threads + Wait + Sync + Clock + Eprint>(
+    rt: &R,
+    alloc: Global,
+    words: &[&str],
+    input: &str,
+    (status, output): (&str, &str),
+) -> bool {
+    let Ok(asked) = request(alloc, words) else {
+        return false;
+    };
+    let (ended, written) = performed(rt, alloc, &asked.job, input);
+    status.parse::<u8>() == Ok(ended.number()) && written.as_slice() == output.as_bytes()
+}
+
+// Returns whether a case is as expected, or `None` if it is not laid out as a case.
+fn is_right<R: Threads + Wait + Sync + Clock + Eprint>(
+    rt: &R,
+    alloc: Global,
+    case: &str,
+) -> Option<bool> {
+    let (head, texts) = case.split_once('~')?;
+    let (numbers, lines) = head.split_once('\n')?;
+    let (_, status) = numbers.split_once(' ')?;
+    let (input, output) = texts.split_once('~')?;
+    let words = words_of(alloc, lines).ok()?;
+    Some(gives(rt, alloc, words.as_slice(), input, (status, output)))
+}
+
+#[test]
+fn cases(rt: HostRuntime) {
+    let alloc = rt.alloc();
+    assert!(rt; CASES.starts_with('^'));
+    for case in CASES.split('^').skip(1) {
+        assert!(rt; is_right(&rt, alloc, case) == Some(true), "case {case}");
+    }
+}

@@ -1,0 +1,1005 @@
+// Random cases with the outputs of a plain simulator. tests/rows.py writes this file, and says
+// how a case is laid out.
+pub const CASES: &str = r#"^4 0
+play
+~format = 1
+seed = "57f434856edc6389b302395c7aacd44693679dc70abe332ccbdcadd30ed42e1b"
+protocol = "echo"
+tick = 55
+latency_min = 19
+latency_max = 24
+loss = 0
+servers = ["up", "and", "step", "all"]
+checkpoint = 2
+window = 7
+
+[[client]]
+name = "or"
+ops = 17
+
+[[client]]
+name = "done"
+ops = 18
+---
+look next
+~due 0 serial 0 host up start
+^7 1
+play
+~format = 1
+seed = "11e81818f8c99d5d5d9831957504d90e945de2e8f54ee781cc75f636d8509909"
+protocol = "primary_backup"
+tick = 112
+latency_min = 35
+latency_max = 27129
+loss = 0
+servers = ["s0", "s1", "s2", "s3"]
+checkpoint = 1024
+window = 1
+
+[[client]]
+ops = 1
+~scenario fault 4 client
+^47 1
+play
+~format = 1
+seed = "d18d2f837067f562ef557564446d959d60fe780a878a8acbedf3246b46c49ba8"
+tick = 6715
+latency_min = 36
+latency_max = 51
+loss = 0
+servers = [""]
+checkpoint = 1
+window = 3066
+
+[[client]]
+name = "client0"
+ops = 17
+
+[[client]]
+name = "client1"
+ops = 31
+
+[[client]]
+name = "client2"
+ops = 35
+~scenario fault 4 protocol
+^60 1
+play
+~format = 2
+seed = "2f8c9b77ba99a0e297042055c1e5acf91f9491e55a5b8a0a1b83dbcaef4e95eb"
+protocol = "abd"
+tick = 171
+latency_min = 7845
+latency_max = 0
+loss = 0
+servers = ["s0", "s1", "s2"]
+checkpoint = 1024
+window = 4096
+disk_latency = 39341
+
+[[client]]
+name = "client0"
+ops = 10
+
+[[link]]
+source = "s0"
+target = "s2"
+latency_min = 1
+latency_max = 19
+loss = 0
+
+[[link]]
+source = "s0"
+target = "s1"
+latency_min = 45
+latency_max = 91
+loss = 424
+---
+step
+~scenario fault 9 latency_max
+^87 0
+play
+~format = 0b1
+client = [{ name = "client0", ops = 0b100 }]
+protocol = "primary_backup"
+# a comment: ---
+seed = "2e9c0ba5d02c168b82a88bb4e1dbe8537e947de19bfabbb592397fe8200b581f"
+tick = 4
+checkpoint = 0x180
+# a comment: ---
+servers = ["s0", "s1", "s2", "s3"]
+latency_max = 0o120
+# a comment: ---
+window = 3
+# a comment: ---
+loss = 0
+latency_min = 0o40
+---
+watch agree next unless 4 and not done s1
+@1 run 9
+~made 0
+refused 1 UnknownBranch
+^219 0
+sweep
+--faults
+7
+--quiet
+39
+818
+7
+20
+up all
+~format = 1
+seed = "12e99efa346b0379d406560aa0f63e2237c47f0eea233ca3936a37c8899a0270"
+protocol = "primary_backup"
+tick = 159
+latency_min = 21
+latency_max = 56
+loss = 0
+servers = ["all", "a"]
+checkpoint = 659
+window = 3
+
+[[client]]
+name = "any"
+ops = 10
+
+[[client]]
+name = "m2"
+ops = 9
+---
+look
+~seed 818 place 3
+^227 0
+search
+8
+26
+count next >= 0 = 0 and all next > 2
+~format = 1
+seed = "c3ff5dd0c5e6eb3df731f8bee6bc4a6aa84e5169e6ffbe0842895ec14ee01a18"
+protocol = "two_phase"
+tick = 48
+latency_min = 45
+latency_max = 45
+loss = 0
+servers = ["s0", "s1", "s2", "s3"]
+checkpoint = 936
+window = 7
+
+[[client]]
+name = "client0"
+ops = 2
+
+[[client]]
+name = "client1"
+ops = 1
+---
+look
+run 0
+run 26
+~first 8
+^307 0
+play
+--strict
+~format = 2
+seed = "3af01d6db44fca47edd80e0517ba7dae05be4463ce9259ef330b4ca0fd27dee7"
+protocol = "primary_backup"
+tick = 150
+latency_min = 24
+latency_max = 4166
+loss = 0
+servers = ["s0", "s1", "s2", "s3"]
+checkpoint = 7
+window = 4096
+disk_latency = 26
+
+[[client]]
+name = "client0"
+ops = 1
+
+[[client]]
+name = "client1"
+ops = 2
+---
+cut
+run 5
+run 2
+tick
+~place 0 clock 0
+place 5 clock 0
+place 7 clock 200
+place 9 clock 350
+^357 0
+play
+~format = 2
+seed = "d34d22458a2a79246e4cd189e2a4a6d44fabcb38348388cbd7cbdc6756470fc7"
+protocol = "two_phase"
+tick = 41
+latency_min = 2
+latency_max = 20
+loss = 232
+servers = ["s0", "s1"]
+checkpoint = 2
+window = 7
+disk_latency = 18
+
+[[client]]
+name = "client0"
+ops = 1
+---
+run 0
+run 3
+
+@1 look next
+run 10
+cut
+~place 0 clock 0
+place 3 clock 0
+refused 1 UnknownBranch
+place 11 clock 66 all done
+place 11 clock 66
+^367 0
+play
+~format = 1
+seed = "70e629fd5321063bfd0bcd00aca6d1bd407e2b4e2a9ba2eb859280d6625eae66"
+protocol = "abd"
+tick = 197
+latency_min = 1
+latency_max = 30
+loss = 0
+servers = ["s0", "s1", "s2", "s3"]
+checkpoint = 7
+window = 2
+
+[[client]]
+name = "client0"
+ops = 1
+---
+@1 crash s0
+run 18
+look next
+tick
+@0 cut
+look
+forward 2
+~refused 1 UnknownBranch
+place 18 clock 54
+due 56 serial 16 host s2 message
+place 27 clock 251 all done
+place 27 clock 251
+place 27 clock 251 serial 27 net 32 torn 0 pending 0 held 0
+refused 5 TooFar
+^382 0
+play
+~format = 1
+seed = "9ae833511cad17e02bd2ecd4dbd909b7654063089e5599afcfff00731787ff37"
+protocol = "primary_backup"
+tick = 111
+latency_min = 8
+latency_max = 8
+loss = 0
+servers = ["any", "m1"]
+checkpoint = 1
+window = 4096
+
+[[client]]
+name = "abcdefghijklmnop"
+ops = 2
+
+[[client]]
+name = "agree"
+ops = 3
+
+[[client]]
+name = "m2"
+ops = 2
+---
+hold m1 nobody
+cut
+@1 look link any m1
+watch differ applied unless 007 and all next >= any.next
+~refused 2 UnknownHost
+place 0 clock 0
+refused 1 UnknownBranch
+made 0
+^415 2
+log
+--from
+19
+~format = 1
+seed = "c75677e6f24eaac32dad68226ecf5710d3edbaf0d4ee098ce028230b2e1b54f6"
+protocol = "primary_backup"
+tick = 48
+latency_min = 10
+latency_max = 10
+loss = 82
+servers = ["s0", "s1", "s2"]
+checkpoint = 7
+window = 2
+
+[[client]]
+name = "client0"
+ops = 6
+---
+bounce s1
+crash s1
+look probe client0 applied
+run 2
+step
+cut
+~bad range
+^422 0
+search
+4
+8
+all served = client0.next
+~format = 1
+seed = "8d825bd0787b3b09978892769135bcea8aadc84689dbe0cbabe036eab6a79726"
+protocol = "echo"
+tick = 31228
+latency_min = 18
+latency_max = 35
+loss = 391
+servers = ["s0"]
+checkpoint = 29
+window = 1
+
+[[client]]
+name = "client0"
+ops = 4
+
+[[client]]
+name = "client1"
+ops = 2
+
+[[client]]
+name = "client2"
+ops = 2
+---
+look
+unwatch 6
+run 18
+rewind 2
+back 7
+~first 4
+^476 0
+sweep
+381
+1
+0
+differ next unless 007 and client0.val > client1.val
+~format = 1
+seed = "c289d1d6a485c06945251c3ce107e4b5a79a4dbac700a770df1e39d58c8b3c0b"
+protocol = "abd"
+tick = 8495
+latency_min = 3
+latency_max = 44
+loss = 0
+servers = ["s0", "s1", "s2"]
+checkpoint = 821
+window = 3098
+
+[[client]]
+name = "client0"
+ops = 28
+
+[[client]]
+name = "client1"
+ops = 13
+
+[[client]]
+name = "client2"
+ops = 35
+---
+look
+unwatch 5
+bounce s1
+branch 0~seed 381 place 0
+^648 0
+sweep
+666
+8
+92
+agree num unless 5
+~format = 1
+seed = "e84d5e7d3668d0cfa1ad56925bdac47edf54afc2c9b2ca974ed9bb1afd1452fe"
+protocol = "abd"
+tick = 89
+latency_min = 36
+latency_max = 37
+loss = 0
+servers = ["s0", "s1"]
+checkpoint = 1
+window = 7
+
+[[client]]
+name = "client0"
+ops = 9
+---
+tick
+look
+step
+branch 15
+rewind 1
+goto 36
+@3 look
+@1~seed 666 place 8
+^718 0
+play
+~checkpoint = 7
+format = 0b1
+loss = 0b110011110
+tick = 0b10101010
+# a comment: ---
+latency_max = 0o30
+latency_min = 1
+# a comment: ---
+protocol = "two_phase"
+window = 2_63
+seed = "b6c582b1ac858669c8d10caaac3f548bf264dd48f78c86785d1c4fc401a571be"
+servers = ["s0", "s1", "s2"]
+
+[[client]]
+name = "client0"
+ops = 0x4
+
+[[client]]
+name = "client1"
+ops = 0b100
+---
+crash s2~place 1 clock 0
+^731 0
+sweep
+--faults
+11
+995
+3
+37
+agree next unless 9999999999999999999 or not up client0
+~format = 1
+seed = "9e7ec919055f22af5baabbc21be1628256a9e26141ddcb950eaeb84355ec9786"
+protocol = "two_phase"
+tick = 72
+latency_min = 13
+latency_max = 41
+loss = 0
+servers = ["s0", "s1"]
+checkpoint = 3
+window = 3
+
+[[client]]
+name = "client0"
+ops = 26
+---
+look host s0
+rewind 0
+crash s1
+run 12
+run 5
+~seed 995 place 3
+^812 0
+play
+~format = 1
+seed = "a658d736262fe5cec2992d3203af59396c0f38b2295fd7e2f818a06acf4f0a34"
+protocol = "abd"
+tick = 100
+latency_min = 33
+latency_max = 45
+loss = 0
+servers = ["s0", "s1", "s2"]
+checkpoint = 3
+window = 2
+
+[[client]]
+name = "client0"
+ops = 3
+
+[[client]]
+name = "client1"
+ops = 3
+---
+rewind 4
+back 3
+look probe s2 val
+bounce s2
+look probe s0 next
+look host client0~refused 5 TooFar
+refused 5 TooFar
+s2 val 0
+place 1 clock 0
+s0 next 0
+client0 up done no draws 0 stable 0 unsynced 0
+^876 0
+sweep
+--workers
+4
+--faults
+7
+295
+2
+55
+differ next unless 0
+~format = 1
+seed = "cfe28791e9df7bda02966c7cdb757ce73a4c50dc5081d4eedf3e2820806a4382"
+protocol = "two_phase"
+tick = 128
+latency_min = 8
+latency_max = 25488
+loss = 139
+servers = ["up", "zz", "and"]
+checkpoint = 1
+window = 3
+
+[[client]]
+name = "by"
+ops = 4
+
+[[client]]
+name = "all"
+ops = 4
+---
+crash up
+partition and zz
+run 4
+repair and zz
+crash and
+~seed 295 place 5
+^899 2
+log
+--from
+18
+~format = 1
+seed = "1cd19895fb91258f7d204dd10b986e533e5dae0662b993bad091cd967587c526"
+protocol = "echo"
+tick = 45588
+latency_min = 41
+latency_max = 63
+loss = 0
+servers = ["all", "step"]
+checkpoint = 737
+window = 1
+
+[[client]]
+name = "count"
+ops = 1
+
+[[client]]
+name = "x9"
+ops = 1
+---
+tick
+look host all
+rewind 4
+~bad range
+^1023 0
+sweep
+910
+7
+14
+agree next unless 3 and any num <= 3
+~latency_max = 50
+seed = "1a36c964ea18306ab71589460e42f81014f83cf1a2bc51ff8eb9d78bfff13844"
+# a comment: ---
+format = 0o1
+window = +7
+tick = 0o33
+protocol = "abd"
+loss = 0x0
+client = [{ name = "m1", ops = 0x2 }, { name = "zz", ops = 0o2 }]
+latency_min = 0b10101
+checkpoint = 1024
+servers = ["a", "differ"]
+---
+@2 cut
+unwatch 0
+  run   2 
+@1 bounce a
+forward 6
+watch up zz
+bounce a
+back 5
+unwatch 7
+unwatch 7
+run 15
+run 3
+branch 2~seed 910 place 3
+^1046 2
+search
+0
+6
+
+~latency_min = 0o42
+loss = 0b1111101000
+# a comment: ---
+tick = 196
+format = 0o1
+window = 0x7
+checkpoint = 0x2
+protocol = "two_phase"
+latency_max = 0o74
+servers = ["s0", "s1"]
+seed = "5da7bc24299953de8f6900d43f06f3d48c0d600ba33268dd9504bbcff1a025a6"
+
+[[client]]
+name = "client0"
+ops = 0b10001
+
+[[client]]
+name = "client1"
+ops = 0x11
+---
+bounce s0
+cut
+watch s0.next<= 1
+@2 forward 38
+@2 crash s0
+look next
+tick~bad condition
+^1155 0
+play
+~protocol = "two_phase"
+latency_min = +13
+# a comment: ---
+servers = ["s0", "s1", "s2", "s3"]
+window = +3
+format = 1
+client = [{ name = "client0", ops = 0x4 }, { name = "client1", ops = 0o2 }]
+seed = "f47fd1f2023c3a105d264b04b099a90857f6ceb40308fb97c28a2e3491e3b8bf"
+checkpoint = 0b10
+loss = +0
+tick = 0b101110
+latency_max = 0o35
+---
+
+look
+hold s2 s0
+forward 49~place 0 clock 0 serial 6 net 0 torn 0 pending 6 held 0
+place 1 clock 0
+refused 5 TooFar
+^1182 0
+sweep
+--faults
+5
+525
+6
+67
+done client0
+~tick = 0x39
+seed = "873a77dd53e36b9bc85f8a81c1b03aad0ae4016615b0c24d5a4a01cfd12d6be1"
+loss = +0
+# a comment: ---
+protocol = "primary_backup"
+# a comment: ---
+latency_min = 0b100111
+latency_max = 39
+client = [{ name = "client0", ops = +2 }]
+format = 0b1
+checkpoint = 0x400
+servers = ["s0", "s1"]
+window = 0x2
+---
+tick
+crash s0
+run 11
+crash s0
+look next
+tick
+bounce s1
+rewind 6
+~seed 525 place 0
+^1250 0
+play
+~format = 2
+seed = "3b2521f0220802a25b821378ca1869d3873ddf0645586ce67d3a668b8d050e23"
+protocol = "two_phase"
+tick = 160
+latency_min = 20
+latency_max = 20
+loss = 1000
+servers = ["s0", "s1", "s2"]
+checkpoint = 3
+window = 3
+disk_latency = 0
+
+[[client]]
+name = "client0"
+ops = 30
+
+[[client]]
+name = "client1"
+ops = 38
+---
+look probe s0 next
+look probe client1 next
+  goto   1 
+forward 7
+rewind 0
+look host S0
+~s0 next 0
+client1 next 0
+refused 5 TooFar
+refused 5 TooFar
+place 0 clock 0
+bad line
+^1474 0
+play
+~format = 1
+seed = "b8c96cfd146309cef8769bdb62e58b7504311f039e4b08c27bc80a81a44ae0b6"
+protocol = "two_phase"
+tick = 164
+latency_min = 5
+latency_max = 51
+loss = 345
+servers = ["s0", "s1", "s2"]
+checkpoint = 3
+window = 329
+
+[[client]]
+name = "client0"
+ops = 12
+
+[[client]]
+name = "client1"
+ops = 34
+---
+look next
+@2 look
+run 1
+back 1
+forward 1
+@1 forward 28~due 0 serial 0 host s0 start
+refused 1 UnknownBranch
+place 1 clock 0
+place 0 clock 0
+place 1 clock 0
+refused 1 UnknownBranch
+^1495 2
+search
+2
+0
+any next != 0
+~servers = ["by", "x9", "agree", "abcdefghijklmnop"]
+# a comment: ---
+protocol = "two_phase"
+latency_min = 0o56
+# a comment: ---
+latency_max = 0b1010011
+# a comment: ---
+window = 3
+tick = 0x226b
+seed = "d970d577864930777d526245ab02394bc714dce8566a966a0cf878e39a4c20ab"
+# a comment: ---
+client = [{ name = "q", ops = +2 }]
+# a comment: ---
+format = 0x1
+loss = 0o0
+# a comment: ---
+checkpoint = 0o7
+---
+run 1
+@2 watch agree first by next unless 1001 and not up abcdefghijklmnop
+@1 repair abcdefghijklmnop x9
+rewind 6
+run 2
+look
+look next
+@3 back 7
+~bad range
+^1597 2
+log
+--from
+6
+--to
+18
+~format = 1
+seed = "a549d0fdf21b946c5928b1c3dcbeb1c99325e7917c93d3dca0e64343126191eb"
+protocol = "abd"
+tick = 94
+latency_min = 36
+latency_max = 69
+loss = 0
+servers = ["step", "by"]
+checkpoint = 1
+window = 4096
+
+[[client]]
+name = "differ"
+ops = 4
+
+[[client]]
+name = "not"
+ops = 1
+---
+tick
+bounce by
+look
+crash step
+trace
+run 1
+run 4
+back 4
+~bad range
+^1921 0
+search
+--strict
+0
+4
+client2.next >= 1000000000000000000
+~format = 1
+seed = "ae57d5007636742daedf3d77c7469c0b8a3595a2f87a8935ab48c6c2354b540e"
+protocol = "echo"
+tick = 57
+latency_min = 35
+latency_max = 77
+loss = 0
+servers = ["s0", "s1"]
+checkpoint = 369
+window = 3
+
+[[client]]
+name = "client0"
+ops = 1
+
+[[client]]
+name = "client1"
+ops = 1
+
+[[client]]
+name = "client2"
+ops = 3
+---
+step
+bounce s0
+bounce s0
+release s0 client1
+~first 0
+^2363 2
+sweep
+0
+0
+20
+agree next unless 1000000000000000000
+~format = 1
+seed = "7c2411707214fbdf025260b752103d9d53d1df3445dde33cf9d649c50a104003"
+protocol = "primary_backup"
+tick = 47
+latency_min = 38
+latency_max = 38
+loss = 0
+servers = ["s0", "s1", "s2", "s3"]
+checkpoint = 2
+window = 1
+
+[[client]]
+name = "client0"
+ops = 30
+
+[[client]]
+name = "client1"
+ops = 8
+
+[[client]]
+name = "client2"
+ops = 40
+---
+forward 4
+look next
+look probe client1 next
+back 0
+bounce s3
+step~bad range
+^3223 0
+sweep
+929
+5
+15
+agree next unless 9999999999999999999
+~client = [{ name = "client0", ops = 0o27 }]
+tick = 0b1000101
+# a comment: ---
+seed = "ab861da553200039bca9cfb9b1ef77a364c31491815ed3466789c1a425dc97c8"
+protocol = "two_phase"
+# a comment: ---
+latency_min = +4
+loss = +1000
+servers = ["s0", "s1", "s2"]
+format = 0x1
+window = +1
+latency_max = 0o16
+checkpoint = 1
+# a comment: ---
+---
+rewind 49
+~seed 929 place 4
+^14373 2
+script
+--faults
+65537
+--quiet
+8
+901
+17
+~format = 1
+seed = "64f0246cf223c8dd5ebaf66ebccd8dcbea22ec853f133a37e50a4f965029d8f9"
+protocol = "primary_backup"
+tick = 34410
+latency_min = 21
+latency_max = 23
+loss = 1000
+servers = ["or", "count", "unless", "differ"]
+checkpoint = 3
+window = 7
+
+[[client]]
+name = "q"
+ops = 4
+---
+look next
+look probe q applied
+@1 unwatch 8
+branch 15
+look
+watch count next != 1000000000000000000 >= 1
+rewind 15
+@2 look host unless
+branch 14
+~bad range
+^23037 2
+script
+--faults
+65537
+0
+43
+~format = 2
+seed = "bfe15b911e1d802495a12f663150af10e6ab7778f3cf696af10da53b213946ca"
+protocol = "two_phase"
+tick = 172
+latency_min = 10
+latency_max = 10
+loss = 493
+servers = ["s0", "s1", "s2", "s3"]
+checkpoint = 1024
+window = 4096
+disk_latency = 5
+
+[[client]]
+name = "client0"
+ops = 2
+
+[[client]]
+name = "client1"
+ops = 2
+
+[[client]]
+name = "client2"
+ops = 1
+---
+@3 watch up s1 or s3.next >= 4001~bad range
+^26860 2
+script
+--faults
+8
+--quiet
+5
+819
+65530
+~format = 1
+seed = "f02d616c8da13be75d1b7e05d16dd5948b1bc80c764ffbc4a9fc4a52977f5f10"
+protocol = "two_phase"
+tick = 193
+latency_min = 23
+latency_max = 34
+loss = 0
+servers = ["up", "m1", "q", "step"]
+checkpoint = 38
+window = 4096
+
+[[client]]
+name = "m2"
+ops = 40
+---
+watch not up m2
+@2 partition m2 m2
+crash s0 s1
+~bad range
+"#;
