@@ -1,10 +1,11 @@
 #!/usr/bin/env python3
-"""Writes crates/test_program/src/cases/rows.rt: some cases of tests/fuzz.py with their outputs.
+"""Writes some cases of tests/fuzz.py with their outputs, for the test `cases` of the gate.
 
-    tests/rows.py             writes the file
-    tests/rows.py --check     writes nothing, and exits with 1 if the file has another text
+    tests/rows.py             writes crates/test_program/src/cases/plays.rt and jobs.rt
+    tests/rows.py --check     writes nothing, and exits with 1 if a file has another text
 
-The gate runs these cases, by the test `cases`. For each kind the first short ones are taken.
+For each kind the first short cases are taken. There are none of a limit, whose texts are long, of a
+shrunk run, which has more than one right answer, and of a wrong command line, which is no job.
 
 A case begins with `^`, its number and the exit status. The words of the command line follow, one on
 a line, then `~` and the input, then `~` and the output.
@@ -17,27 +18,27 @@ sys.dont_write_bytecode = True
 
 from oracle.cases import Case  # noqa: E402
 
-FILE = pathlib.Path(__file__).resolve().parent.parent / "crates/test_program/src/cases/rows.rt"
+FOLDER = pathlib.Path(__file__).resolve().parent.parent / "crates/test_program/src/cases"
 
-# How many cases of each kind there are, and the most lines and columns of one, input and output
-# together.
-COUNTS = {
-    "play": 10, "scenario": 3, "strict": 2, "search": 4, "sweep": 4, "planned": 5, "log": 3,
-    "script": 3,
+# For each file, how many cases of each kind it has.
+FILES = {
+    "plays": {"play": 10, "scenario": 3, "strict": 2},
+    "jobs": {"search": 4, "sweep": 4, "planned": 5, "log": 3, "script": 3},
 }
+# The most lines and columns of a case, input and output together.
 MOST_LINES = 36
 MOST_COLUMNS = 90
 
 HEAD = """\
 // Random cases with the outputs of a plain simulator. tests/rows.py writes this file, and says
 // how a case is laid out.
-pub const CASES: &str = r#"\
+pub const {name}: &str = r#"\
 """
 
 
-def chosen():
-    """Returns the cases, by their numbers."""
-    left, cases, number = dict(COUNTS), [], 0
+def chosen(counts):
+    """Returns this many cases of each kind, by their numbers."""
+    left, cases, number = dict(counts), [], 0
     while any(left.values()):
         case = Case(number)
         number += 1
@@ -65,13 +66,17 @@ def row(case):
 
 
 def main():
-    """Writes the file, or compares it."""
-    text = HEAD + "".join(map(row, chosen())) + '"#;\n'
-    if sys.argv[1:] == ["--check"]:
-        return int(not FILE.exists() or FILE.read_text() != text)
-    FILE.parent.mkdir(parents=True, exist_ok=True)
-    FILE.write_text(text)
-    return 0
+    """Writes the files, or compares them."""
+    status = 0
+    for name, counts in FILES.items():
+        file = FOLDER / f"{name}.rt"
+        text = HEAD.format(name=name.upper()) + "".join(map(row, chosen(counts))) + '"#;\n'
+        if sys.argv[1:] != ["--check"]:
+            FOLDER.mkdir(parents=True, exist_ok=True)
+            file.write_text(text)
+        elif not file.exists() or file.read_text() != text:
+            status = 1
+    return status
 
 
 if __name__ == "__main__":

@@ -1,12 +1,14 @@
-//! Random cases with the outputs of a plain simulator, `tests/oracle`. It is written from the
-//! documents, shares no code and no definition with the program, and is not proved. `rows` has the
-//! cases, which tests/rows.py writes; tests/fuzz.py tries any number of others.
+//! Random cases with the outputs of a plain simulator, `tests/oracle`, which shares no code and no
+//! definition with the program, and is not proved. `plays` and `jobs` have the cases, which
+//! tests/rows.py writes; tests/fuzz.py tries any number of others.
 //!
-//! What the test catches: a definition of a world, a node, a play, a search, a plan, a log or a
+//! What the tests catch: a definition of a world, a node, a play, a search, a plan, a log or a
 //! script that is not the one that was meant, in code and contract alike; a job that gives up.
-mod rows;
+mod jobs;
+mod plays;
 
-use crate::cases::rows::CASES;
+use crate::cases::jobs::JOBS;
+use crate::cases::plays::PLAYS;
 use crate::perform::hunts::performed;
 use sim_job::request;
 use std::alloc::{AllocError, Global};
@@ -54,11 +56,17 @@ fn is_right<R: Threads + Wait + Sync + Clock + Eprint>(
     Some(gives(rt, alloc, words.as_slice(), input, (status, output)))
 }
 
+// Checks each of these cases.
+fn check<R: Threads + Wait + Sync + Clock + Eprint + Abort>(rt: &R, alloc: Global, cases: &str) {
+    assert!(rt; cases.starts_with('^'));
+    for case in cases.split('^').skip(1) {
+        assert!(rt; is_right(rt, alloc, case) == Some(true), "case {case}");
+    }
+}
+
 #[test]
 fn cases(rt: HostRuntime) {
     let alloc = rt.alloc();
-    assert!(rt; CASES.starts_with('^'));
-    for case in CASES.split('^').skip(1) {
-        assert!(rt; is_right(&rt, alloc, case) == Some(true), "case {case}");
-    }
+    check(&rt, alloc, PLAYS);
+    check(&rt, alloc, JOBS);
 }
