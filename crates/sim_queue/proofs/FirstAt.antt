@@ -1,13 +1,16 @@
 -- The item in the first slot is the first item.
-use Rattle.std.proofs.Common.{◌≡◌, ℕ, zero, suc, ◌+◌, ◌<◌, ◌≤◌, Bool, true, false, cond, List, [], ◌∷◌, Option, Some, None, refl, sym, ap, ◌∙◌, subst, arith, ◌==◌, ◌&&◌, ◌||◌, nat_lt, inl, inr, ⊎_elim}
+use Rattle.std.proofs.Common.{◌≡◌, ℕ, zero, suc, ◌+◌, ◌-◌, ◌<◌, ◌≤◌, Bool, true, false, cond, List, [], ◌∷◌, Option, Some, None, refl, sym, ap, ◌∙◌, subst, arith, ◌==◌, ◌&&◌, ◌||◌, nat_lt, inl, inr, ⊎_elim}
 use Rattle.std.proofs.lemmas.Bool.Decides.{nat_tests}
 use Rattle.std.proofs.lemmas.Option.{none-some}
+use Rattle.std.proofs.Math.ListN.{set}
 use Rattle.std.specs.Option.{option_map}
+use Rattle.std.specs.Prelude.{IfSome, IfNone}
 use Rattle.sim_queue.specs.declared.Item.{Item}
-use Rattle.sim_queue.specs.Pending.{first, first_of, is_before}
+use Rattle.sim_queue.specs.Pending.{first, first_of, is_before, take}
 use Rattle.sim_queue.specs.inside.Wheel.{NotAfter}
 use Rattle.sim_queue.specs.inside.Slots.{at, IsFirstSlot, HasNoItem}
-use Rattle.sim_queue.specs.Items.{item_of, items_from}
+use Rattle.sim_queue.specs.Items.{item_of, items_from, pending}
+use Rattle.sim_queue.proofs.Views.{taken_from}
 
 late : (zd zs yd ys : ℕ) → NotAfter zd zs yd ys → (nat_lt yd zd || ((yd == zd) && nat_lt ys zs)) ≡ false
 late zd zs yd ys (inl p) = grind (arith, nat_tests)
@@ -91,3 +94,17 @@ module _ {B : Type 0} where
       ap (λ o. option_map (item_of (base + i)) o) is.there
       ∙ sym (first_at (item_of (base + i) is.entry) base i slots is.there refl
       (λ j e h. ⊎_elim (λ lt. inl lt) (λ le. inr (le.0, let b = le.1 in omega arith)) (is.least j e h)))
+
+  -- an item that was taken from the first slot is the first one
+  pub first_taken : (base : ℕ) (slots : List (Option (ℕ × B))) (r : Option (Item B)) → IfSome r (λ x. base ≤ x.serial) → IfSome r (λ x. IsFirstSlot (x.serial - base) slots)
+      → IfSome r (λ x. at slots (x.serial - base) ≡ Some (x.due, x.body)) → IfNone r (HasNoItem slots) → r ≡ first (items_from base slots)
+  first_taken base slots None from is there none = sym (first_none base slots none)
+  first_taken base slots (Some x) from is there none =
+      let e : base + (x.serial - base) ≡ x.serial = omega arith in
+      let item : Some x ≡ option_map (item_of x.serial) (at slots (x.serial - base)) = sym (ap (λ o. option_map (item_of x.serial) o) there) in
+      item ∙ ap (λ (n : ℕ). option_map (item_of n) (at slots (x.serial - base))) (sym e) ∙ first_here base (x.serial - base) slots is
+
+  pub first_rest : (base after : ℕ) (slots new : List (Option (ℕ × B))) (r : Option (Item B)) → IfSome r (λ x. base ≤ x.serial)
+      → IfSome r (λ x. new ≡ set slots (x.serial - base) None) → after ≡ base → IfSome r (λ x. pending after new ≡ take x.serial (pending base slots))
+  first_rest base after slots new None from rest same = tt
+  first_rest base after slots new (Some x) from rest same = ap (λ (n : ℕ). pending n new) same ∙ taken_from x.serial base slots new from rest

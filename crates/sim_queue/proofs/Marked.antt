@@ -135,3 +135,19 @@ first_due w nodes l p lists is head i key same =
     let h : IsLeastIn w nodes l i = subst (λ (n : ℕ). IsLeastIn w nodes n i) same (head_least w nodes i lists key) in
     let least : order_of (node nodes p) ≤ order_of (node nodes i) = subst (λ (n : ℕ). order_of (node nodes n) ≤ order_of (node nodes i)) is h.least in
     omega arith
+
+-- where the first key of the floor's list is due on its day, that is the least due
+pub floor_today : (w floor p : ℕ) (nodes : List Node) → IsFrom floor nodes → HasKey (node nodes p) → ((i : ℕ) → HasKey (node nodes i) → list_of w (node nodes i) ≡ day w floor % 256
+    → (node nodes p).due ≤ (node nodes i).due) → day w (node nodes p).due ≡ day w floor → IsFloor (node nodes p).due nodes
+floor_today w floor p nodes from key first today = record {
+  from = λ i has. ⊎_elim
+      (λ (lt : (node nodes i).due < (node nodes p).due).
+      let low : day w floor ≤ day w (node nodes i).due = day_mono w floor (node nodes i).due (from i has) in
+      let high : day w (node nodes i).due ≤ day w (node nodes p).due = day_mono w (node nodes i).due (node nodes p).due (omega arith) in
+      let same : day w (node nodes i).due ≡ day w floor = omega arith in
+      let le : (node nodes p).due ≤ (node nodes i).due = first i has (ap (λ (n : ℕ). n % 256) same) in
+      absurd (omega arith))
+      (λ ge. ge)
+      (cases_lt (node nodes i).due (node nodes p).due);
+  settled = inr (record { place = p; key = key; due = refl });
+}

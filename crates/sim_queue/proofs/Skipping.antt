@@ -1,8 +1,8 @@
 -- Places that are looked at eight in one go.
-use Rattle.std.proofs.Common.{◌≡◌, ℕ, zero, suc, ◌<◌, List, length, Option, Some, None, Bool, true, false, ◌&&◌, is_some, not, refl, sym, ap, ◌∙◌, arith}
+use Rattle.std.proofs.Common.{◌≡◌, ℕ, zero, suc, ◌+◌, ◌-◌, ◌<◌, ◌≤◌, List, length, take, drop, Option, Some, None, Bool, true, false, ◌&&◌, is_some, not, refl, sym, ap, ◌∙◌, arith, ⊎_elim}
 use Rattle.std.proofs.Math.ListN.{get_or}
-use Rattle.std.proofs.lemmas.Bool.{false≢true}
-use Rattle.std.proofs.lemmas.List.{get_or_default}
+use Rattle.std.proofs.lemmas.Bool.{cases_lt, false≢true}
+use Rattle.std.proofs.lemmas.List.{get_or_default, get_or-drop, get_or-take}
 use Rattle.sim_queue.specs.inside.Sparse.{index_at}
 
 both : (a b : Bool) → (a && b) ≡ true → (a ≡ true) × (b ≡ true)
@@ -66,4 +66,26 @@ all_told places a b c d e f g h is_a is_b is_c is_d is_e is_f is_g is_h none =
       none_told (index_at places 5) f is_f (none 5 (omega arith)),
       none_told (index_at places 6) g is_g (none 6 (omega arith)),
       none_told (index_at places 7) h is_h (none 7 (omega arith)),
+    ) refl
+
+-- none of the first 16 places is there, told of the first eight and of the next n
+pub two_none : (places : List (Option ℕ)) (a b : Bool) (n : ℕ) → n ≡ 8 → (a ≡ true → (i : ℕ) → i < 8 → index_at (take 8 places) i ≡ None)
+    → (b ≡ true → (i : ℕ) → i < 8 → index_at (take n (drop 8 places)) i ≡ None) → (a && b) ≡ true → (i : ℕ) → i < 16 → index_at places i ≡ None
+two_none places a b n size first second told i below =
+    let p = both a b told in
+    ⊎_elim
+    (λ (lt : i < 8). sym (get_or-take 8 places i None lt) ∙ first p.0 i lt)
+    (λ (ge : 8 ≤ i).
+    let e : 8 + (i - 8) ≡ i = omega arith in
+    let inside : i - 8 < 8 = omega arith in
+    ap (λ (m : ℕ). index_at places m) (sym e) ∙ sym (get_or-drop 8 places (i - 8) None) ∙ sym (get_or-take 8 (drop 8 places) (i - 8) None inside)
+    ∙ ap (λ (m : ℕ). index_at (take m (drop 8 places)) (i - 8)) (sym size) ∙ second p.1 (i - 8) inside)
+    (cases_lt i 8)
+
+pub two_told : (places : List (Option ℕ)) (a b : Bool) (n : ℕ) → n ≡ 8 → (((i : ℕ) → i < 8 → index_at (take 8 places) i ≡ None) → a ≡ true)
+    → (((i : ℕ) → i < 8 → index_at (take n (drop 8 places)) i ≡ None) → b ≡ true) → ((i : ℕ) → i < 16 → index_at places i ≡ None) → (a && b) ≡ true
+two_told places a b n size first second none =
+    rw (
+      first (λ i lt. get_or-take 8 places i None lt ∙ none i (omega arith)),
+      second (λ i lt. ap (λ (m : ℕ). index_at (take m (drop 8 places)) i) size ∙ get_or-take 8 (drop 8 places) i None lt ∙ get_or-drop 8 places i None ∙ none (8 + i) (omega arith)),
     ) refl

@@ -115,6 +115,14 @@ items_some n zero e (None ∷ slots) h = absurd (none-some e h)
 items_some n (suc i) e (None ∷ slots) h = items_some (n + 1) i e slots h
 items_some n i e (Some f ∷ slots) h = omega arith
 
+-- before a slot with an item there are fewer items than in all slots
+pub items_before : {B : Type 0} (n i : ℕ) (e : ℕ × B) (slots : List (Option (ℕ × B))) → at slots i ≡ Some e → length (items_from n (take i slots)) < length (items_from n slots)
+items_before n i e [] h = absurd (none-some e h)
+items_before n zero e (None ∷ slots) h = absurd (none-some e h)
+items_before n zero e (Some f ∷ slots) h = omega arith
+items_before n (suc i) e (None ∷ slots) h = items_before (n + 1) i e slots h
+items_before n (suc i) e (Some f ∷ slots) h = let l = items_before (n + 1) i e slots h in omega arith
+
 -- the place that is read in a slot
 pub read_index : (places : List (Option ℕ)) (i : ℕ) (p : Option ℕ) → i < length places → p ≡ get_or places i p → index_at places i ≡ p
 read_index places i p lt read = get_or_default places i None p lt ∙ sym read

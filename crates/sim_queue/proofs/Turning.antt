@@ -2,15 +2,15 @@
 use Rattle.std.proofs.Common.{◌≡◌, ◌≢◌, ℕ, ◌+◌, ◌-◌, ◌^◌, ◌<◌, ◌≤◌, ◌%◌, List, [], Some, None, is_some, nat_lt, Bool, true, false, if◌then◌else◌, refl, sym, ap, ◌∙◌, subst, arith, length, ◌⊎◌, inl, inr, ⊎_elim}
 use Rattle.std.proofs.Math.ListN.{get_or-map}
 use Rattle.std.proofs.lemmas.List.{length-map}
-use Rattle.sim_queue.proofs.Marked.{first_due}
+use Rattle.sim_queue.proofs.Marked.{first_due, same_mark}
 use Rattle.std.proofs.lemmas.Bool.{cases_eq, cases_lt, lt-ltb, le-ltb}
 use Rattle.std.proofs.lemmas.Option.{none-some, same_Some}
 use Rattle.std.specs.Bool.{OnFalse}
 use Rattle.sim_queue.specs.declared.lists.Node.{Node}
-use Rattle.sim_queue.specs.inside.Lists.{node, no_node, day, list_of, order_of, HasKey, IsLists, IsEmptyList, KeepsOthers, IsFree, IsSame}
+use Rattle.sim_queue.specs.inside.Lists.{node, no_node, day, list_of, order_of, key_order, HasKey, IsLists, IsEmptyList, KeepsOthers, IsFree, IsSame, IsSpot}
 use Rattle.sim_queue.specs.inside.Marks.{mark_of, IsMarked}
 use Rattle.sim_queue.specs.inside.Wheel.{key_of, keys_of, key_at, HasNone, HasSame, HasSameBut, IsPlace, IsFirst, IsDue, IsFrom, IsFloor, HasMarks, IsWheel}
-use Rattle.sim_queue.proofs.Nodes.{key_from}
+use Rattle.sim_queue.proofs.Nodes.{key_from, linked_key}
 use Rattle.sim_queue.proofs.Heads.{IsLeastIn, head_least, head_there, no_head}
 
 -- the key at a place is that of its node
@@ -287,4 +287,42 @@ module _ (w floor : ℕ) (words : List ℕ) (nodes : List Node) (wheel : IsWheel
             inr (omega arith, omega arith))
             (λ (other : floor ≢ (node nodes (k + 256)).due). inl (omega arith))
             (cases_eq floor (node nodes (k + 256)).due);
+      }
+
+  -- the first key has a node, and is due at the floor
+  pub record IsAtFloor (i : ℕ) : Type 0 where
+    pub key : HasKey (node nodes i)
+    pub due : (node nodes i).due ≡ floor
+
+  pub first_at_floor : (p : ℕ) → IsFirst p (keys_of nodes) → IsAtFloor (p + 256)
+  first_at_floor p first =
+      let x = key_of_place nodes p first.due first.serial first.there in
+      let xd = x.due in
+      let d = at_floor (p + 256) x.key in
+      let from = key_from w nodes d.place wheel.lists d.key in
+      let e : d.place - 256 + 256 ≡ d.place = omega arith in
+      let there : key_at (keys_of nodes) (d.place - 256) ≡ Some ((node nodes d.place).due, (node nodes d.place).serial) =
+      key_there nodes (d.place - 256) ∙ ap (λ (n : ℕ). key_of (node nodes n)) e ∙ key_some (node nodes d.place) d.key in
+      let due : (node nodes d.place).due ≡ floor = d.due in
+      let ge : floor ≤ (node nodes (p + 256)).due = wheel.least.from (p + 256) x.key in
+      let le : first.due ≤ (node nodes d.place).due = ⊎_elim
+      (λ (lt : first.due < (node nodes d.place).due). omega arith)
+      (λ (same : (first.due ≡ (node nodes d.place).due) × (first.serial ≤ (node nodes d.place).serial)). let a = same.0 in omega arith)
+      (first.least (d.place - 256) (node nodes d.place).due (node nodes d.place).serial there) in
+      record { key = x.key; due = omega arith }
+
+  -- a key that belongs after another one has a marked day, and is not due before the floor
+  pub record IsBehindKey (due : ℕ) : Type 0 where
+    pub marked : (d : ℕ) → d % 256 ≡ day w due % 256 → IsMarked words d
+    pub late : floor ≤ due
+
+  pub behind_key : (due serial b : ℕ) → IsSpot w due serial b nodes → 256 ≤ b → serial < 2 ^ 40 → IsBehindKey due
+  behind_key due serial b spot from small =
+      let key = linked_key nodes b spot.linked from in
+      let mark = wheel.marked b key in
+      let above : order_of (node nodes b) < key_order due serial = spot.above from in
+      let ge : floor ≤ (node nodes b).due = wheel.least.from b key in
+      record {
+        marked = λ d same. same_mark words d (day w (node nodes b).due) (same ∙ sym spot.list) ∙ mark;
+        late = omega arith;
       }

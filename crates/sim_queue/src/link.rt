@@ -64,7 +64,7 @@ impl Link {
     }
 }
 
-/// The number of links that are looked at in one go.
+/// The number of links in a block.
 const BLOCK: usize = 8;
 
 // Returns whether none of the links of a block has a place. Looks at all of them, so that the
@@ -85,22 +85,34 @@ fn are_none(links: &[Link]) -> bool
         & links[7].is_none()
 }
 
-// Skips blocks of links without places, from `from` on. Returns the first link that it does not
-// skip.
-fn skip_blocks(links: &[Link], from: usize) -> usize
+// Returns whether none of the links of two blocks has a place.
+#[inline(always)]
+fn are_none_of_two(links: &[Link]) -> bool
+    requires { length links.now ≡ 16 }
+    ensures none { result ≡ true → (i : ℕ) → i < 16 → index_at links.now i ≡ None }
+    ensures some { ((i : ℕ) → i < 16 → index_at links.now i ≡ None) → result ≡ true }
+{
+    are_none(&links[..BLOCK]) & are_none(&links[BLOCK..])
+}
+
+/// Skips links without places, two blocks in one go, from `from` on. Returns the first link that it
+/// does not skip.
+pub(crate) fn skip_blocks(links: &[Link], from: usize) -> usize
     requires { from ≤ length links.now }
     ensures order { from ≤ result }
     ensures within { result ≤ length links.now }
     ensures none { (i : ℕ) → from ≤ i → i < result → index_at links.now i ≡ None }
 {
     let mut at = from;
-    while BLOCK <= links.len() - at && are_none(&links[at..at + BLOCK]) {
-        at += BLOCK;
+    while 2 * BLOCK <= links.len() - at && are_none_of_two(&links[at..at + 2 * BLOCK]) {
+        at += 2 * BLOCK;
     }
     at
 }
 
-/// Returns the first link from `from` on that has a place, or the number of links.
+/// Returns the first link from `from` on that has a place, or the number of links. Looks at four
+/// links in each round.
+#[inline(always)]
 pub(crate) fn next_place(links: &[Link], from: usize) -> usize
     requires { from ≤ length links.now }
     ensures order { from ≤ result }
@@ -108,7 +120,35 @@ pub(crate) fn next_place(links: &[Link], from: usize) -> usize
     ensures none { (i : ℕ) → from ≤ i → i < result → index_at links.now i ≡ None }
     ensures there { result < length links.now → index_at links.now result ≢ None }
 {
-    let mut at = skip_blocks(links, from);
+    let mut at = from;
+    while 4 <= links.len() - at {
+        if !links[at].is_none() {
+            return at;
+        }
+        if !links[at + 1].is_none() {
+            return at + 1;
+        }
+        if !links[at + 2].is_none() {
+            return at + 2;
+        }
+        if !links[at + 3].is_none() {
+            return at + 3;
+        }
+        at += 4;
+    }
+    next_of_few(links, at)
+}
+
+// Returns the same. Looks at one link after another.
+#[inline(never)]
+fn next_of_few(links: &[Link], from: usize) -> usize
+    requires { from ≤ length links.now }
+    ensures order { from ≤ result }
+    ensures within { result ≤ length links.now }
+    ensures none { (i : ℕ) → from ≤ i → i < result → index_at links.now i ≡ None }
+    ensures there { result < length links.now → index_at links.now result ≢ None }
+{
+    let mut at = from;
     while at < links.len() && links[at].is_none() {
         at += 1;
     }

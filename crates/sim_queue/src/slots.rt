@@ -5,13 +5,14 @@ ghost use Rattle.std.specs.Prelude.{IfSome, IfNone, Bool, Some, None, ◌∷◌,
 ghost use Rattle.std.specs.Prelude.{slice_set, replicate};
 ghost use Rattle.std.specs.Fn.{FnReturnsAt};
 ghost use Rattle.std.specs.Option.{option_map, IsSome};
+ghost use Rattle.std.specs.Vec.{vec_len, vec_capacity};
 ghost use Rattle.sim_queue.specs.Items.{item_of, items_from};
 ghost use Rattle.sim_queue.specs.Pending.{Decides, next_taken};
 ghost use Rattle.sim_queue.specs.inside.Slots.{at, IsFirstSlot, HasNoItem};
 ghost use Rattle.sim_queue.specs.inside.Sparse.{body_at, IsPut, IsTaken, HasSameBodies};
 ghost use Rattle.sim_queue.specs.inside.Wheel.{key_at, HasSame};
 
-use crate::link::{Link, next_place};
+use crate::link::{Link, next_place, skip_blocks};
 use crate::wheel::Wheel;
 use crate::{Item, NoMemory};
 use std::alloc::Global;
@@ -183,6 +184,28 @@ impl<B> Slots<B> {
         Some(take_out(&mut self.wheel, &mut self.bodies, at))
     }
 
+    /// Takes the first item out.
+    #[inline(always)]
+    pub(crate) fn take_first(&mut self) -> Option<Item<B>>
+        ensures from { IfSome result (λ x. self.old.base ≤ x.serial) }
+        ensures first { IfSome result (λ x.
+            IsFirstSlot (x.serial - self.old.base) self.old.items) }
+        ensures item { IfSome result (λ x.
+            at self.old.items (x.serial - self.old.base) ≡ Some (x.due, x.body)) }
+        ensures rest { IfSome result (λ x.
+            self.new.items ≡ slice_set self.old.items (x.serial - self.old.base) None) }
+        ensures none { IfNone result (HasNoItem self.old.items) }
+        ensures same { IfNone result (self.new.items ≡ self.old.items) }
+        ensures base { self.new.base ≡ self.old.base }
+    {
+        let at = self.wheel.first()?;
+        let (due, serial) = self.wheel.remove_first(at);
+        self.places[(serial - self.base) as usize] = Link::none();
+        self.count -= 1;
+        let body = take_body(&mut self.bodies, at);
+        Some(Item { due, serial, body })
+    }
+
     /// Removes the last slot. Returns its item.
     #[inline(always)]
     pub(crate) fn pop(&mut self) -> Item<B>
@@ -208,7 +231,8 @@ impl<B> Slots<B> {
         ensures within { result ≤ length self.now.items }
         ensures empty { (i : ℕ) → i < result → at self.now.items i ≡ None }
     {
-        next_place(&self.places, 0)
+        let places = self.places.as_slice();
+        next_place(places, skip_blocks(places, 0))
     }
 
     /// Drops the first `count` slots, which are empty.
@@ -266,13 +290,15 @@ impl<B> Slots<B> {
         ensures { IfOk result (λ items. items.items ≡ items_from self.now.base self.now.items) }
     {
         let mut items = Vec::with_capacity(alloc, self.count)?;
-        let mut place = next_place(&self.places, 0);
-        while place < self.places.len() {
-            if let Some((due, body)) = self.get(place) {
-                let item = copied(due, self.base + place as u64, body, each)?;
-                items.push(item)?;
-            }
-            place = next_place(&self.places, place + 1);
+        let places = self.places.as_slice();
+        let bodies = self.bodies.as_slice();
+        let mut slot = next_place(places, skip_blocks(places, 0));
+        while slot < places.len() {
+            let at = places[slot].get().unwrap();
+            let (due, serial) = self.wheel.key(at);
+            let body = bodies[at as usize].as_ref().unwrap();
+            push_copy(&mut items, due, serial, body, each)?;
+            slot = next_place(places, slot + 1);
         }
         Ok(items)
     }
@@ -368,43 +394,37 @@ pub(crate) fn copy_items<B: Drop, F: Fn(&B) -> Result<B, NoMemory>>(
     ensures { IfOk result (λ copied. copied.items ≡ items.now.items) }
 {
     let mut copied = Vec::with_capacity(alloc, capacity)?;
-    for index in 0..items.len() {
-        let item = copy_item(&items[index], each)?;
-        copied.push_reserved(item);
+    for item in items {
+        push_copy(&mut copied, item.due, item.serial, &item.body, each)?;
     }
     Ok(copied)
 }
 
-// Returns an equal item.
-fn copy_item<B, F: Fn(&B) -> Result<B, NoMemory>>(
-    item: &Item<B>,
-    each: &F,
-) -> Result<Item<B>, NoMemory>
-    requires callable { F.IsAlwaysCallable each.now }
-    requires equal { (x : B) (r : _) → FnReturnsAt F.Fn each.now x r → IfOk r (λ y. y ≡ x) }
-    ensures { IfOk result (λ copied. copied ≡ item.now) }
-{
-    copied(item.due, item.serial, &item.body, each)
-}
-
-// Returns an item with an equal body.
-fn copied<B, F: Fn(&B) -> Result<B, NoMemory>>(
+// Adds an item with an equal body. The vector has room for it.
+#[inline(always)]
+fn push_copy<B: Drop, F: Fn(&B) -> Result<B, NoMemory>>(
+    items: &mut Vec<Item<B>>,
     due: u64,
     serial: u64,
     body: &B,
     each: &F,
-) -> Result<Item<B>, NoMemory>
+) -> Result<(), NoMemory>
+    requires room { vec_len items.old < vec_capacity items.old }
     requires callable { F.IsAlwaysCallable each.now }
     requires equal { (x : B) (r : _) → FnReturnsAt F.Fn each.now x r → IfOk r (λ y. y ≡ x) }
-    ensures { IfOk result (λ copied. copied ≡ record {
+    ensures items { OnOk result (items.new.items ≡ items.old.items ++ record {
       due = due;
       serial = serial;
       body = body.now;
-    }) }
+    } ∷ []) }
+    ensures len { OnOk result (vec_len items.new ≡ vec_len items.old + 1) }
+    ensures capacity { vec_capacity items.new ≡ vec_capacity items.old }
 {
-    Ok(Item {
-        due,
-        serial,
-        body: each(body)?,
-    })
+    match each(body) {
+        Ok(body) => {
+            items.push_reserved(Item { due, serial, body });
+            Ok(())
+        }
+        Err(refused) => Err(refused),
+    }
 }

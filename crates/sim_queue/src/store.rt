@@ -104,8 +104,7 @@ impl<B> Store<B> {
         ensures none { IfNone result (pending_in self.new ≡ pending_in self.old) }
         ensures keyed { IsKeyed self.new }
     {
-        let place = self.slots.first()?;
-        self.slots.take(place)
+        self.slots.take_first()
     }
 
     /// Takes the item of a serial out.

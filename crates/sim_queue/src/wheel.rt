@@ -1,9 +1,9 @@
 //! Keys in lists by their days; the first key is at hand.
 ghost use Rattle.std.specs.Prelude.{◌≡◌, ◌≢◌, ℕ, ◌^◌, ◌<◌, ◌≤◌, Some, None, IfOk, IfSome};
-ghost use Rattle.std.specs.Prelude.{IfNone, Bool};
+ghost use Rattle.std.specs.Prelude.{IfNone, Bool, length};
 ghost use Rattle.std.specs.Option.{IsSome};
 ghost use Rattle.sim_queue.specs.Pending.{Decides};
-ghost use Rattle.sim_queue.specs.inside.Lists.{IsLists};
+ghost use Rattle.sim_queue.specs.inside.Lists.{day, IsLists};
 ghost use Rattle.sim_queue.specs.inside.Taken.{HasBodies, IsLeastTaken};
 ghost use Rattle.sim_queue.specs.inside.Wheel.{key_at, HasNone, HasSame, HasSameBut, IsPlace};
 ghost use Rattle.sim_queue.specs.inside.Wheel.{IsFirst, HasMarks, Fits64, IsFrom, IsFloor};
@@ -81,8 +81,11 @@ impl Wheel {
     {
         let before = self.lists.spot(due, serial);
         self.lists.join(place + LISTS, before, due, serial);
-        self.marks.set(self.lists.day(due));
-        self.floor = self.floor.min(due);
+        // After another key in its list, the key's day is marked and it is not before the floor.
+        if before < LISTS {
+            self.marks.set(self.lists.day(due));
+            self.floor = self.floor.min(due);
+        }
     }
 
     /// Takes the key at a place out. Returns its due and its serial.
@@ -97,6 +100,21 @@ impl Wheel {
         self.marks
             .clear_if(node.before == node.after, self.lists.day(node.due));
         self.floor = floor_after(&self.lists, &self.marks, self.floor, node.due);
+        (node.due, node.serial)
+    }
+
+    /// Takes the first key out, which is at this place. Returns its due and its serial.
+    #[inline(always)]
+    pub(crate) fn remove_first(&mut self, place: u32) -> (u64, u64)
+        requires { IsFirst place self.old }
+        ensures key { key_at self.old place ≡ Some (result.0, result.1) }
+        ensures gone { key_at self.new place ≡ None }
+        ensures others { HasSameBut place self.old self.new }
+    {
+        let today = self.lists.day(self.floor);
+        let node = self.lists.leave(place + LISTS);
+        self.marks.clear_if(node.before == node.after, today);
+        self.floor = next_floor(&self.lists, &self.marks, node.due, today);
         (node.due, node.serial)
     }
 
@@ -147,6 +165,28 @@ fn floor_after(lists: &Lists, marks: &Marks, floor: u64, due: u64) -> u64
 {
     if due != floor {
         return floor;
+    }
+    least_from(lists, marks, floor)
+}
+
+// Returns the least due, given that none is before `floor`, which is today. Mostly the list of the
+// day still has a key that is due today.
+#[inline(always)]
+fn next_floor(lists: &Lists, marks: &Marks, floor: u64, today: u64) -> u64
+    requires narrow { lists.now.width ≤ 56 }
+    requires lists { IsLists lists.now.width lists.now.nodes.items }
+    requires made { 256 ≤ length lists.now.nodes.items }
+    requires marked { HasMarks lists.now.width marks.now.words lists.now.nodes.items }
+    requires from { IsFrom floor lists.now.nodes.items }
+    requires today { today ≡ day lists.now.width floor }
+    ensures { IsFloor result lists.now.nodes.items }
+{
+    let place = lists.nodes[(today % 256) as usize].after;
+    if place >= LISTS {
+        let due = lists.nodes[place as usize].due;
+        if lists.day(due) == today {
+            return due;
+        }
     }
     least_from(lists, marks, floor)
 }

@@ -16,9 +16,9 @@ loop-at-preserved c =
           (λ (before : i < at). c.loop-at.invariant.none i from before)
           (λ (ge : at ≤ i).
           let e : at + (i - at) ≡ i = omega arith in
-          let size : at + 8 - at ≡ 8 = omega arith in
-          let inside : i - at < 8 = omega arith in
-          let block : index_at (take 8 (drop at links)) (i - at) ≡ None = ap (λ (n : ℕ). index_at (take n (drop at links)) (i - at)) (sym size) ∙ c.are_none.ensures.none c.if-are_none.true (i - at) inside in
-          ap (λ (n : ℕ). index_at links n) (sym e) ∙ sym (get_or-drop at links (i - at) None) ∙ sym (get_or-take 8 (drop at links) (i - at) None inside) ∙ block)
+          let size : at + 16 - at ≡ 16 = omega arith in
+          let inside : i - at < 16 = omega arith in
+          let block : index_at (take 16 (drop at links)) (i - at) ≡ None = ap (λ (n : ℕ). index_at (take n (drop at links)) (i - at)) (sym size) ∙ c.are_none_of_two.ensures.none c.if-are_none_of_two.true (i - at) inside in
+          ap (λ (n : ℕ). index_at links n) (sym e) ∙ sym (get_or-drop at links (i - at) None) ∙ sym (get_or-take 16 (drop at links) (i - at) None inside) ∙ block)
           (cases_lt i at);
     }

@@ -1,12 +1,16 @@
-use Rattle.std.proofs.Common.{◌≡◌, ◌-◌, ◌≤◌, length, take}
+use Rattle.std.proofs.Common.{◌≡◌, ◌≢◌, ◌-◌, ◌<◌, ◌≤◌, None, length, take}
+use Rattle.std.specs.Vec.{vec_capacity}
 use Rattle.sim_queue.specs.Items.{items_from}
+use Rattle.sim_queue.specs.inside.Sparse.{index_at}
 use Rattle.sim_queue.proofs.slots.Slots.pack.Given as goal
 
-abbrev pub invariant-loop-place : goal.invariant-loop-place
-invariant-loop-place g l = record {
-  within : l.place ≤ length l.self.items;
-  items : l.items.items ≡ items_from l.self.base (take l.place l.self.items);
+abbrev pub invariant-loop-slot : goal.invariant-loop-slot
+invariant-loop-slot g l = record {
+  within : l.slot ≤ length l.places;
+  there : l.slot < length l.places → index_at l.places l.slot ≢ None;
+  items : l.items.items ≡ items_from l.self.base (take l.slot l.self.items);
+  room : vec_capacity l.items ≡ length (items_from l.self.base l.self.items);
 }
 
-abbrev pub decreases-loop-place : goal.decreases-loop-place
-decreases-loop-place g l = length l.self.items - l.place
+abbrev pub decreases-loop-slot : goal.decreases-loop-slot
+decreases-loop-slot g l = length l.places - l.slot

@@ -1,8 +1,8 @@
-use Rattle.std.proofs.Common.{◌≡◌, ◌⊎◌, ℕ, ◌+◌, ◌%◌, ◌<◌, ◌≤◌, min, sym, ap, ◌∙◌, arith, inl, inr, ⊎_elim}
+use Rattle.std.proofs.Common.{◌≡◌, ◌⊎◌, ℕ, ◌+◌, ◌%◌, ◌<◌, ◌≤◌, min, sym, ap, ◌∙◌, arith, inl, inr, ⊎_elim, refl}
 use Rattle.std.proofs.lemmas.Bool.{cases_lt}
 use Rattle.sim_queue.specs.inside.Lists.{day}
 use Rattle.sim_queue.specs.inside.Wheel.{keys_of, key_at, IsPlace}
-use Rattle.sim_queue.proofs.Turning.{fresh_node, free_place, put_wheel, kept_keys}
+use Rattle.sim_queue.proofs.Turning.{fresh_node, free_place, put_wheel, behind_key, kept_keys}
 use Rattle.sim_queue.proofs.wheel.Wheel.put.Goals as goal
 
 lesser : (a b m : ℕ) → m ≡ min a b → (m ≡ a) ⊎ (m ≡ b)
@@ -28,6 +28,22 @@ invariant_of-self c =
     (λ d q. c.set.ensures.set d (q ∙ sym low)) (λ d q. c.set.ensures.others d (λ e. q (e ∙ low)))
     (omega arith) (omega arith) (lesser c.self.inside.floor c.args.due c.min-self-inside.result least))
 
-pub returns-clause-others : goal.returns-clause-others
-returns-clause-others c k apart =
+pub invariant_of-self-else-before-lt-LISTS : goal.invariant_of-self-else-before-lt-LISTS
+invariant_of-self-else-before-lt-LISTS c =
+    let l = c.self.inside.lists in
+    let new = c.join.new.self in
+    let place : IsPlace c.args.place (keys_of l.nodes.items) = rw c.self.view_is c.requires.place in
+    let behind = behind_key l.width c.self.inside.floor c.self.inside.marks.words l.nodes.items c.self.invariant c.args.due c.args.serial c.spot-before.result c.spot-before.ensures
+    c.if-before-lt-LISTS.false c.requires.small in
+    rw c.join.ensures.width
+    (put_wheel l.width c.self.inside.floor c.self.inside.floor (c.args.place + 256) c.args.due c.args.serial c.self.inside.marks.words c.self.inside.marks.words l.nodes.items new.nodes.items
+    (free_place l.nodes.items c.args.place place) c.self.invariant (rw c.join.ensures.width at c.join.ensures.lists) c.join.ensures.size c.join.ensures.due c.join.ensures.serial c.requires.small
+    (omega arith) c.join.ensures.others behind.marked (λ d apart. refl) (omega arith) behind.late (inl refl))
+
+pub returns-then-before-lt-LISTS-clause-others : goal.returns-then-before-lt-LISTS-clause-others
+returns-then-before-lt-LISTS-clause-others c k apart =
+    kept_keys c.self.inside.lists.nodes.items c.join.new.self.nodes.items c.args.place c.join.ensures.others k apart ∙ ap (λ xs. key_at xs k) c.self.view_is
+
+pub returns-else-before-lt-LISTS-clause-others : goal.returns-else-before-lt-LISTS-clause-others
+returns-else-before-lt-LISTS-clause-others c k apart =
     kept_keys c.self.inside.lists.nodes.items c.join.new.self.nodes.items c.args.place c.join.ensures.others k apart ∙ ap (λ xs. key_at xs k) c.self.view_is
