@@ -1,8 +1,8 @@
 -- Nodes at places.
-use Rattle.std.proofs.Common.{◌≡◌, ◌≢◌, ℕ, zero, suc, ◌^◌, ◌<◌, ◌≤◌, List, [], ◌∷◌, refl, sym, ap, ◌∙◌, subst, arith, length, inl, inr, ⊎_elim}
+use Rattle.std.proofs.Common.{◌≡◌, ◌≢◌, ℕ, zero, suc, ◌^◌, ◌<◌, ◌≤◌, List, [], ◌∷◌, ◌++◌, take, drop, refl, sym, ap, ◌∙◌, subst, arith, length, inl, inr, ⊎_elim}
 use Rattle.std.proofs.Math.ListN.{get_or, set, length-set}
 use Rattle.std.proofs.lemmas.Bool.{cases_eq, cases_lt}
-use Rattle.std.proofs.lemmas.List.{get_or-set_same, get_or-set_other, get_or_default}
+use Rattle.std.proofs.lemmas.List.{get_or-set_same, get_or-set_other, get_or_default, take_all, append-nil}
 use Rattle.sim_queue.specs.declared.lists.Node.{Node}
 use Rattle.sim_queue.specs.inside.Lists.{node, no_node, HasKey, IsLinked, IsLists}
 
@@ -43,6 +43,17 @@ node_set nodes i x within = get_or-set_same nodes i x no_node within
 
 pub node_other : (nodes : List Node) (i j : ℕ) (x : Node) → j ≢ i → node (set nodes i x) j ≡ node nodes j
 node_other nodes i j x apart = get_or-set_other nodes i j x no_node apart
+
+-- what a vector holds after its elements were written as a slice
+past_end : {X : Type 0} (n : ℕ) (xs : List X) → length xs ≤ n → drop n xs ≡ []
+past_end zero [] h = refl
+past_end (suc n) [] h = refl
+past_end zero (x ∷ xs) h = absurd (omega arith)
+past_end (suc n) (x ∷ xs) h = past_end n xs (omega arith)
+
+pub written_back : {X : Type 0} (old new : List X) (len : ℕ) → len ≡ length old → length new ≡ length old → take len (new ++ drop (length new) old) ≡ new
+written_back old new len is size =
+    ap (λ ys. take len (new ++ ys)) (past_end (length new) old (omega arith)) ∙ ap (λ ys. take len ys) (append-nil new) ∙ take_all len new (omega arith)
 
 -- one node leads to another one behind it, and all else stays
 pub record SetsAfter (old new : List Node) (i v : ℕ) : Type 0 where

@@ -179,15 +179,16 @@ impl Lists {
         ensures width { self.new.width ≡ self.old.width }
         ensures size { length self.new.nodes.items ≡ length self.old.nodes.items }
     {
-        let after = self.nodes[before as usize].after;
-        self.nodes[place as usize] = Node {
+        let nodes = self.nodes.as_mut_slice();
+        let after = nodes[before as usize].after;
+        nodes[place as usize] = Node {
             due,
             serial,
             before,
             after,
         };
-        set_after(&mut self.nodes, before, place);
-        set_before(&mut self.nodes, after, place);
+        set_after(nodes, before, place);
+        set_before(nodes, after, place);
     }
 
     /// Removes the key of a node. Returns the node as it was.
@@ -204,10 +205,11 @@ impl Lists {
         ensures width { self.new.width ≡ self.old.width }
         ensures size { length self.new.nodes.items ≡ length self.old.nodes.items }
     {
-        let node = self.nodes[place as usize];
-        set_after(&mut self.nodes, node.before, node.after);
-        set_before(&mut self.nodes, node.after, node.before);
-        self.nodes[place as usize] = free_node(self.free);
+        let nodes = self.nodes.as_mut_slice();
+        let node = nodes[place as usize];
+        set_after(nodes, node.before, node.after);
+        set_before(nodes, node.after, node.before);
+        free_at(nodes, place, self.free);
         self.free = place;
         node
     }
@@ -277,22 +279,34 @@ fn is_behind(node: &Node, due: u64, serial: u64) -> bool
     due < node.due || (due == node.due && serial < node.serial)
 }
 
+// Makes the node at a place free. It leads to the next free one.
+#[inline(always)]
+fn free_at(nodes: &mut [Node], place: u32, next: u32)
+    requires { place < length nodes.old }
+    ensures { nodes.new ≡ slice_set nodes.old place
+        (record (node nodes.old place) { serial = 18446744073709551615; after = next }) }
+{
+    let node = &mut nodes[place as usize];
+    node.serial = NO_SERIAL;
+    node.after = next;
+}
+
 // Sets the place after the node at a place.
 #[inline(always)]
-fn set_after(nodes: &mut Vec<Node>, place: u32, after: u32)
-    requires { place < length nodes.old.items }
-    ensures { nodes.new.items ≡ slice_set nodes.old.items place
-        (record (node nodes.old.items place) { after = after }) }
+fn set_after(nodes: &mut [Node], place: u32, after: u32)
+    requires { place < length nodes.old }
+    ensures { nodes.new ≡ slice_set nodes.old place
+        (record (node nodes.old place) { after = after }) }
 {
     nodes[place as usize].after = after;
 }
 
 // Sets the place before the node at a place.
 #[inline(always)]
-fn set_before(nodes: &mut Vec<Node>, place: u32, before: u32)
-    requires { place < length nodes.old.items }
-    ensures { nodes.new.items ≡ slice_set nodes.old.items place
-        (record (node nodes.old.items place) { before = before }) }
+fn set_before(nodes: &mut [Node], place: u32, before: u32)
+    requires { place < length nodes.old }
+    ensures { nodes.new ≡ slice_set nodes.old place
+        (record (node nodes.old place) { before = before }) }
 {
     nodes[place as usize].before = before;
 }

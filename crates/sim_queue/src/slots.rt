@@ -151,6 +151,7 @@ impl<B> Slots<B> {
     }
 
     /// Puts a due and a body into an empty slot. After an error nothing has changed.
+    #[inline(always)]
     pub(crate) fn fill(&mut self, place: usize, due: u64, body: B) -> Result<(), NoMemory>
     where
         B: Drop,

@@ -136,6 +136,7 @@ impl<B> Store<B> {
     }
 
     /// Puts an item back. After an error nothing has changed.
+    #[inline(always)]
     pub(crate) fn add_back(&mut self, item: Item<B>) -> Result<(), NoMemory>
     where
         B: Drop,
