@@ -410,10 +410,45 @@ impl<N: Node> Tape<N> {
         }
     }
 
-    // Adds an event that can happen, at the end of a warm tape. The lists grow before the world
-    // moves: if the growth fails, the tape is as before.
+    // Adds an event that can happen, at the end of a warm tape. Nearly all events need no room and
+    // no checkpoint, and take the short way.
     #[inline(always)]
     fn add_warm(
+        &mut self,
+        alloc: Global,
+        event: Event,
+        meter: &mut N::Meter,
+    ) -> Result<(), AddError>
+        requires warm { IsTrue self.old.warm }
+        requires end { self.old.place ≡ length self.old.events }
+        requires room { length self.old.events < 65536 }
+        requires can { refusal_of (rules_of N.laws N.PROBES self.old) event
+            (world_of (rules_of N.laws N.PROBES self.old) self.old) ≡ None }
+        ensures ok { OnOk result (self.new ≡ with_world true (raised 1 self.old)
+            (with_event event self.old)) }
+        ensures clock { OnOk result ((world_of (rules_of N.laws N.PROBES self.old) self.new).clock ≡
+            clock_after event (world_of (rules_of N.laws N.PROBES self.old) self.old)) }
+        ensures on { OnOk result ((world_of (rules_of N.laws N.PROBES self.old) self.old).clock ≤
+            (world_of (rules_of N.laws N.PROBES self.old) self.new).clock) }
+        ensures work { OnOk result (AddsAtEnd N.laws N.PROBES event self.old
+            (N.Meter.work meter.old) (N.Meter.work meter.new)) }
+        ensures err { OnErr result (KeepsRun self.old self.new) }
+        ensures growth { IfErr result (λ why. why ≡ AddError.Growth → self.new ≡ self.old) }
+    {
+        if !self.log.goes_on() {
+            return self.add_at_seam(alloc, event, meter);
+        }
+        let (clock, _) = self.walk.step(alloc, &self.log, event, false, meter)?;
+        self.log.push(Entry { event, clock });
+        self.place += 1;
+        Ok(())
+    }
+
+    // Adds an event as `add_warm` does, also where the lists have to grow or the event ends an
+    // interval. They grow before the world moves: if the growth fails, the tape is as before.
+    #[cold]
+    #[inline(never)]
+    fn add_at_seam(
         &mut self,
         alloc: Global,
         event: Event,

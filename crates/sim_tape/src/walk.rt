@@ -49,6 +49,17 @@ fn shared_copy<N: Node>(
     Ok(Arc::new(alloc, copy)?)
 }
 
+// Puts a world where there is none, so that no code to drop one is run there.
+#[inline(always)]
+fn put<N: Node>(place: &mut Option<World<N>>, world: World<N>)
+    requires { place.old ≡ None }
+    ensures { place.new ≡ Some world }
+{
+    if let Some(_) = place.replace(world) {
+        unreachable!()
+    }
+}
+
 // Returns the world after an event that can happen, without a record. The records in the ring are
 // useless then.
 #[inline(always)]
@@ -505,6 +516,7 @@ impl<N: Node> Walk<N> {
     /// Walks on by an event that is about to be added to the log. Returns the clock after it (ms)
     /// and, if wanted, a copy of the world after it. Fails only for want of memory; there is no
     /// world then.
+    #[inline(always)]
     pub fn step(
         &mut self,
         alloc: Global,
@@ -551,7 +563,7 @@ impl<N: Node> Walk<N> {
             Ok(after) => {
                 let copy = self.mark(alloc, &after, asked, meter)?;
                 let clock = after.clock();
-                self.world = Some(after);
+                put(&mut self.world, after);
                 Ok((clock, copy))
             }
             Err(refused) => {

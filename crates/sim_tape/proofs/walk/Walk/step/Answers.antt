@@ -15,7 +15,7 @@ returns-in_ok-copy-in-Ok-clause-ok g c =
     let w = c.in-Some.world in
     let v = c.in-Ok.ensures in
     let here = walk_here g.N.Node.told g.N.Node.records r (events_of log.entries) (length log.entries) old.world old.ring.items w c.requires.walk (sym c.take.ensures.value ∙ c.in-Some.is) in
-    rw (c.in_ok-copy-in-Ok.ensures.ring, v.kept.kept)
+    rw (c.put.ensures, c.in_ok-copy-in-Ok.ensures.ring, v.kept.kept)
     (stepped_walk g.N.Node.told g.N.Node.records g.N.Node.laws g.N.Node.PROBES log.scenario log.entries c.args.event old.world w c.in-Ok.after old.ring.items v.kept.undo old.ring.capacity
     c.requires.walk here v.kept.answers v.scenario v.age v.kept.leads v.kept.acted)
 
