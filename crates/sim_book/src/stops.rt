@@ -107,6 +107,7 @@ pub(crate) fn stop<N: Node>(
     asked: bool,
 ) -> Option<Stop>
     requires warm { IsTrue tape.now.warm }
+    requires place { tape.now.place ≡ length tape.now.events }
     requires few { end ≤ 8 }
     requires none { NoneFrom end watches.now }
     requires checked { AreChecked tape.now.scenario.setup.hosts N.PROBES watches.now }
@@ -120,7 +121,7 @@ pub(crate) fn stop<N: Node>(
     } else {
         failing(watches, end, world)
     };
-    first_stop(failing, asked, tape.len(), world)
+    first_stop(failing, asked, tape.place(), world)
 }
 
 /// Returns the lowest free number of a watch.
