@@ -295,11 +295,15 @@ impl<B> Slots<B> {
         let bodies = self.bodies.as_slice();
         let mut slot = next_place(places, skip_blocks(places, 0));
         while slot < places.len() {
-            let at = places[slot].get().unwrap();
+            // Mostly the item in the next slot is still there.
+            let Some(at) = places[slot].get() else {
+                slot = next_place(places, slot + 1);
+                continue;
+            };
             let (due, serial) = self.wheel.key(at);
             let body = bodies[at as usize].as_ref().unwrap();
             push_copy(&mut items, due, serial, body, each)?;
-            slot = next_place(places, slot + 1);
+            slot += 1;
         }
         Ok(items)
     }

@@ -28,7 +28,6 @@ loop-slot-init g c =
     (cases_lt j c.skip_blocks.result) in
     record {
       within = c.next_place-slot.ensures.within;
-      there = c.next_place-slot.ensures.there;
       items = packed_to c.args.self.now.base 0 to items c.in_ok-items.items.items (omega arith) within
           (λ j ge lt. ap (λ s. at s j) (sym slots) ∙ empty_slot keys bodies places j (ap (λ (xs : List (Option ℕ)). index_at xs j) (sym read) ∙ none j lt))
           c.in_ok-items.ensures.items;
@@ -41,9 +40,9 @@ key-due-requires g c =
     let bodies = c.self.inside.bodies.items in
     let places : List (Option ℕ) = c.self.inside.places.items in
     let i = c.loop-slot.slot in
-    let k = c.unwrap-at.result in
+    let k = c.in-Some.at in
     let read : c.as_slice-places.result.now ≡ places = c.as_slice-places.ensures.value in
-    let spot : index_at c.as_slice-places.result.now i ≡ Some k = read_index c.as_slice-places.result.now i c.index-places-slot.result c.loop-slot-test.true c.index-places-slot.is ∙ sym c.get.ensures.place ∙ c.unwrap-at.ensures in
+    let spot : index_at c.as_slice-places.result.now i ≡ Some k = read_index c.as_slice-places.result.now i c.index-places-slot.result c.loop-slot-test.true c.index-places-slot.is ∙ sym c.in-Some.ensures.place in
     let here : index_at places i ≡ Some k = subst (λ (xs : List (Option ℕ)). index_at xs i ≡ Some k) read spot in
     let x = c.self.invariant.found i k here in
     ap (λ o. is_some o) x.key
@@ -54,9 +53,9 @@ offset_bounds-bodies-at g c =
     let bodies = c.self.inside.bodies.items in
     let places : List (Option ℕ) = c.self.inside.places.items in
     let i = c.loop-slot.slot in
-    let k = c.unwrap-at.result in
+    let k = c.in-Some.at in
     let read : c.as_slice-places.result.now ≡ places = c.as_slice-places.ensures.value in
-    let spot : index_at c.as_slice-places.result.now i ≡ Some k = read_index c.as_slice-places.result.now i c.index-places-slot.result c.loop-slot-test.true c.index-places-slot.is ∙ sym c.get.ensures.place ∙ c.unwrap-at.ensures in
+    let spot : index_at c.as_slice-places.result.now i ≡ Some k = read_index c.as_slice-places.result.now i c.index-places-slot.result c.loop-slot-test.true c.index-places-slot.is ∙ sym c.in-Some.ensures.place in
     let here : index_at places i ≡ Some k = subst (λ (xs : List (Option ℕ)). index_at xs i ≡ Some k) read spot in
     let x = c.self.invariant.found i k here in
     let within = spot_within bodies k x.body x.there in
@@ -68,9 +67,9 @@ bounds-bodies-at g c =
     let bodies = c.self.inside.bodies.items in
     let places : List (Option ℕ) = c.self.inside.places.items in
     let i = c.loop-slot.slot in
-    let k = c.unwrap-at.result in
+    let k = c.in-Some.at in
     let read : c.as_slice-places.result.now ≡ places = c.as_slice-places.ensures.value in
-    let spot : index_at c.as_slice-places.result.now i ≡ Some k = read_index c.as_slice-places.result.now i c.index-places-slot.result c.loop-slot-test.true c.index-places-slot.is ∙ sym c.get.ensures.place ∙ c.unwrap-at.ensures in
+    let spot : index_at c.as_slice-places.result.now i ≡ Some k = read_index c.as_slice-places.result.now i c.index-places-slot.result c.loop-slot-test.true c.index-places-slot.is ∙ sym c.in-Some.ensures.place in
     let here : index_at places i ≡ Some k = subst (λ (xs : List (Option ℕ)). index_at xs i ≡ Some k) read spot in
     let x = c.self.invariant.found i k here in
     subst (λ xs. k < length xs) (sym c.as_slice-bodies.ensures.value) (spot_within bodies k x.body x.there)
@@ -81,9 +80,9 @@ unwrap-body-requires g c =
     let bodies = c.self.inside.bodies.items in
     let places : List (Option ℕ) = c.self.inside.places.items in
     let i = c.loop-slot.slot in
-    let k = c.unwrap-at.result in
+    let k = c.in-Some.at in
     let read : c.as_slice-places.result.now ≡ places = c.as_slice-places.ensures.value in
-    let spot : index_at c.as_slice-places.result.now i ≡ Some k = read_index c.as_slice-places.result.now i c.index-places-slot.result c.loop-slot-test.true c.index-places-slot.is ∙ sym c.get.ensures.place ∙ c.unwrap-at.ensures in
+    let spot : index_at c.as_slice-places.result.now i ≡ Some k = read_index c.as_slice-places.result.now i c.index-places-slot.result c.loop-slot-test.true c.index-places-slot.is ∙ sym c.in-Some.ensures.place in
     let here : index_at places i ≡ Some k = subst (λ (xs : List (Option ℕ)). index_at xs i ≡ Some k) read spot in
     let x = c.self.invariant.found i k here in
     let b = c.index-bodies-at.result in
@@ -96,9 +95,9 @@ push_copy-requires-clause-room g c =
     let bodies = c.self.inside.bodies.items in
     let places : List (Option ℕ) = c.self.inside.places.items in
     let i = c.loop-slot.slot in
-    let k = c.unwrap-at.result in
+    let k = c.in-Some.at in
     let read : c.as_slice-places.result.now ≡ places = c.as_slice-places.ensures.value in
-    let spot : index_at c.as_slice-places.result.now i ≡ Some k = read_index c.as_slice-places.result.now i c.index-places-slot.result c.loop-slot-test.true c.index-places-slot.is ∙ sym c.get.ensures.place ∙ c.unwrap-at.ensures in
+    let spot : index_at c.as_slice-places.result.now i ≡ Some k = read_index c.as_slice-places.result.now i c.index-places-slot.result c.loop-slot-test.true c.index-places-slot.is ∙ sym c.in-Some.ensures.place in
     let here : index_at places i ≡ Some k = subst (λ (xs : List (Option ℕ)). index_at xs i ≡ Some k) read spot in
     let x = c.self.invariant.found i k here in
     let there : at c.args.self.now.items i ≡ Some (x.due, x.body) = ap (λ (s : SlotList _). at s.items i) (sym c.self.view_is) ∙ found_slot keys bodies places i k (c.self.inside.base + i) here x in
@@ -113,16 +112,15 @@ loop-slot-preserved g c =
     let bodies = c.self.inside.bodies.items in
     let places : List (Option ℕ) = c.self.inside.places.items in
     let i = c.loop-slot.slot in
-    let k = c.unwrap-at.result in
+    let k = c.in-Some.at in
     let read : c.as_slice-places.result.now ≡ places = c.as_slice-places.ensures.value in
-    let spot : index_at c.as_slice-places.result.now i ≡ Some k = read_index c.as_slice-places.result.now i c.index-places-slot.result c.loop-slot-test.true c.index-places-slot.is ∙ sym c.get.ensures.place ∙ c.unwrap-at.ensures in
+    let spot : index_at c.as_slice-places.result.now i ≡ Some k = read_index c.as_slice-places.result.now i c.index-places-slot.result c.loop-slot-test.true c.index-places-slot.is ∙ sym c.in-Some.ensures.place in
     let here : index_at places i ≡ Some k = subst (λ (xs : List (Option ℕ)). index_at xs i ≡ Some k) read spot in
     let x = c.self.invariant.found i k here in
     let b = c.index-bodies-at.result in
     let there : body_at bodies k ≡ b = read_body bodies k b (spot_within bodies k x.body x.there) (subst (λ xs. b ≡ get_or xs k b) c.as_slice-bodies.ensures.value c.index-bodies-at.is) in
     let items = c.args.self.now.items in
     let base = c.args.self.now.base in
-    let to = c.next_place-slot-in-loop-slot.result in
     let due = c.key-due.result.0 in
     let serial = c.key-due.result.1 in
     let slots : slots_of keys bodies places ≡ items = ap (λ (s : SlotList _). s.items) c.self.view_is in
@@ -130,7 +128,6 @@ loop-slot-preserved g c =
     let size : length c.as_slice-places.result.now ≡ length items =
     ap (λ (xs : List (Option ℕ)). length xs) read ∙ sym (length_slots keys bodies places) ∙ ap (λ s. length s) slots in
     let in_slots : i < length items = subst (λ (n : ℕ). i < n) size c.loop-slot-test.true in
-    let within : to ≤ length items = subst (λ (n : ℕ). to ≤ n) size c.next_place-slot-in-loop-slot.ensures.within in
     let same : (x.due, c.self.inside.base + i) ≡ (due, serial) = same_Some (x.due, c.self.inside.base + i) (due, serial) (sym x.key ∙ c.key-due.ensures) in
     let serial_is : serial ≡ base + i = sym (ap (λ (q : ℕ × ℕ). q.1) same) ∙ ap (λ (n : ℕ). n + i) base_is in
     let copied : body_at bodies k ≡ Some c.unwrap-body.result.now = there ∙ sym c.as_ref.ensures.value ∙ ap (λ o. option_copied o) c.unwrap-body.ensures in
@@ -139,10 +136,35 @@ loop-slot-preserved g c =
     c.in_ok-push_copy.ensures.items ∙ ap (λ (n : ℕ). c.loop-slot.items.items ++ item_of n (due, c.unwrap-body.result.now) ∷ []) serial_is
     ∙ packed_more base i (Some (due, c.unwrap-body.result.now)) items c.loop-slot.items.items in_slots entry c.loop-slot.invariant.items in
     record {
-      within = c.next_place-slot-in-loop-slot.ensures.within;
-      there = c.next_place-slot-in-loop-slot.ensures.there;
-      items = packed_to base (i + 1) to items c.push_copy.new.items.items c.next_place-slot-in-loop-slot.ensures.order within
-          (λ j ge lt. ap (λ s. at s j) (sym slots) ∙ empty_slot keys bodies places j (ap (λ (xs : List (Option ℕ)). index_at xs j) (sym read) ∙ c.next_place-slot-in-loop-slot.ensures.none j ge lt))
-          more;
+      within = omega arith;
+      items = more;
       room = rw c.push_copy.ensures.capacity c.loop-slot.invariant.room;
+    }
+
+pub loop-slot-preserved-in_default : goal.loop-slot-preserved-in_default
+loop-slot-preserved-in_default g c =
+    let keys = c.self.inside.wheel in
+    let bodies = c.self.inside.bodies.items in
+    let places : List (Option ℕ) = c.self.inside.places.items in
+    let i = c.loop-slot.slot in
+    let to = c.next_place-slot-in_default.result in
+    let items = c.args.self.now.items in
+    let read : c.as_slice-places.result.now ≡ places = c.as_slice-places.ensures.value in
+    let slots : slots_of keys bodies places ≡ items = ap (λ (s : SlotList _). s.items) c.self.view_is in
+    let size : length c.as_slice-places.result.now ≡ length items =
+    ap (λ (xs : List (Option ℕ)). length xs) read ∙ sym (length_slots keys bodies places) ∙ ap (λ s. length s) slots in
+    let within : to ≤ length items = subst (λ (n : ℕ). to ≤ n) size c.next_place-slot-in_default.ensures.within in
+    let here : index_at c.as_slice-places.result.now i ≡ None =
+    read_index c.as_slice-places.result.now i c.index-places-slot.result c.loop-slot-test.true c.index-places-slot.is ∙ sym c.in_default.ensures.place in
+    let none : (j : ℕ) → i ≤ j → j < to → index_at c.as_slice-places.result.now j ≡ None = λ j ge lt. ⊎_elim
+    (λ (at_i : j < i + 1). let e : i ≡ j = omega arith in subst (λ (n : ℕ). index_at c.as_slice-places.result.now n ≡ None) e here)
+    (λ (later : i + 1 ≤ j). c.next_place-slot-in_default.ensures.none j later lt)
+    (cases_lt j (i + 1)) in
+    let order : i + 1 ≤ to = c.next_place-slot-in_default.ensures.order in
+    record {
+      within = c.next_place-slot-in_default.ensures.within;
+      items = packed_to c.args.self.now.base i to items c.loop-slot.items.items (omega arith) within
+          (λ j ge lt. ap (λ s. at s j) (sym slots) ∙ empty_slot keys bodies places j (ap (λ (xs : List (Option ℕ)). index_at xs j) (sym read) ∙ none j ge lt))
+          c.loop-slot.invariant.items;
+      room = c.loop-slot.invariant.room;
     }

@@ -1,13 +1,11 @@
-use Rattle.std.proofs.Common.{◌≡◌, ◌≢◌, ◌-◌, ◌<◌, ◌≤◌, None, length, take}
+use Rattle.std.proofs.Common.{◌≡◌, ◌-◌, ◌≤◌, length, take}
 use Rattle.std.specs.Vec.{vec_capacity}
 use Rattle.sim_queue.specs.Items.{items_from}
-use Rattle.sim_queue.specs.inside.Sparse.{index_at}
 use Rattle.sim_queue.proofs.slots.Slots.pack.Given as goal
 
 abbrev pub invariant-loop-slot : goal.invariant-loop-slot
 invariant-loop-slot g l = record {
   within : l.slot ≤ length l.places;
-  there : l.slot < length l.places → index_at l.places l.slot ≢ None;
   items : l.items.items ≡ items_from l.self.base (take l.slot l.self.items);
   room : vec_capacity l.items ≡ length (items_from l.self.base l.self.items);
 }
