@@ -31,7 +31,7 @@ MEMORY_OF_A_CHECK = 4 << 30
 
 # The work of a crate, in lines, from which on its check gets all processors but one. The largest
 # crates stand on each other, and all others wait for them.
-LARGE = 3000
+LARGE = 3400
 
 
 def cited_crates():
