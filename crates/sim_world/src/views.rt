@@ -227,6 +227,7 @@ impl<N: Node> World<N> {
     /// Fails with the reason if an event cannot happen: a fault names a host that does not exist,
     /// or a fault of a link one host twice; nothing is pending for a step; a time to advance to is
     /// earlier than the clock, more than 60,000 ms later, or after the first due.
+    #[inline]
     pub fn can(&self, event: Event) -> Result<(), Refusal>
         ensures answer { MatchResult result (λ _.
             refusal_of (rules N.laws N.PROBES self.now.scenario) event self.now.world ≡ None)
