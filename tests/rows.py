@@ -1,11 +1,13 @@
 #!/usr/bin/env python3
 """Writes some cases of tests/fuzz.py with their outputs, for the test `cases` of the gate.
 
-    tests/rows.py             writes crates/test_program/src/cases/plays.rt and jobs.rt
+    tests/rows.py             writes plays.rt, jobs.rt and runs.rt in crates/test_program/src/cases
     tests/rows.py --check     writes nothing, and exits with 1 if a file has another text
 
-For each kind the first short cases are taken. There are none of a limit, whose texts are long, of a
-shrunk run, which has more than one right answer, and of a wrong command line, which is no job.
+For each kind the first short cases are taken, of logs and scripts only those that are not refused,
+and of scripts only those whose events depend on the seed of their run. There are none of a limit,
+whose texts are long, of a shrunk run, which has more than one right answer, and of a wrong command
+line, which is no job.
 
 A case begins with `^`, its number and the exit status. The words of the command line follow, one on
 a line, then `~` and the input, then `~` and the output.
@@ -13,9 +15,11 @@ a line, then `~` and the input, then `~` and the output.
 
 import pathlib
 import sys
+import unittest.mock
 
 sys.dont_write_bytecode = True
 
+from oracle import hunts  # noqa: E402
 from oracle.cases import Case  # noqa: E402
 
 FOLDER = pathlib.Path(__file__).resolve().parent.parent / "crates/test_program/src/cases"
@@ -23,10 +27,11 @@ FOLDER = pathlib.Path(__file__).resolve().parent.parent / "crates/test_program/s
 # For each file, how many cases of each kind it has.
 FILES = {
     "plays": {"play": 10, "scenario": 3, "strict": 2},
-    "jobs": {"search": 4, "sweep": 4, "planned": 5, "log": 3, "script": 3},
+    "jobs": {"search": 4, "sweep": 4, "planned": 5},
+    "runs": {"log": 4, "script": 3},
 }
 # The most lines and columns of a case, input and output together.
-MOST_LINES = 36
+MOST_LINES = {"plays": 36, "jobs": 36, "runs": 104}
 MOST_COLUMNS = 90
 
 HEAD = """\
@@ -36,24 +41,39 @@ pub const {name}: &str = r#"\
 """
 
 
-def chosen(counts):
-    """Returns this many cases of each kind, by their numbers."""
+def chosen(name, counts):
+    """Returns this many cases of each kind for the file of a name, by their numbers."""
     left, cases, number = dict(counts), [], 0
     while any(left.values()):
         case = Case(number)
         number += 1
         if left.get(case.kind):
             case.make()
-            if is_short(case):
+            if is_short(case, MOST_LINES[name]) and (name != "runs" or is_telling(case)):
                 left[case.kind] -= 1
                 cases.append(case)
     return cases
 
 
-def is_short(case):
+def is_telling(case):
+    """Returns whether a log or a script is of a run, and a script of one that goes by its seed."""
+    _output, status = case.expected()
+    return status == 0 and (case.kind != "script" or goes_by_its_seed(case))
+
+
+def goes_by_its_seed(case):
+    """Returns whether a script is another one if its run draws latencies and losses as run 0."""
+    other, worlds = Case(case.number), hunts.worlds
+    with unittest.mock.patch.object(
+            hunts, "worlds", lambda scenario, events: worlds(scenario.numbered(0), events)):
+        other.make()
+        return other.expected() != case.expected()
+
+
+def is_short(case, most_lines):
     """Returns whether a case is a few short lines of printable ASCII without the marks of a row."""
     lines = row(case).encode("utf-8", "replace")[1:].split(b"\n")
-    return len(lines) <= MOST_LINES and all(
+    return len(lines) <= most_lines and all(
         len(line) <= MOST_COLUMNS and not any(mark in line for mark in (b"^", b'"#'))
         and all(32 <= byte < 127 for byte in line) for line in lines) and row(case).count("~") == 2
 
@@ -70,7 +90,7 @@ def main():
     status = 0
     for name, counts in FILES.items():
         file = FOLDER / f"{name}.rt"
-        text = HEAD.format(name=name.upper()) + "".join(map(row, chosen(counts))) + '"#;\n'
+        text = HEAD.format(name=name.upper()) + "".join(map(row, chosen(name, counts))) + '"#;\n'
         if sys.argv[1:] != ["--check"]:
             FOLDER.mkdir(parents=True, exist_ok=True)
             file.write_text(text)

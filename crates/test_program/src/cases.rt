@@ -1,14 +1,16 @@
 //! Random cases with the outputs of a plain simulator, `tests/oracle`, which shares no code and no
-//! definition with the program, and is not proved. `plays` and `jobs` have the cases, which
+//! definition with the program, and is not proved. `plays`, `jobs` and `runs` have the cases, which
 //! tests/rows.py writes; tests/fuzz.py tries any number of others.
 //!
 //! What the tests catch: a definition of a world, a node, a play, a search, a plan, a log or a
 //! script that is not the one that was meant, in code and contract alike; a job that gives up.
 mod jobs;
 mod plays;
+mod runs;
 
 use crate::cases::jobs::JOBS;
 use crate::cases::plays::PLAYS;
+use crate::cases::runs::RUNS;
 use crate::perform::hunts::performed;
 use sim_job::request;
 use std::alloc::{AllocError, Global};
@@ -69,4 +71,5 @@ fn cases(rt: HostRuntime) {
     let alloc = rt.alloc();
     check(&rt, alloc, PLAYS);
     check(&rt, alloc, JOBS);
+    check(&rt, alloc, RUNS);
 }

@@ -59,32 +59,6 @@ look
 run 0
 run 26
 ~first 8
-^415 2
-log
---from
-19
-~format = 1
-seed = "c75677e6f24eaac32dad68226ecf5710d3edbaf0d4ee098ce028230b2e1b54f6"
-protocol = "primary_backup"
-tick = 48
-latency_min = 10
-latency_max = 10
-loss = 82
-servers = ["s0", "s1", "s2"]
-checkpoint = 7
-window = 2
-
-[[client]]
-name = "client0"
-ops = 6
----
-bounce s1
-crash s1
-look probe client0 applied
-run 2
-step
-cut
-~bad range
 ^422 0
 search
 4
@@ -245,33 +219,6 @@ run 4
 repair and zz
 crash and
 ~seed 295 place 5
-^899 2
-log
---from
-18
-~format = 1
-seed = "1cd19895fb91258f7d204dd10b986e533e5dae0662b993bad091cd967587c526"
-protocol = "echo"
-tick = 45588
-latency_min = 41
-latency_max = 63
-loss = 0
-servers = ["all", "step"]
-checkpoint = 737
-window = 1
-
-[[client]]
-name = "count"
-ops = 1
-
-[[client]]
-name = "x9"
-ops = 1
----
-tick
-look host all
-rewind 4
-~bad range
 ^1023 0
 sweep
 910
@@ -399,40 +346,6 @@ look
 look next
 @3 back 7
 ~bad range
-^1597 2
-log
---from
-6
---to
-18
-~format = 1
-seed = "a549d0fdf21b946c5928b1c3dcbeb1c99325e7917c93d3dca0e64343126191eb"
-protocol = "abd"
-tick = 94
-latency_min = 36
-latency_max = 69
-loss = 0
-servers = ["step", "by"]
-checkpoint = 1
-window = 4096
-
-[[client]]
-name = "differ"
-ops = 4
-
-[[client]]
-name = "not"
-ops = 1
----
-tick
-bounce by
-look
-crash step
-trace
-run 1
-run 4
-back 4
-~bad range
 ^2363 2
 sweep
 0
@@ -491,95 +404,4 @@ checkpoint = 1
 ---
 rewind 49
 ~seed 929 place 4
-^14373 2
-script
---faults
-65537
---quiet
-8
-901
-17
-~format = 1
-seed = "64f0246cf223c8dd5ebaf66ebccd8dcbea22ec853f133a37e50a4f965029d8f9"
-protocol = "primary_backup"
-tick = 34410
-latency_min = 21
-latency_max = 23
-loss = 1000
-servers = ["or", "count", "unless", "differ"]
-checkpoint = 3
-window = 7
-
-[[client]]
-name = "q"
-ops = 4
----
-look next
-look probe q applied
-@1 unwatch 8
-branch 15
-look
-watch count next != 1000000000000000000 >= 1
-rewind 15
-@2 look host unless
-branch 14
-~bad range
-^23037 2
-script
---faults
-65537
-0
-43
-~format = 2
-seed = "bfe15b911e1d802495a12f663150af10e6ab7778f3cf696af10da53b213946ca"
-protocol = "two_phase"
-tick = 172
-latency_min = 10
-latency_max = 10
-loss = 493
-servers = ["s0", "s1", "s2", "s3"]
-checkpoint = 1024
-window = 4096
-disk_latency = 5
-
-[[client]]
-name = "client0"
-ops = 2
-
-[[client]]
-name = "client1"
-ops = 2
-
-[[client]]
-name = "client2"
-ops = 1
----
-@3 watch up s1 or s3.next >= 4001~bad range
-^26860 2
-script
---faults
-8
---quiet
-5
-819
-65530
-~format = 1
-seed = "f02d616c8da13be75d1b7e05d16dd5948b1bc80c764ffbc4a9fc4a52977f5f10"
-protocol = "two_phase"
-tick = 193
-latency_min = 23
-latency_max = 34
-loss = 0
-servers = ["up", "m1", "q", "step"]
-checkpoint = 38
-window = 4096
-
-[[client]]
-name = "m2"
-ops = 40
----
-watch not up m2
-@2 partition m2 m2
-crash s0 s1
-~bad range
 "#;

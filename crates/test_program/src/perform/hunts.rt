@@ -5,6 +5,8 @@ ghost use Rattle.sim_job.specs.CommandLine.{HasFewWorkers};
 use sim_cli::Shipped;
 use sim_perform::{FaultPlan, Job, Status, Team, perform};
 use std::alloc::Global;
+use std::io;
+use std::io::{ErrorKind, Read};
 use std::process::Abort;
 use std::rt::Clock;
 use std::sync::Wait;
@@ -77,8 +79,38 @@ pub fn sweep(workers: u64, first: u64, count: u64, events: u64, cond: &str) -> J
     }
 }
 
-// Returns the status and the output of a job over an input. All tests call `perform` here: the
-// prover takes two minutes for each call of it over the protocols that ship.
+// Gives a text, and then its end, or an error if `fails`.
+#[derive(Drop)]
+struct Text<'a> {
+    rest: &'a [u8],
+    fails: bool,
+}
+
+impl Read for Text<'_> {
+    fn read(&mut self, buf: &mut [u8]) -> io::Result<usize> {
+        if self.fails && self.rest.is_empty() {
+            return Err(io::Error::from(ErrorKind::Other));
+        }
+        self.rest.read(buf)
+    }
+}
+
+// Returns the status and the output of a job over what a reader gives. All tests call `perform`
+// here: the prover takes two minutes for each call of it over the protocols that ship.
+fn performed_over<R: Threads + Wait + Sync + Clock + Eprint>(
+    rt: &R,
+    alloc: Global,
+    job: &Job<'_>,
+    reader: &mut Text<'_>,
+) -> (Status, Vec<u8>)
+    requires { HasFewWorkers job.now }
+{
+    let mut written = Vec::new(alloc);
+    let ended = perform::<Shipped, R, _, _>(rt, alloc, job, reader, &mut written);
+    (ended, written)
+}
+
+// Returns the status and the output of a job over an input.
 pub fn performed<R: Threads + Wait + Sync + Clock + Eprint>(
     rt: &R,
     alloc: Global,
@@ -87,10 +119,11 @@ pub fn performed<R: Threads + Wait + Sync + Clock + Eprint>(
 ) -> (Status, Vec<u8>)
     requires { HasFewWorkers job.now }
 {
-    let mut reader = input.as_bytes();
-    let mut written = Vec::new(alloc);
-    let ended = perform::<Shipped, R, _, _>(rt, alloc, job, &mut reader, &mut written);
-    (ended, written)
+    let mut reader = Text {
+        rest: input.as_bytes(),
+        fails: false,
+    };
+    performed_over(rt, alloc, job, &mut reader)
 }
 
 // Returns whether a job over an input ends with this status, and writes this.
@@ -132,6 +165,18 @@ fn searches_of_the_first_run(rt: HostRuntime) {
         let job = search(workers, 0, 7, "up a");
         is_answered(&rt, alloc, job, Status::BadRequest, "bad range\n");
     }
+}
+
+// A search whose script cannot be read to its end has no run to look at.
+#[test]
+fn writes_nothing_after_a_failed_read(rt: HostRuntime) {
+    let mut reader = Text {
+        rest: BASE.as_bytes(),
+        fails: true,
+    };
+    let job = search(2, 0, 6, "w.next <= 1");
+    let (ended, written) = performed_over(&rt, rt.alloc(), &job, &mut reader);
+    assert!(rt; ended == Status::ReaderFailed && written.is_empty());
 }
 
 #[test]
