@@ -10,3 +10,6 @@ pub mod Places
 pub mod Judging
 pub mod StrictRuns
 pub mod WholeStrictly
+pub mod Follows
+mod FirstRun
+mod Fronts

@@ -8,3 +8,5 @@ pub mod Subjects
 pub mod Plain
 pub mod Statuses
 pub mod Strict
+pub mod Following
+pub mod Played

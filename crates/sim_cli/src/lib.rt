@@ -10,6 +10,9 @@
 //! - [`answer_lines`] is the loop over the lines of a script, on a book of the caller's.
 //! - [`play_strictly`] is a play that ends with the answer to the first line of its script that is
 //!   at fault: a [`ScriptFault`], which [`tell_fault`] reports on standard error.
+//! - [`follow`] carries out a script and writes no answers. [`played`] does it on a new book, and
+//!   returns all kept events of its first branch; [`given_events`] returns these as a list. Strictly,
+//!   the first line at fault ends the script with a [`ScriptStop`].
 //! - [`Status`] says how a play ended; its number is the exit status of the program.
 //! - [`explain_fault`] explains on standard error why a text is no scenario; [`open`] calls it.
 //!   [`report_condition`] says there why words are no condition.
@@ -32,34 +35,43 @@
 //! - A list of subjects is a type and not a value. So each task is compiled for each type of nodes,
 //!   and no call goes through a pointer. `Subjects::carry_out` is the one place where a protocol
 //!   becomes a type of nodes: a new task needs no `match` over protocols.
-//! - The crate needs no threads and no clock. Searches and sweeps, which do, are in `sim_perform`.
+//! - The crate needs no threads and no clock. Searches and sweeps, which do, are in `sim_hunt`.
 //! - Want of memory before the first line of the script ends the play with status 4 before anything
 //!   is written.
+//! - A script that is followed without answers ends if a command wants memory. With the loop of a
+//!   play and a writer that drops its text, a search would go on over a run that the script does not
+//!   describe.
 #![tactic(auto)]
 
 mod answering;
 mod explaining;
 mod fault;
+mod following;
 mod opened;
 mod opening;
 mod playing;
 mod reasons;
 mod scenario;
+mod script_run;
 mod shipped;
 mod status;
+mod stop;
 mod strictly;
 mod subjects;
 
 pub use answering::{answer_lines, turn_of};
 pub use explaining::explain_fault;
 pub use fault::{LineFault, ScriptFault, fault_of_turn, tell_fault, tells_want};
+pub use following::follow;
 pub use opened::Opened;
 pub use opening::{open, set_up, write_text};
 pub use playing::{Playing, play};
 pub use reasons::report_condition;
 pub use scenario::{WasRead, read_scenario};
+pub use script_run::{given_events, played};
 pub use shipped::{AbdSubject, BackupSubject, CommitSubject, EchoSubject, Shipped};
 pub use sim_tally::Tally;
 pub use status::{Answered, Status};
+pub use stop::ScriptStop;
 pub use strictly::{PlayingStrictly, answer_lines_strictly, play_strictly};
 pub use subjects::{Only, Subject, Subjects, Task, With};

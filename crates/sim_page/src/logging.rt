@@ -6,11 +6,10 @@ ghost use Rattle.sim_export.specs.Exports.{WritesFor, Written};
 ghost use Rattle.sim_page.specs.Logs.{log_right};
 
 use crate::log::{LogRange, log_of};
-use sim_cli::{Opened, Status, Subjects, Tally, Task, open, tell_fault};
+use sim_cli::{Opened, ScriptStop, Status, Subjects, Tally, Task, open, played, tell_fault};
 use sim_export::{Export, write_export};
 use sim_lines::Ahead;
 use sim_node::Node;
-use sim_replay::{ScriptStop, played};
 use std::alloc::Global;
 use std::fmt::Debug;
 use std::io::{Read, Write};

@@ -6,11 +6,12 @@ ghost use Rattle.sim_export.specs.Exports.{WritesFor, Written};
 ghost use Rattle.sim_page.specs.Pages.{page_right};
 
 use crate::page::{Frame, Watched, page_of};
-use sim_cli::{Opened, Status, Subjects, Tally, Task, open, report_condition, tell_fault};
+use sim_cli::{
+    Opened, ScriptStop, Status, Subjects, Tally, Task, open, played, report_condition, tell_fault,
+};
 use sim_export::{Export, write_export};
 use sim_lines::Ahead;
 use sim_node::Node;
-use sim_replay::{ScriptStop, played};
 use sim_script::condition_of;
 use sim_watch::Cond;
 use std::alloc::{AllocError, Global};

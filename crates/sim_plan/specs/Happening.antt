@@ -1,5 +1,5 @@
 -- The run that events make: those that can happen.
-use Rattle.std.specs.Prelude.{ℕ, ◌+◌, ◌≤◌, List, [], ◌∷◌, ◌++◌, None, Some}
+use Rattle.std.specs.Prelude.{ℕ, ◌+◌, ◌≤◌, ◌^◌, Bool, List, [], ◌∷◌, ◌++◌, Option, None, Some}
 use Rattle.std.specs.Option.{ForSome}
 use Rattle.sim_node.specs.Node.{NodeLaws}
 use Rattle.sim_world.specs.declared.Event.{Event}
@@ -25,3 +25,13 @@ planned_run node probes s given plan =
 pub record IsPlan (given : ℕ) (plan : Plan) : Type 0 where
   pub spacing : ForSome plan.spacing (λ f. (2 ≤ f) × (f ≤ 65536))
   pub events : given + plan.events + plan.quiet ≤ 65534
+
+-- the plan with these numbers
+abbrev pub plan_with : Option ℕ → ℕ → ℕ → Bool → Plan
+plan_with faults events quiet at_end =
+    record { spacing = faults; events = events; quiet = quiet; at_end = at_end }
+
+-- the spacing is greater than that of any plan
+abbrev pub IsWide : Option ℕ → Type 0
+IsWide None = ⊥
+IsWide (Some spacing) = 2 ^ 32 ≤ spacing

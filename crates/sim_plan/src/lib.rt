@@ -27,9 +27,11 @@ mod forecast;
 mod owed;
 mod plan;
 mod planner;
+mod reasons;
 mod run;
 
 pub use plan::{MAX_PLANNED, MAX_SPACING, Plan};
 pub use planner::Planner;
+pub use reasons::report_plan;
 pub use run::{run_of, run_of_planner};
 pub use std::alloc::AllocError as NoMemory;

@@ -1,7 +1,7 @@
 //! How a run is planned.
-ghost use Rattle.std.specs.Prelude.{◌≡◌, ◌↔◌, ◌≤◌, IsTrue};
+ghost use Rattle.std.specs.Prelude.{◌≡◌, ◌↔◌, ◌≤◌, ℕ, IsTrue, IfSome, IfNone};
 ghost use Rattle.std.specs.Option.{ForSome};
-ghost use Rattle.sim_plan.specs.Happening.{IsPlan};
+ghost use Rattle.sim_plan.specs.Happening.{IsPlan, IsWide, plan_with};
 
 /// The widest spacing of a plan; the narrowest is 2.
 pub const MAX_SPACING: u32 = 65_536;
@@ -23,7 +23,32 @@ pub struct Plan {
     pub at_end: bool,
 }
 
+// Returns the spacing of faults, or `None` if it is greater than that of any plan.
+fn spacing_of(faults: Option<u64>) -> Option<Option<u32>>
+    ensures some { IfSome result (λ spacing. spacing ≡ faults) }
+    ensures none { IfNone result (IsWide faults) }
+{
+    match faults {
+        Some(faults) => Some(Some(u32::try_from(faults).ok()?)),
+        None => Some(None),
+    }
+}
+
 impl Plan {
+    /// Returns the plan with these numbers, or `None` if no plan can have one of them.
+    pub fn new(faults: Option<u64>, events: u64, quiet: u64, at_end: bool) -> Option<Plan>
+        ensures some { IfSome result (λ plan. plan ≡ plan_with faults events quiet at_end) }
+        ensures none { IfNone result ((given : ℕ) →
+            ¬ (IsPlan given (plan_with faults events quiet at_end))) }
+    {
+        Some(Plan {
+            spacing: spacing_of(faults)?,
+            events: u32::try_from(events).ok()?,
+            quiet: u32::try_from(quiet).ok()?,
+            at_end,
+        })
+    }
+
     /// Returns whether the plan, after `given` given events, is within the limits: the spacing, if
     /// there is one, is 2 to 65,536, and given events, planned events and quiet steps are at most
     /// 65,534 together.

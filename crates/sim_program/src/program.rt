@@ -2,8 +2,10 @@
 ghost use Rattle.std.specs.Prelude.{◌≤◌, length};
 ghost use Rattle.sim_job.specs.CommandLine.{HasFewWorkers};
 
+use crate::performing::perform;
+use sim_cli::Status;
+use sim_hunt::Searchable;
 use sim_job::{Job, LineError, Request, request};
-use sim_perform::{Searchable, Status, perform};
 use sim_walk::{Style, walk};
 use std::fs::File;
 use std::io::{IsTerminal, Read};

@@ -1,11 +1,11 @@
 -- The run of a seed as an input for a play.
-use Rattle.std.specs.Prelude.{◌≡◌, ℕ, ◌≤◌, ◌^◌, Bool, false, List, [], Option, None, Some, Ok}
+use Rattle.std.specs.Prelude.{◌≡◌, false, List, [], Ok}
 use Rattle.std.specs.Prelude.{string_bytes}
 use Rattle.sim_world.specs.declared.Event.{Event}
 use Rattle.sim_world.specs.Events.{Rules}
 use Rattle.sim_world.specs.Seeds.{numbered}
 use Rattle.sim_plan.specs.declared.plan.Plan.{Plan}
-use Rattle.sim_plan.specs.Happening.{IsPlan, planned_run}
+use Rattle.sim_plan.specs.Happening.{IsPlan, plan_with, planned_run}
 use Rattle.sim_scenario.specs.Scenario.{Protocol, ScenarioText}
 use Rattle.sim_script.specs.Script.{Text, Names}
 use Rattle.sim_reseed.specs.Numbered.{numbered as numbered_scenario}
@@ -15,16 +15,6 @@ use Rattle.sim_export.specs.declared.export.Export.{Export}
 use Rattle.sim_export.specs.declared.export.Export.TheVariants.{Input, Shown, Nowhere, BadRange}
 use Rattle.sim_export.specs.declared.export.Export.TheVariants.{BadCondition, BadScript, NoInput}
 use Rattle.sim_export.specs.Exports.{IsInput, Right}
-
--- the plan of a run with these numbers
-abbrev pub plan_with : Option ℕ → ℕ → ℕ → Bool → Plan
-plan_with faults events quiet at_end =
-    record { spacing = faults; events = events; quiet = quiet; at_end = at_end }
-
--- the spacing is greater than that of any plan
-abbrev pub IsWide : Option ℕ → Type 0
-IsWide None = ⊥
-IsWide (Some spacing) = 2 ^ 32 ≤ spacing
 
 abbrev pub plan_of : SeedRun → Plan
 plan_of run = plan_with run.faults run.events run.quiet false

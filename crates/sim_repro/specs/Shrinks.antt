@@ -13,7 +13,7 @@ use Rattle.std.specs.Str.Lines.{lines}
 use Rattle.sim_cli.specs.Turns.{beginning}
 use Rattle.sim_cli.specs.Play.{read_scenario}
 use Rattle.sim_cli.specs.Strict.{are_well}
-use Rattle.sim_replay.specs.Played.{first_events}
+use Rattle.sim_cli.specs.Played.{first_events}
 use Rattle.sim_export.specs.declared.export.Export.{Export}
 use Rattle.sim_export.specs.declared.export.Export.TheVariants.{Input, Shown, Nowhere, BadRange}
 use Rattle.sim_export.specs.declared.export.Export.TheVariants.{BadCondition, BadScript, NoInput}

@@ -20,6 +20,6 @@
 mod seed_run;
 mod shrinking;
 
-pub use seed_run::{SeedRun, plan_of, report_plan, write_run};
+pub use seed_run::{SeedRun, write_run};
 pub use shrinking::{Shrink, write_shrunk};
 pub use sim_cli::Status;

@@ -1,5 +1,5 @@
 //! The run of a seed as an input for a play.
-ghost use Rattle.std.specs.Prelude.{◌≡◌, ◌≤◌, ℕ, List, [], Some, Ok, IfOk, IfSome, IfNone, length};
+ghost use Rattle.std.specs.Prelude.{◌≡◌, ◌≤◌, ℕ, List, [], Some, Ok, IfOk, length};
 ghost use Rattle.std.specs.Prelude.{string_bytes};
 ghost use Rattle.sim_world.specs.Events.{rules};
 ghost use Rattle.sim_world.specs.Seeds.{numbered};
@@ -10,13 +10,13 @@ ghost use Rattle.sim_cli.specs.Play.{Ended, read_scenario};
 ghost use Rattle.sim_export.specs.Exports.{IsInput};
 ghost use Rattle.sim_cli.specs.Subjects.{nodes_by};
 ghost use Rattle.sim_export.specs.Exports.{WritesFor, Written};
-ghost use Rattle.sim_repro.specs.SeedRuns.{IsExportOf, IsWide, plan_with, seed_run_right};
+ghost use Rattle.sim_repro.specs.SeedRuns.{IsExportOf, seed_run_right};
 
 use sim_cli::{Opened, Status, Subjects, Tally, Task, open};
 use sim_export::{Export, InputError, input_of, write_export};
 use sim_lines::Ahead;
 use sim_node::{NoMemory, Node};
-use sim_plan::{MAX_PLANNED, MAX_SPACING, Plan, run_of};
+use sim_plan::{Plan, report_plan, run_of};
 use sim_reseed::{ReseedError, numbered_text};
 use sim_sweep::numbered_seed;
 use sim_world::Event;
@@ -35,54 +35,6 @@ pub struct SeedRun {
     pub faults: Option<u64>,
     /// The number of steps of the quiet end.
     pub quiet: u64,
-}
-
-// Returns the spacing of faults, or `None` if it is greater than that of any plan.
-fn spacing_of(faults: Option<u64>) -> Option<Option<u32>>
-    ensures some { IfSome result (λ spacing. spacing ≡ faults) }
-    ensures none { IfNone result (IsWide faults) }
-{
-    match faults {
-        Some(faults) => Some(Some(u32::try_from(faults).ok()?)),
-        None => Some(None),
-    }
-}
-
-/// Returns the plan with these numbers, or `None` if no plan can have one of them.
-pub fn plan_of(faults: Option<u64>, events: u64, quiet: u64, at_end: bool) -> Option<Plan>
-    ensures some { IfSome result (λ plan. plan ≡ plan_with faults events quiet at_end) }
-    ensures none { IfNone result ((given : ℕ) →
-        ¬ (IsPlan given (plan_with faults events quiet at_end))) }
-{
-    Some(Plan {
-        spacing: spacing_of(faults)?,
-        events: u32::try_from(events).ok()?,
-        quiet: u32::try_from(quiet).ok()?,
-        at_end,
-    })
-}
-
-/// Reports on standard error which number of a plan is past its limits, if one is: the spacing of
-/// faults, or the sum of the events of the script, the planned events and the steps of the quiet
-/// end. A failure of standard error is ignored.
-pub fn report_plan<H: Eprint>(
-    host: &H,
-    given: usize,
-    events: u64,
-    quiet: u64,
-    faults: Option<u64>,
-) {
-    let spacing = faults.unwrap_or(2);
-    if spacing < 2 || u64::from(MAX_SPACING) < spacing {
-        let _told = eprintln!(host; "range: F is {spacing}; it has to be from 2 to {MAX_SPACING}");
-    }
-    let sum = (given as u64).saturating_add(events).saturating_add(quiet);
-    if MAX_PLANNED < sum {
-        let _told = eprintln!(host;
-            "range: the script has {given} events, EVENTS is {events} and Q is {quiet}; together \
-             they have to be at most {MAX_PLANNED}"
-        );
-    }
 }
 
 // Returns the events of a run whose plan is within the limits. Fails only for want of memory.
@@ -135,7 +87,7 @@ fn export_of<N: Node<Meter = Tally>>(
         IsExportOf (rules N.laws N.PROBES opened.now.scenario) run
         opened.now.names text.now script e) }
 {
-    let Some(plan) = plan_of(run.faults, run.events, run.quiet, false) else {
+    let Some(plan) = Plan::new(run.faults, run.events, run.quiet, false) else {
         return Ok(Export::BadRange);
     };
     if !plan.is_within(0) {

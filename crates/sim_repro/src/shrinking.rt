@@ -8,11 +8,13 @@ ghost use Rattle.sim_cli.specs.Subjects.{nodes_by};
 ghost use Rattle.sim_export.specs.Exports.{IsInput, WritesFor, Written};
 ghost use Rattle.sim_repro.specs.Shrinks.{IsShrinkOf, shrink_right};
 
-use sim_cli::{Opened, Status, Subjects, Tally, Task, open, report_condition, tell_fault};
+use sim_cli::{
+    Opened, ScriptStop, Status, Subjects, Tally, Task, given_events, open, report_condition,
+    tell_fault,
+};
 use sim_export::{Export, InputError, input_of, write_export};
 use sim_lines::Ahead;
 use sim_node::{NoMemory, Node};
-use sim_replay::{ScriptStop, given_events};
 use sim_reseed::ends_its_lines;
 use sim_script::{Names, condition_of};
 use sim_search::SearchFault;

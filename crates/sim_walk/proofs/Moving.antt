@@ -1,11 +1,9 @@
 -- Where a turn moved a branch: to a place that is one of its own.
-use Rattle.std.proofs.Common.{◌≡◌, ◌∙◌, ℕ, ◌<◌, ◌≤◌, true, false, List, [], ◌∷◌, ◌++◌, length, set, Option, Some, None, refl, sym, ap, subst, inl, inr, arith}
+use Rattle.std.proofs.Common.{◌≡◌, ◌∙◌, ℕ, ◌<◌, ◌≤◌, [], ◌∷◌, ◌++◌, length, set, Option, Some, None, refl, sym, ap, subst, inl, inr, arith}
 use Rattle.std.proofs.lemmas.Bool.{cases_lt}
-use Rattle.std.proofs.lemmas.List.{length-set, length-append, get_or-map, length-map, length-take-le, get_or_append_left, get_or-set_same, get_or_past}
-use Rattle.sim_world.specs.World.{Scenario}
+use Rattle.std.proofs.lemmas.List.{length-set, length-append, length-take-le, get_or_append_left, get_or-set_same, get_or_past}
 use Rattle.sim_world.specs.Events.{Rules}
 use Rattle.sim_world.specs.declared.Event.TheVariants as event
-use Rattle.sim_tape.specs.Tape.{Frozen}
 use Rattle.sim_watch.specs.declared.command.Command.{Command}
 use Rattle.sim_watch.specs.declared.command.Command.TheVariants as command
 use Rattle.sim_book.specs.declared.Refusal.{Refusal}
@@ -15,10 +13,8 @@ use Rattle.sim_book.specs.declared.Reply.TheVariants as reply
 use Rattle.sim_book.specs.declared.Stop.{Stop}
 use Rattle.sim_book.specs.Book.{Branch, Book, branch, with_branch, empty_branch}
 use Rattle.sim_watch.specs.Commands.{branch_of}
-use Rattle.sim_book.specs.Kept.{Kept, shown, all_shown, first_kept}
 use Rattle.sim_book.specs.Answer.{tick_addition, run_addition, refusal_of, branch_after, branches_made, reply_of, answer_by, after_by}
 use Rattle.sim_book.specs.History.{IsTurn}
-use Rattle.sim_book.specs.Freezing.{IsWhole}
 use Rattle.sim_book.specs.Headline.{AreBranches}
 use Rattle.sim_book.proofs.Headlines.{inside}
 use Rattle.sim_walk.specs.Accounts.{IsWithinBy}
@@ -123,16 +119,3 @@ module _ {State Msg : Type 0} (r : Rules State Msg) where
     | inl a ↦ keeps_by (refusal_of r c old) c old new refl h a.1
     | inr m ↦ subst (λ (m : Book). (branch (branch_of c) old).place ≤ length (branch (branch_of c) m).events) (sym m.3) h
   ]
-
--- a branch that is not there
-pub not_there : (kept : List Kept) (b : ℕ) → (b < length kept → false ≡ true) → length kept ≤ b
-not_there kept b h = elim (cases_lt b (length kept)) [ inl there ↦ absurd (let e : false ≡ true = h there in cc) | inr past ↦ past ]
-
--- what stands in its place
-pub nowhere : (kept : List Kept) (b : ℕ) → length kept ≤ b → branch b (all_shown kept) ≡ empty_branch
-nowhere kept b past = get_or_past (all_shown kept) b empty_branch (omega (arith, past, length-map kept shown))
-
--- the events of a branch that is there
-pub events_here : (s : Scenario) (kept : List Kept) (b : ℕ) (run : Frozen) → IsWhole s kept b (Some run) → run.events ≡ (branch b (all_shown kept)).events
-events_here s kept b run whole =
-    whole.2 (first_kept s) ∙ sym (ap (λ (x : Branch). x.events) (get_or-map shown kept b (first_kept s) empty_branch whole.0))

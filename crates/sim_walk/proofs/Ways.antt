@@ -1,5 +1,5 @@
 -- The account of a way, by its lines.
-use Rattle.std.proofs.Common.{◌≡◌, ℕ, ◌+◌, ◌≤◌, min, false, List, [], length, Some, sym, ap, subst, arith}
+use Rattle.std.proofs.Common.{◌≡◌, ℕ, ◌+◌, ◌≤◌, min, false, List, [], length, Some, ap, subst, arith}
 use Rattle.sim_node.specs.Node.{NodeLaws}
 use Rattle.sim_world.specs.declared.Event.{Event}
 use Rattle.sim_world.specs.World.{Scenario}
@@ -10,13 +10,9 @@ use Rattle.sim_book.specs.Kept.{Kept, all_shown}
 use Rattle.sim_book.specs.Freezing.{IsWhole}
 use Rattle.sim_log.specs.Lines.{AreLines}
 use Rattle.sim_walk.specs.Accounts.{told_count, IsAccount}
-use Rattle.sim_walk.proofs.Moving.{events_here, nowhere}
+use Rattle.sim_inspect.proofs.Branches.{events_here, nowhere}
 
 module _ {State Msg : Type 0} (node : NodeLaws State Msg) (probes : ℕ) (s : Scenario) (kept : List Kept) (b : ℕ) (run : Frozen) (whole : IsWhole s kept b (Some run)) where
-  -- a place of the branch is one of its run
-  pub place_within : (to : ℕ) → to ≤ length (branch b (all_shown kept)).events → to ≤ length run.events
-  place_within to h = subst (λ (es : List Event). to ≤ length es) (sym (events_here s kept b run whole)) h
-
   -- the lines of the run tell the way of the branch
   pub way_told : (from to : ℕ) (told : List ℕ)
       → AreLines (rules node probes run.scenario) run.events false (min from to + 1) (told_count from to) told

@@ -15,8 +15,8 @@ use Rattle.sim_replies.specs.Lines.{turn_line}
 use Rattle.sim_cli.specs.Turns.{Course, Takes}
 use Rattle.sim_walk.specs.declared.account.Account.{Account}
 use Rattle.sim_walk.specs.declared.desk.Answer.{Answer}
-use Rattle.sim_walk.specs.declared.order.Order.{Order}
-use Rattle.sim_walk.specs.declared.order.Order.TheVariants.{Asked, Sought}
+use Rattle.sim_orders.specs.declared.order.Order.{Order}
+use Rattle.sim_orders.specs.declared.order.Order.TheVariants.{Asked, Sought}
 use Rattle.sim_walk.specs.declared.walking.Turned.{Turned}
 use Rattle.sim_walk.specs.declared.walking.Turned.TheVariants.{On}
 use Rattle.sim_walk.specs.Accounts.{Accounts}

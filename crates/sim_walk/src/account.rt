@@ -6,9 +6,9 @@ ghost use Rattle.sim_book.specs.Kept.{all_shown};
 ghost use Rattle.sim_log.specs.Lines.{AreLines};
 ghost use Rattle.sim_walk.specs.Accounts.{IsAccount, told_count};
 
-use crate::run::Run;
 use sim_book::Book;
 use sim_cli::Tally;
+use sim_inspect::Run;
 use sim_node::{NoMemory, Node};
 use sim_script::Names;
 use std::alloc::Global;

@@ -4,14 +4,11 @@
 //!   commands, a line each, from any reader to any writer. docs/WALK.md lists the commands.
 //! - A [`Style`] says whether to write a prompt, as for a terminal, or each command before its
 //!   answer.
-//! - [`shortened`] shortens the text of a node's state, in which a long list is mostly the same
-//!   element.
 //!
-//! Inside, a line becomes an order (`order.rt`) by the table of commands (`topic.rt`). The desk
-//! (`desk.rt`) carries it out on the book and returns an answer: the line that replies to a turn,
-//! its account (`account.rt`), and words. Their contents come from the run of the branch (`run.rt`)
-//! and from its world (`showing.rt`, `terms.rt`); `tearing.rt` names the writes that a crash tears,
-//! `seeking.rt` finds the places that a command looks for, and `saying.rt` has the sentences.
+//! A line becomes an order by the table of commands (`sim_orders`). The desk (`desk.rt`) carries it
+//! out on the book and returns an answer: the line that replies to a turn, its account
+//! (`account.rt`), and words. The words come from the run of the branch and from its world
+//! (`sim_inspect`).
 //!
 //! What is proved:
 //!
@@ -32,28 +29,14 @@
 //!
 //! - A walk keeps no state but its branch and its last line. It is session 0 of a book, as a play
 //!   is.
-//! - The words after a command of the walk's own are read as those of a line of a script with the
-//!   same form: a host as after `crash`, a number as after `goto`, a condition as after `watch`. So
-//!   there is one grammar, and one report of mistakes.
-//! - Each command that describes events makes the run of its branch anew, and walks it on its own
-//!   tape. That costs a walk of the whole run, which a person does not notice, and nothing must be
-//!   kept up to date.
+//! - The orders and the words about a run have crates of their own. Their proofs do not wait for
+//!   that of a play.
 //! - Want of memory for an answer is reported, and the walk goes on: the book is as its contract
 //!   says.
 #![tactic(auto)]
 
 mod account;
 mod desk;
-mod order;
-mod run;
-mod saying;
-mod seeking;
-mod shortening;
-mod showing;
-mod tearing;
-mod terms;
-mod topic;
 mod walking;
 
-pub use shortening::shortened;
 pub use walking::{Style, walk};

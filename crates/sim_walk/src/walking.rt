@@ -9,14 +9,15 @@ ghost use Rattle.sim_walk.specs.Walks.{CarriesOut, account_text, text_of};
 
 use crate::account::Account;
 use crate::desk::{Answer, Desk};
-use crate::order::{Order, Request, order_of};
-use crate::run::{kept_of, whereabouts};
-use crate::saying::Known;
 use sim_book::Book;
-use sim_cli::{Answered, Opened, Status, Subjects, Tally, Task, open, tell_fault, write_text};
+use sim_cli::{
+    Answered, Opened, ScriptStop, Status, Subjects, Tally, Task, follow, open, tell_fault,
+    write_text,
+};
+use sim_inspect::{kept_of, whereabouts};
 use sim_lines::{Ahead, Next, NextLine, next_byte, next_line};
 use sim_node::{NoMemory, Node};
-use sim_replay::{ScriptStop, follow};
+use sim_orders::{Known, Order, Request, order_of};
 use std::alloc::Global;
 use std::fmt::Debug;
 use std::io::{Read, Write};

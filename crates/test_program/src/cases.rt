@@ -11,8 +11,7 @@ mod runs;
 use crate::cases::jobs::JOBS;
 use crate::cases::plays::PLAYS;
 use crate::cases::runs::RUNS;
-use crate::perform::hunts::performed;
-use sim_job::request;
+use crate::running::gives;
 use std::alloc::{AllocError, Global};
 use std::process::Abort;
 use std::rt::Clock;
@@ -27,21 +26,6 @@ fn words_of(alloc: Global, lines: &str) -> Result<Vec<&str>, AllocError> {
         words.push(line)?;
     }
     Ok(words)
-}
-
-// Returns whether the words over an input give this exit status and this output.
-fn gives<R: Threads + Wait + Sync + Clock + Eprint>(
-    rt: &R,
-    alloc: Global,
-    words: &[&str],
-    input: &str,
-    (status, output): (&str, &str),
-) -> bool {
-    let Ok(asked) = request(alloc, words) else {
-        return false;
-    };
-    let (ended, written) = performed(rt, alloc, &asked.job, input);
-    status.parse::<u8>() == Ok(ended.number()) && written.as_slice() == output.as_bytes()
 }
 
 // Returns whether a case is as expected, or `None` if it is not laid out as a case.

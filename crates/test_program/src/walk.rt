@@ -1,19 +1,18 @@
 //! Sessions of a walk: the commands, and the whole output.
 //!
 //! What each test catches:
-//! - `from_the_failing_place_to_its_cause`: a session on a run that fails, whose answers omit what
-//!   leads to the cause, or report something else.
-//! - `commands`, `other_commands`: a command with a wrong answer, a short name that is not
-//!   accepted, and a mistake that is reported as another.
+//! - `sessions`: a session on a run that fails, whose answers omit what leads to the cause, or
+//!   report something else; a command with a wrong answer, a short name that is not accepted, and a
+//!   mistake that is reported as another; a write that a crash tears or drops and that is taken for
+//!   another, or whose event is another.
 //! - `a_long_way`: a move that reports more or fewer than 20 events and the last, or omits the
 //!   others silently.
 //! - `a_prompt`: a prompt with another branch, place, number of events or clock, or none.
 //! - `a_state_with_long_lists`: a run of equal elements that stays, or that hides another element.
-//! - `crashes_over_writes`: a write that a crash tears or drops and that is taken for another, or
-//!   whose event is another.
 //! - `a_fault_of_the_script`: a walk over a script at fault.
 use sim_cli::{Shipped, Status};
-use sim_walk::{Style, shortened, walk};
+use sim_inspect::shortened;
+use sim_walk::{Style, walk};
 use std::alloc::Global;
 use std::process::Abort;
 use std::test::Fail;
@@ -542,6 +541,17 @@ ops = 4
 run 24
 "#;
 
+const CRASHES: &str = "\
+bounce c
+e
+crash b
+e
+crash a
+e
+crash a
+e
+";
+
 const STORES_TORN: &str = "\
 > bounce c
 place 25 clock 63
@@ -617,19 +627,18 @@ fn is_walked<R: Eprint + Abort>(
     Ok(())
 }
 
+// A session that goes from the failing place to its cause; each command; crashes over writes.
 #[test]
-fn from_the_failing_place_to_its_cause(rt: HostRuntime) -> Result<(), Fail> {
-    is_walked(&rt, rt.alloc(), TORN, TO_THE_CAUSE, false, CAUSE)
-}
-
-#[test]
-fn commands(rt: HostRuntime) -> Result<(), Fail> {
-    is_walked(&rt, rt.alloc(), PINGS, COMMANDS, false, ANSWERS)
-}
-
-#[test]
-fn other_commands(rt: HostRuntime) -> Result<(), Fail> {
-    is_walked(&rt, rt.alloc(), PINGS, OTHER_COMMANDS, false, OTHER_ANSWERS)
+fn sessions(rt: HostRuntime) -> Result<(), Fail> {
+    for (input, commands, want) in [
+        (TORN, TO_THE_CAUSE, CAUSE),
+        (PINGS, COMMANDS, ANSWERS),
+        (PINGS, OTHER_COMMANDS, OTHER_ANSWERS),
+        (STORES, CRASHES, STORES_TORN),
+    ] {
+        is_walked(&rt, rt.alloc(), input, commands, false, want)?;
+    }
+    Ok(())
 }
 
 #[test]
@@ -654,12 +663,6 @@ fn a_prompt(rt: HostRuntime) -> Result<(), Fail> {
 back by 1; next is 4 clock 20: w gets Pong(1) from a (sent at 3): sends Ping(2) to a, due 30
 0 @ 3 of 4, 10 ms> \n";
     is_walked(&rt, rt.alloc(), PINGS, "b\n", true, want)
-}
-
-#[test]
-fn crashes_over_writes(rt: HostRuntime) -> Result<(), Fail> {
-    let typed = "bounce c\ne\ncrash b\ne\ncrash a\ne\ncrash a\ne\n";
-    is_walked(&rt, rt.alloc(), STORES, typed, false, STORES_TORN)
 }
 
 #[test]

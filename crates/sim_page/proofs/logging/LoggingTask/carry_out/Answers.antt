@@ -3,8 +3,8 @@ use Rattle.std.specs.Str.Lines.{lines}
 use Rattle.sim_world.specs.declared.Event.{Event}
 use Rattle.sim_world.specs.Events.{rules}
 use Rattle.sim_world.specs.World.{Scenario}
-use Rattle.sim_replay.specs.declared.stop.ScriptStop.{ScriptStop}
-use Rattle.sim_replay.specs.Played.{IsFault, first_events}
+use Rattle.sim_cli.specs.declared.stop.ScriptStop.{ScriptStop}
+use Rattle.sim_cli.specs.Played.{IsFault, first_events}
 use Rattle.sim_export.specs.Exports.{IsExported}
 use Rattle.sim_export.specs.declared.export.Export.TheVariants.{BadScript}
 use Rattle.sim_export.proofs.Telling.{told_export}

@@ -1,8 +1,8 @@
 use Rattle.std.proofs.Common.{true, refl, subst}
 use Rattle.std.specs.Str.Lines.{lines}
 use Rattle.sim_world.specs.Events.{rules}
-use Rattle.sim_replay.specs.declared.stop.ScriptStop.{ScriptStop}
-use Rattle.sim_replay.specs.Played.{IsFault}
+use Rattle.sim_cli.specs.declared.stop.ScriptStop.{ScriptStop}
+use Rattle.sim_cli.specs.Played.{IsFault}
 use Rattle.sim_export.specs.Exports.{IsExported}
 use Rattle.sim_export.specs.declared.export.Export.TheVariants.{Shown, BadCondition, BadScript}
 use Rattle.sim_export.proofs.Telling.{told_export}

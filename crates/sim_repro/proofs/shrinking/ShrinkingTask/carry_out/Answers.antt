@@ -5,8 +5,8 @@ use Rattle.sim_world.specs.Events.{rules}
 use Rattle.sim_watch.specs.Condition.{Cond}
 use Rattle.sim_script.specs.Script.{Text, words}
 use Rattle.sim_script.specs.Conditions.{condition}
-use Rattle.sim_replay.specs.declared.stop.ScriptStop.{ScriptStop}
-use Rattle.sim_replay.specs.Played.{IsFault, first_events}
+use Rattle.sim_cli.specs.declared.stop.ScriptStop.{ScriptStop}
+use Rattle.sim_cli.specs.Played.{IsFault, first_events}
 use Rattle.sim_export.specs.Exports.{IsExported}
 use Rattle.sim_cli.specs.Turns.{beginning}
 use Rattle.sim_cli.specs.Strict.{are_well}

@@ -1,8 +1,8 @@
-use Rattle.sim_walk.proofs.Ways.{place_within}
+use Rattle.sim_inspect.proofs.Branches.{place_within}
 use Rattle.sim_walk.proofs.desk.Desk.tell_branch.Goals as goal
 
 pub tape-requires : goal.tape-requires
 tape-requires g c =
     let book = c.args.book.now in
     let whole = rw c.in-Some.is at c.in_ok-run.ensures in
-    place_within g.N.Node.laws g.N.Node.PROBES book.scenario book.kept c.args.branch c.in-Some.run'.frozen whole c.place_of-place.result c.place_of-place.ensures.within
+    place_within book.scenario book.kept c.args.branch c.in-Some.run'.frozen whole c.place_of-place.result c.place_of-place.ensures.within

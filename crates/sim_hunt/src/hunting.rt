@@ -1,0 +1,223 @@
+//! Hunts for a condition in the run that a script leaves, or in the runs of many seeds.
+ghost use Rattle.std.specs.Prelude.{◌≡◌, ◌<◌, ℕ, List, IfOk, IfErr, Some, Ok, vec_len};
+ghost use Rattle.std.specs.Io.KnownBytes.{prepend_known};
+ghost use Rattle.sim_world.specs.Events.{rules};
+ghost use Rattle.sim_cli.specs.Statuses.{Stops};
+ghost use Rattle.sim_hunt.specs.Hunts.{IsTeam, StopIs, found_on, search_answer, sweep_answer};
+
+use crate::Status;
+use crate::answer::{Answer, of_search, of_sweep};
+use crate::planned::sweep_runs;
+use crate::progress::Progress;
+use crate::reasons::{report_places, report_seeds, report_steps};
+use sim_cli::{Opened, ScriptStop, given_events, played, tell_fault};
+use sim_job::{FaultPlan, Team};
+use sim_lines::Ahead;
+use sim_node::{NoMemory, Node};
+use sim_scan::pieces;
+use sim_search::{OpenGate, search, sweep};
+use sim_tally::Tally;
+use sim_tape::Frozen;
+use sim_watch::Cond;
+use std::alloc::Global;
+use std::io::Read;
+use std::rt::Clock;
+use std::sync::Wait;
+use std::thread::Threads;
+
+/// The request of a command line: a condition in words, where to look for it, and the workers.
+#[derive(Clone, Copy)]
+pub struct Hunt<'a> {
+    pub area: Area,
+    pub cond: &'a str,
+    pub team: Team,
+}
+
+/// Where a condition is looked for.
+#[derive(Clone, Copy)]
+pub enum Area {
+    /// in the places from `lo` to `hi` of the first branch, of a script in which with `strict` no
+    /// line may be at fault
+    Places { lo: u64, hi: u64, strict: bool },
+    /// in the runs of at most `events` steps of `count` seeds, from number `first` on
+    Seeds { first: u64, count: u64, events: u64 },
+    /// in the runs of seeds whose events are planned
+    Planned(PlannedRuns),
+}
+
+/// The planned runs of `count` seeds, from number `first` on.
+#[derive(Clone, Copy)]
+pub struct PlannedRuns {
+    pub first: u64,
+    pub count: u64,
+    /// The number of events planned before the quiet end.
+    pub events: u64,
+    pub plan: FaultPlan,
+    /// Whether the condition is tested only at the last place of each run.
+    pub at_end: bool,
+    /// Whether each run begins with the events that the script leaves.
+    pub script: bool,
+    /// Whether no line of the script may be at fault.
+    pub strict: bool,
+}
+
+/// A hunt in a scenario that was read, with the condition, read by the names of the scenario's
+/// hosts and probes.
+#[derive(Drop)]
+pub struct Quest<'a> {
+    pub opened: &'a Opened,
+    pub cond: Cond,
+    pub hunt: &'a Hunt<'a>,
+}
+
+/// Returns a meter for each worker. Fails only for want of memory.
+pub fn meters(alloc: Global, workers: u64) -> Result<Vec<Tally>, NoMemory>
+    ensures { IfOk result (λ v. vec_len v ≡ workers) }
+{
+    let mut meters = Vec::new(alloc);
+    for _worker in 0..workers {
+        meters.push(Tally::new())?;
+    }
+    Ok(meters)
+}
+
+// Returns the number of pieces of the places from `lo` to `hi`, or 0 if the range is bad.
+fn pieces_of<N: Node>(frozen: &Frozen<N>, lo: u64, hi: u64) -> u64 {
+    if hi < lo || u64::from(frozen.events().len()) < hi {
+        return 0;
+    }
+    pieces(lo as u32, hi as u32, frozen.interval())
+}
+
+// Searches for the first place of a run at which the condition fails.
+fn search_run<N: Node<Meter = Tally> + Send + Sync, H: Threads + Wait + Sync + Clock + Eprint>(
+    rt: &H,
+    alloc: Global,
+    frozen: &Frozen<N>,
+    lo: u64,
+    hi: u64,
+    quest: &Quest<'_>,
+) -> Result<Answer, NoMemory>
+where
+    N::Msg: Send + Sync,
+    N::Undo: Send + Sync,
+    requires { IsTeam quest.now.hunt.now.team.workers }
+    ensures { IfOk result (λ a. a ≡ search_answer (rules N.laws N.PROBES frozen.now.scenario)
+        quest.now.cond frozen.now.events lo hi) }
+{
+    report_places(rt, lo, hi, frozen.events().len());
+    let meters = meters(alloc, quest.hunt.team.workers)?;
+    if quest.hunt.team.progress {
+        let gate = Progress::new(rt, pieces_of(frozen, lo, hi));
+        of_search(search(rt, alloc, frozen, lo, hi, &quest.cond, meters, &gate))
+    } else {
+        of_search(search(rt, alloc, frozen, lo, hi, &quest.cond, meters, &OpenGate))
+    }
+}
+
+// Searches for the first seed under which the condition fails.
+fn sweep_seeds<N: Node<Meter = Tally> + Send + Sync, H: Threads + Wait + Sync + Clock + Eprint>(
+    rt: &H,
+    alloc: Global,
+    first: u64,
+    count: u64,
+    events: u64,
+    quest: &Quest<'_>,
+) -> Result<Answer, NoMemory>
+where
+    N::Msg: Send + Sync,
+    N::Undo: Send + Sync,
+    requires { IsTeam quest.now.hunt.now.team.workers }
+    ensures { IfOk result (λ a. a ≡ sweep_answer (rules N.laws N.PROBES
+        quest.now.opened.now.scenario)
+        quest.now.cond first count events) }
+{
+    report_seeds(rt, first, count);
+    report_steps(rt, events);
+    let scenario = &quest.opened.scenario;
+    let cond = &quest.cond;
+    let meters = meters(alloc, quest.hunt.team.workers)?;
+    if quest.hunt.team.progress {
+        let gate = Progress::new(rt, count);
+        of_sweep(sweep::<N, _, _>(
+            rt, alloc, scenario, first, count, events, cond, meters, &gate,
+        ))
+    } else {
+        of_sweep(sweep::<N, _, _>(
+            rt, alloc, scenario, first, count, events, cond, meters, &OpenGate,
+        ))
+    }
+}
+
+// Returns the answer; after want of memory fails with its status.
+fn told(answer: Result<Answer, NoMemory>) -> Result<Answer, Status>
+    ensures ok { IfOk result (λ a. answer ≡ Ok a) }
+    ensures stops { IfErr result Stops }
+{
+    match answer {
+        Ok(answer) => Ok(answer),
+        Err(_) => Err(Status::MemoryWanted),
+    }
+}
+
+// Returns how a hunt ends if its script was not carried out to its end. Reports a line at fault on
+// standard error.
+fn at_stop<H: Eprint>(rt: &H, opened: &Opened, stop: ScriptStop) -> Result<Answer, Status>
+    ensures { StopIs stop result }
+{
+    match stop {
+        ScriptStop::Ended(status) => Err(status),
+        ScriptStop::Fault(fault) => {
+            tell_fault(rt, opened, &fault);
+            Ok(Answer::BadScript)
+        }
+    }
+}
+
+/// Hunts over nodes of one type. Writes no answers of the script; a sweep without `script` reads
+/// none.
+pub fn hunt_nodes<
+    N: Node<Meter = Tally> + Send + Sync,
+    H: Threads + Wait + Sync + Clock + Eprint,
+    R: Read,
+>(
+    rt: &H,
+    alloc: Global,
+    quest: &Quest<'_>,
+    reader: &mut R,
+    ahead: &mut Ahead,
+) -> Result<Answer, Status>
+where
+    N::Msg: Send + Sync,
+    N::Undo: Send + Sync,
+    requires { IsTeam quest.now.hunt.now.team.workers }
+    ensures answer { (script : List ℕ) →
+        prepend_known ahead.old.bytes (R.remaining reader.old) ≡ Some script →
+        IfOk result (λ a. a ≡ found_on (rules N.laws N.PROBES quest.now.opened.now.scenario)
+        quest.now.opened.now.names quest.now.hunt.now.area script quest.now.cond) }
+    ensures stops { IfErr result Stops }
+{
+    match quest.hunt.area {
+        Area::Places { lo, hi, strict } => {
+            let opened = quest.opened;
+            let (scenario, names) = (&opened.scenario, &opened.names);
+            match played::<N, R>(alloc, scenario, names, reader, ahead, strict) {
+                Ok(frozen) => told(search_run(rt, alloc, &frozen, lo, hi, quest)),
+                Err(stop) => at_stop(rt, opened, stop),
+            }
+        }
+        Area::Seeds {
+            first,
+            count,
+            events,
+        } => told(sweep_seeds::<N, H>(rt, alloc, first, count, events, quest)),
+        Area::Planned(runs) => {
+            let opened = quest.opened;
+            let (script, strict) = (runs.script, runs.strict);
+            match given_events::<N, R>(alloc, opened, script, strict, reader, ahead) {
+                Ok(given) => told(sweep_runs::<N, H>(rt, alloc, &runs, given.as_slice(), quest)),
+                Err(stop) => at_stop(rt, opened, stop),
+            }
+        }
+    }
+}

@@ -1,0 +1,170 @@
+//! Finds places among the kept events of a branch.
+use crate::run::{Run, pass};
+use crate::terms::{fails_of, holds_of};
+use sim_book::Refusal;
+use sim_node::{NoMemory, Node};
+use sim_orders::Sought;
+use sim_tally::Tally;
+use sim_tape::Frozen;
+use sim_watch::Cond;
+use sim_world::{Event, Fault, World};
+use std::alloc::{AllocError, Global};
+use std::fmt::Debug;
+
+/// Why a search for the last place at which a condition held goes nowhere.
+const HOLDS_HERE: &str =
+    "the condition holds here: go forward, or `first COND` goes to where it first fails";
+
+/// Why there is no such place.
+#[derive(Clone, Copy)]
+pub enum SeekError {
+    /// No place passes the test, for this reason.
+    Nowhere(&'static str),
+    /// The request is refused.
+    Refused(Refusal),
+    NoMemory,
+}
+
+impl From<AllocError> for SeekError {
+    ghost use Rattle.std.specs.Prelude.{◌≡◌};
+    ghost use Rattle.sim_inspect.specs.declared.seeking.SeekError.TheVariants as seek;
+
+    ghost from_gives = { λ _ e. e ≡ seek.NoMemory };
+
+    fn from(_error: AllocError) -> SeekError {
+        SeekError::NoMemory
+    }
+}
+
+// The test of a place.
+#[derive(Clone, Copy)]
+enum Test<'a> {
+    /// The clock is at this time or later (ms).
+    Time(u64),
+    Fails(&'a Cond),
+    Holds(&'a Cond),
+    /// The next event is one of this host.
+    Acts(u16),
+}
+
+// The first and the last place that pass a test.
+#[derive(Clone, Copy)]
+struct Span {
+    first: Option<u32>,
+    last: Option<u32>,
+}
+
+// Returns whether an event is one of a host: a step that happens to it, or its crash or bounce.
+fn is_of_host<N: Node>(world: &World<N>, event: Event, host: u16) -> bool {
+    match event {
+        Event::Step => match world.first() {
+            Some((_due, _serial, occurrence)) => occurrence.host() == host,
+            None => false,
+        },
+        Event::Fault(Fault::Crash(crashed) | Fault::Bounce(crashed)) => crashed == host,
+        Event::Fault(_) | Event::Advance(_) => false,
+    }
+}
+
+impl Test<'_> {
+    // Returns whether a world passes the test; `next` is its next event.
+    fn is_so<N: Node>(self, world: &World<N>, next: Option<Event>) -> bool {
+        match self {
+            Test::Time(time) => time <= world.clock(),
+            Test::Fails(cond) => fails_of(cond, world),
+            Test::Holds(cond) => holds_of(cond, world),
+            Test::Acts(host) => match next {
+                Some(event) => is_of_host(world, event, host),
+                None => false,
+            },
+        }
+    }
+}
+
+// Returns the first and the last place before `end` that pass a test. Fails only for want of
+// memory.
+fn span_of<N: Node<Meter = Tally>>(
+    alloc: Global,
+    run: &Frozen<N>,
+    end: u32,
+    test: Test<'_>,
+) -> Result<Span, NoMemory> {
+    let mut meter = Tally::new();
+    let mut tape = run.tape(alloc, 0, &mut meter)?;
+    let mut span = Span {
+        first: None,
+        last: None,
+    };
+    for place in 0..end {
+        tape.make_warm(alloc, &mut meter)?;
+        if test.is_so(tape.here(), run.events().get(place)) {
+            span.first = Some(span.first.unwrap_or(place));
+            span.last = Some(place);
+        }
+        pass(alloc, &mut tape, &mut meter)?;
+    }
+    Ok(span)
+}
+
+// Returns the place before the event that queued what happens next from `place` on.
+fn cause_of<N: Node<Meter = Tally> + Debug>(run: &Run<'_, N>, place: u32) -> Result<u32, SeekError>
+where
+    N::Msg: Debug,
+{
+    let why = match run.event(place.saturating_add(1)) {
+        Some(Event::Fault(_)) => Some("the next event is a fault of the script"),
+        Some(Event::Advance(_)) => Some("the next event moves the clock alone"),
+        Some(Event::Step) | None => None,
+    };
+    if let Some(why) = why {
+        return Err(SeekError::Nowhere(why));
+    }
+    let Some(serial) = run.serials(place)?.first else {
+        return Err(SeekError::Nowhere("nothing is pending"));
+    };
+    match run.places.queued_by(serial) {
+        Some(cause) => Ok(cause.saturating_sub(1)),
+        None => Err(SeekError::Nowhere("what happens next was pending from the start")),
+    }
+}
+
+/// Returns the place of a run that `sought` describes, seen from `here`.
+pub fn seek<N: Node<Meter = Tally> + Debug>(
+    alloc: Global,
+    run: &Run<'_, N>,
+    here: u32,
+    sought: &Sought,
+) -> Result<u32, SeekError>
+where
+    N::Msg: Debug,
+{
+    let all = run.len().saturating_add(1);
+    let (found, why) = match sought {
+        Sought::At(time) => {
+            let test = Test::Time(u64::from(*time));
+            let span = span_of(alloc, &run.frozen, all, test)?;
+            (span.first, "the clock is earlier at all kept places")
+        }
+        Sought::Cause => return cause_of(run, here),
+        Sought::Last(host) => {
+            let span = span_of(alloc, &run.frozen, here, Test::Acts(*host))?;
+            (span.last, "that host has no event before this place")
+        }
+        Sought::First(cond) => {
+            let span = span_of(alloc, &run.frozen, all, Test::Fails(cond.get()))?;
+            (span.first, "the condition holds at all kept places")
+        }
+        Sought::Held(cond) => {
+            let end = here.saturating_add(1);
+            let span = span_of(alloc, &run.frozen, end, Test::Holds(cond.get()))?;
+            if span.last == Some(here) {
+                return Err(SeekError::Nowhere(HOLDS_HERE));
+            }
+            (
+                span.last,
+                "the condition fails at this place and at all before it",
+            )
+        }
+    };
+    found.ok_or(SeekError::Nowhere(why))
+}

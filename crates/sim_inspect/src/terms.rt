@@ -1,0 +1,112 @@
+//! Finds which terms of a condition fail, and shows the values that they name.
+use sim_input::push_condition;
+use sim_node::{NoMemory, Node};
+use sim_script::Names;
+use sim_watch::{Comparison, Cond, Term, Value, holds};
+use sim_world::World;
+
+/// Returns whether a condition is usable in a world and holds there.
+pub(crate) fn holds_of<N: Node>(cond: &Cond, world: &World<N>) -> bool {
+    match cond.check(world.hosts(), N::PROBES) {
+        Ok(()) => holds(cond, world),
+        Err(_) => false,
+    }
+}
+
+/// Returns whether a condition is usable in a world and fails there.
+pub(crate) fn fails_of<N: Node>(cond: &Cond, world: &World<N>) -> bool {
+    match cond.check(world.hosts(), N::PROBES) {
+        Ok(()) => !holds(cond, world),
+        Err(_) => false,
+    }
+}
+
+// Returns the probe of a comparison's right side, if it is a probe.
+fn shown_probe(to: Comparison) -> Option<u8> {
+    match to.value {
+        Value::Number(_) => None,
+        Value::Shown(_, probe) => Some(probe),
+    }
+}
+
+// Returns the probes that a term names.
+fn probes_of(term: Term) -> (Option<u8>, Option<u8>) {
+    match term {
+        Term::Cmp(_, probe, to)
+        | Term::Count(probe, to, _, _)
+        | Term::Any(probe, to)
+        | Term::All(probe, to) => {
+            let shown = shown_probe(to);
+            if shown == Some(probe) {
+                (Some(probe), None)
+            } else {
+                (Some(probe), shown)
+            }
+        }
+        Term::Agree(probe, _) | Term::Differ(probe, _) => (Some(probe), None),
+        Term::AgreeBy(probe, by, _) => (Some(by), Some(probe)),
+        Term::Up(_) | Term::NotUp(_) | Term::Done(_) | Term::NotDone(_) => (None, None),
+    }
+}
+
+// Appends the values of a probe of the hosts that a condition names.
+fn tell_values<N: Node>(
+    names: &Names,
+    world: &World<N>,
+    cond: &Cond,
+    probe: u8,
+    said: &mut String,
+) -> Result<(), NoMemory> {
+    let concerned = cond.concerned();
+    let name = names.probe_name(probe);
+    for host in 0..world.hosts() {
+        let is_concerned = concerned.get(host as usize).copied().unwrap_or(false);
+        if is_concerned && probe < N::PROBES {
+            let by = names.host_name(host);
+            match world.probe(host, probe) {
+                Some(value) => write!(said, " {by}.{name} {value}")?,
+                None => write!(said, " {by} down")?,
+            }
+        }
+    }
+    Ok(())
+}
+
+// Appends a term that fails.
+fn tell_term<N: Node>(
+    names: &Names,
+    world: &World<N>,
+    cond: &Cond,
+    term: Term,
+    said: &mut String,
+) -> Result<(), NoMemory> {
+    said.push_str("fails: ")?;
+    if push_condition(said, names, cond).is_err() {
+        said.push('?')?;
+    }
+    let (first, second) = probes_of(term);
+    if first.is_some() {
+        said.push(':')?;
+    }
+    for probe in [first, second].into_iter().flatten() {
+        tell_values(names, world, cond, probe, said)?;
+    }
+    said.push('\n')
+}
+
+/// Appends which terms of a condition fail. Fails only for want of memory.
+pub fn tell_failing<N: Node>(
+    names: &Names,
+    world: &World<N>,
+    cond: &Cond,
+    said: &mut String,
+) -> Result<(), NoMemory> {
+    for joined in cond.terms() {
+        if let Ok(one) = Cond::new().and(joined.term) {
+            if fails_of(&one, world) {
+                tell_term(names, world, &one, joined.term, said)?;
+            }
+        }
+    }
+    Ok(())
+}

@@ -1,4 +1,0 @@
--- Lemmas on scripts that are carried out.
-pub mod Follows
-mod FirstRun
-mod Fronts
