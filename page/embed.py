@@ -14,6 +14,8 @@ TOP = pathlib.Path(__file__).resolve().parent.parent
 TEMPLATE = TOP / "page/template.html"
 CONSTANTS = TOP / "crates/sim_page/src/template.rt"
 PLACEHOLDER = "@@RUN@@"
+# About how long a line of the literals is.
+COLUMNS = 1000
 HEAD = """\
 // The text of the page before and after the data of a run. page/embed.py writes this file from page/template.html.
 
@@ -31,14 +33,27 @@ def hashed(text):
 
 
 def literal(text):
-    """A string literal. It holds the lines as they are, so that a change of the template is a small change of it."""
+    """A string literal, with several lines of the template on each of its own.
+
+    The gate reserves memory for the proof of a crate by the number of its lines: two thousand of them would keep other
+    crates waiting.
+    """
     assert "\r" not in text, "a carriage return would be another text in a literal"
-    return '"' + text.replace("\\", "\\\\").replace('"', '\\"') + '"'
+    rows = [""]
+    for line in text.split("\n"):
+        escaped = line.replace("\\", "\\\\").replace('"', '\\"')
+        if rows[-1] and len(rows[-1]) + len(escaped) > COLUMNS:
+            # A row that goes on loses the spaces before the next one.
+            rows.append("\\x20" + escaped[1:] if escaped.startswith(" ") else escaped)
+        else:
+            rows[-1] += escaped
+        rows[-1] += "\\n"
+    return '"' + "\\\n".join(rows)[:-2] + '"'
 
 
 def constants(text):
     before, after = text.split(PLACEHOLDER)
-    return f"{HEAD}pub const BEFORE: &str = {literal(before)};\n\npub const AFTER: &str = {literal(after)};\n"
+    return f"{HEAD}pub const BEFORE: &str =\n    {literal(before)};\n\npub const AFTER: &str =\n    {literal(after)};\n"
 
 
 def main():
