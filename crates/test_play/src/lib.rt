@@ -12,9 +12,12 @@
 //! - `full`: 65,536 events and commands, 64 branches, eight watches.
 //! - `streams`, `ports`: readers and writers of one byte a call, which fail at each call in turn. A
 //!   contract does not rule out that a play blames them without cause; these tests do.
+//! - `scenes`: a scenario, and plays of rows of text.
 //!
-//! The reader holds slices, and the writer compares the bytes that it gets with a slice. So a play
-//! owns nothing here, and the prover has nothing to go through at its exits.
+//! A test is a short function over a text with many rows, since the prover goes through functions
+//! and not through what they are run on. The reader holds slices, and the writer compares the bytes
+//! that it gets with a slice. So a play owns nothing here, and the prover has nothing to go through
+//! at its exits.
 //!
 //! The tests have a crate of their own, since a crate with tests is proved twice. Here that is an
 //! empty library.

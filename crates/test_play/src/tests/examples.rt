@@ -1,12 +1,15 @@
 //! The plays of the folder `examples` and their answers, byte by byte. `torn` has those that tear a
-//! write.
+//! write, or bring a put before a start.
 use super::scenes::status_of;
+use super::torn::TORN;
 use sim_cli::Status;
 use std::alloc::Global;
 use std::process::Abort;
 
-const FIRST_RUN: &str =
-    r#"# One server `a` and one client `w`, which sends two pings. Every message takes 10 ms.
+/// Plays, each after `^` and its name; after `~` its answers, which are separated by `; `. These
+/// are texts and no tables, since the prover takes a text as one value.
+const EXAMPLES: &str = r#"^first-run
+# One server `a` and one client `w`, which sends two pings. Every message takes 10 ms.
 # It shows the smallest run: a step for each thing that happens, until nothing is pending.
 format = 1
 seed = "0000000000000000000000000000000000000000000000000000000000000000"
@@ -31,20 +34,10 @@ step
 step
 step
 look
-"#;
-
-const FIRST_RUN_ANSWERS: &str = "place 1 clock 0
-place 2 clock 0
-place 3 clock 10
-place 4 clock 20
-place 5 clock 30
-place 6 clock 40
-refused 7 Idle
-place 6 clock 40 serial 6 net 8 torn 0 pending 0 held 0
-";
-
-const PARTITION: &str =
-    r#"# Two servers and two clients. The link between `a` and `w` is cut while a ping is on its way, and heals later.
+~
+place 1 clock 0; place 2 clock 0; place 3 clock 10; place 4 clock 20; place 5 clock 30; place 6 clock 40; refused 7 Idle; place 6 clock 40 serial 6 net 8 torn 0 pending 0 held 0
+^partition
+# Two servers and two clients. The link between `a` and `w` is cut while a ping is on its way, and heals later.
 # It shows what a cut loses, and a step back over 13 events to before it.
 format = 1
 seed = "000102030405060708090a0b0c0d0e0f101112131415161718191a1b1c1d1e1f"
@@ -104,44 +97,10 @@ look
 look next
 look link a w
 look probe a served
-"#;
-
-const PARTITION_ANSWERS: &str = "place 1 clock 0
-place 2 clock 0
-place 3 clock 0
-place 4 clock 0
-place 4 clock 0 serial 6 net 4 torn 0 pending 2 held 0
-due 7 serial 4 host a message
-place 5 clock 0
-a w cut messages 0
-place 6 clock 7
-place 7 clock 15
-place 8 clock 22
-place 9 clock 34
-place 10 clock 43
-x up done yes draws 3 stable 0 unsynced 0
-w up done no draws 1 stable 0 unsynced 0
-none
-place 11 clock 43
-a w open messages 0
-place 12 clock 43
-place 13 clock 43
-place 14 clock 57
-place 15 clock 68
-place 16 clock 75
-place 17 clock 87
-w up done yes draws 4 stable 0 unsynced 0
-a served 3
-b served 2
-place 4 clock 0
-place 4 clock 0 serial 6 net 4 torn 0 pending 2 held 0
-due 7 serial 4 host a message
-a w open messages 0
-a served 0
-";
-
-const CRASH_AND_BOUNCE: &str =
-    r#"# One server and three clients. The server crashes while pings are on their way to it, and starts again.
+~
+place 1 clock 0; place 2 clock 0; place 3 clock 0; place 4 clock 0; place 4 clock 0 serial 6 net 4 torn 0 pending 2 held 0; due 7 serial 4 host a message; place 5 clock 0; a w cut messages 0; place 6 clock 7; place 7 clock 15; place 8 clock 22; place 9 clock 34; place 10 clock 43; x up done yes draws 3 stable 0 unsynced 0; w up done no draws 1 stable 0 unsynced 0; none; place 11 clock 43; a w open messages 0; place 12 clock 43; place 13 clock 43; place 14 clock 57; place 15 clock 68; place 16 clock 75; place 17 clock 87; w up done yes draws 4 stable 0 unsynced 0; a served 3; b served 2; place 4 clock 0; place 4 clock 0 serial 6 net 4 torn 0 pending 2 held 0; due 7 serial 4 host a message; a w open messages 0; a served 0
+^crash-and-bounce
+# One server and three clients. The server crashes while pings are on their way to it, and starts again.
 # It shows that what was sent to a stopped host is lost, that echo keeps nothing on its disk, and the world just before the crash.
 format = 1
 seed = "000102030405060708090a0b0c0d0e0f101112131415161718191a1b1c1d1e1f"
@@ -187,37 +146,10 @@ look
 look next
 look probe s served
 look host s
-"#;
-
-const CRASH_AND_BOUNCE_ANSWERS: &str = "place 1 clock 0
-place 2 clock 0
-place 3 clock 0
-place 4 clock 0
-place 4 clock 0 serial 7 net 6 torn 0 pending 3 held 0
-due 7 serial 4 host s message
-place 5 clock 7
-s served 1
-place 6 clock 7
-s down done no draws 2 stable 0 unsynced 0
-s served down
-place 7 clock 7
-place 8 clock 15
-place 9 clock 19
-place 9 clock 19 serial 8 net 8 torn 0 pending 0 held 0
-place 10 clock 19
-due 19 serial 8 host s start
-place 11 clock 19
-s up done no draws 3 stable 0 unsynced 0
-s served 0
-place 5 clock 7
-place 5 clock 7 serial 8 net 8 torn 0 pending 3 held 0
-due 7 serial 6 host s message
-s served 1
-s up done no draws 2 stable 0 unsynced 0
-";
-
-const SLOW_DISKS: &str =
-    r#"# Primary-backup on slow disks. `a` is the primary, `b` the backup, and a sync takes 20 ms.
+~
+place 1 clock 0; place 2 clock 0; place 3 clock 0; place 4 clock 0; place 4 clock 0 serial 7 net 6 torn 0 pending 3 held 0; due 7 serial 4 host s message; place 5 clock 7; s served 1; place 6 clock 7; s down done no draws 2 stable 0 unsynced 0; s served down; place 7 clock 7; place 8 clock 15; place 9 clock 19; place 9 clock 19 serial 8 net 8 torn 0 pending 0 held 0; place 10 clock 19; due 19 serial 8 host s start; place 11 clock 19; s up done no draws 3 stable 0 unsynced 0; s served 0; place 5 clock 7; place 5 clock 7 serial 8 net 8 torn 0 pending 3 held 0; due 7 serial 6 host s message; s served 1; s up done no draws 2 stable 0 unsynced 0
+^slow-disks
+# Primary-backup on slow disks. `a` is the primary, `b` the backup, and a sync takes 20 ms.
 # It shows a crash of `a` between a write and its sync: how much of each write its disk keeps, and what `a` knows after its restart.
 format = 2
 seed = "000102030405060708090a0b0c0d0e0f101112131415161718191a1b1c1d1e1f"
@@ -269,37 +201,10 @@ back 5
 look host a
 look next
 look probe b applied
-"#;
-
-const SLOW_DISKS_ANSWERS: &str = "place 1 clock 0
-place 2 clock 0
-place 3 clock 0
-due 5 serial 3 host a message
-place 4 clock 5
-a up done no draws 2 stable 0 unsynced 2
-due 25 serial 5 host a sync
-place 5 clock 5
-place 5 clock 5 serial 7 net 2 torn 2 pending 1 held 0
-a down done no draws 2 stable 137 unsynced 0
-place 6 clock 5
-a applied 1
-due 5 serial 7 host a start
-place 7 clock 5
-due 10 serial 8 host b message
-place 8 clock 10
-b up done no draws 2 stable 0 unsynced 2
-due 30 serial 10 host b sync
-place 9 clock 30
-b up done no draws 3 stable 137 unsynced 0
-b applied 1
-place 4 clock 5
-a up done no draws 2 stable 0 unsynced 2
-due 25 serial 5 host a sync
-b applied 0
-";
-
-const LOSSY_DIRECTION: &str =
-    r#"# Three servers keep a register. All that `c` sends to the client `w` is lost, and nothing else: a majority is enough for `w`.
+~
+place 1 clock 0; place 2 clock 0; place 3 clock 0; due 5 serial 3 host a message; place 4 clock 5; a up done no draws 2 stable 0 unsynced 2; due 25 serial 5 host a sync; place 5 clock 5; place 5 clock 5 serial 7 net 2 torn 2 pending 1 held 0; a down done no draws 2 stable 137 unsynced 0; place 6 clock 5; a applied 1; due 5 serial 7 host a start; place 7 clock 5; due 10 serial 8 host b message; place 8 clock 10; b up done no draws 2 stable 0 unsynced 2; due 30 serial 10 host b sync; place 9 clock 30; b up done no draws 3 stable 137 unsynced 0; b applied 1; place 4 clock 5; a up done no draws 2 stable 0 unsynced 2; due 25 serial 5 host a sync; b applied 0
+^lossy-direction
+# Three servers keep a register. All that `c` sends to the client `w` is lost, and nothing else: a majority is enough for `w`.
 # It shows a link with numbers of its own, for one direction.
 format = 2
 seed = "000102030405060708090a0b0c0d0e0f101112131415161718191a1b1c1d1e1f"
@@ -357,38 +262,10 @@ step
 step
 look host w
 look next
-"#;
-
-const LOSSY_DIRECTION_ANSWERS: &str = "place 1 clock 0
-place 2 clock 0
-place 3 clock 0
-place 4 clock 0
-place 4 clock 0 serial 8 net 6 torn 0 pending 4 held 0
-place 5 clock 7
-place 6 clock 7
-place 7 clock 15
-place 7 clock 15 serial 10 net 12 torn 0 pending 3 held 0
-c w open messages 0
-place 8 clock 19
-place 9 clock 29
-place 10 clock 36
-place 11 clock 36
-place 12 clock 40
-a val 3001
-b val 3001
-c val 0
-place 13 clock 40
-place 14 clock 41
-place 15 clock 41
-place 16 clock 45
-place 17 clock 47
-place 18 clock 229
-w up done yes draws 6 stable 0 unsynced 0
-none
-";
-
-const ABORTED: &str =
-    r#"# Two-phase commit on slow disks: a is the coordinator, b the participant, and a sync takes 5 ms.
+~
+place 1 clock 0; place 2 clock 0; place 3 clock 0; place 4 clock 0; place 4 clock 0 serial 8 net 6 torn 0 pending 4 held 0; place 5 clock 7; place 6 clock 7; place 7 clock 15; place 7 clock 15 serial 10 net 12 torn 0 pending 3 held 0; c w open messages 0; place 8 clock 19; place 9 clock 29; place 10 clock 36; place 11 clock 36; place 12 clock 40; a val 3001; b val 3001; c val 0; place 13 clock 40; place 14 clock 41; place 15 clock 41; place 16 clock 45; place 17 clock 47; place 18 clock 229; w up done yes draws 6 stable 0 unsynced 0; none
+^aborted
+# Two-phase commit on slow disks: a is the coordinator, b the participant, and a sync takes 5 ms.
 # Under this seed b votes against transaction 1, and it is aborted.
 format = 2
 seed = "0000000000000000000000000000000000000000000000000900000000000000"
@@ -407,24 +284,25 @@ name = "w"
 ops = 1
 ---
 run 1000
+~
+place 11 clock 45 all done
 "#;
 
-const ABORTED_ANSWERS: &str = "place 11 clock 45 all done
-";
-
-// Checks that the play of an input writes exactly this.
-pub fn plays(rt: &impl Abort, alloc: Global, input: &str, want: &str) {
-    let status = status_of(alloc, input.as_bytes(), b"", want.as_bytes());
-    assert_eq!(rt; status, Some(Status::Well), "{want}");
+/// Returns whether a play writes its answers, or `None` if it is not laid out as one.
+fn is_right(alloc: Global, example: &str) -> Option<bool> {
+    let (_, texts) = example.split_once('\n')?;
+    let (input, want) = texts.split_once("~\n")?;
+    let want = want.replace(alloc, "; ", "\n").ok()?;
+    let status = status_of(alloc, input.as_bytes(), b"", want.as_str());
+    Some(status == Some(Status::Well))
 }
 
 #[test]
 fn plays_the_examples(rt: HostRuntime) {
-    let alloc = rt.alloc();
-    plays(&rt, alloc, FIRST_RUN, FIRST_RUN_ANSWERS);
-    plays(&rt, alloc, PARTITION, PARTITION_ANSWERS);
-    plays(&rt, alloc, CRASH_AND_BOUNCE, CRASH_AND_BOUNCE_ANSWERS);
-    plays(&rt, alloc, SLOW_DISKS, SLOW_DISKS_ANSWERS);
-    plays(&rt, alloc, LOSSY_DIRECTION, LOSSY_DIRECTION_ANSWERS);
-    plays(&rt, alloc, ABORTED, ABORTED_ANSWERS);
+    for examples in [EXAMPLES, TORN] {
+        assert!(rt; examples.starts_with('^'));
+        for example in examples.split('^').skip(1) {
+            assert!(rt; is_right(rt.alloc(), example) == Some(true), "{example}");
+        }
+    }
 }

@@ -1,10 +1,7 @@
 //! Bad lines, and unusual lines that are not bad.
-use super::scenes::{push_times, status_of};
-use super::streams::HEAD;
+use super::scenes::{HEAD, lines_of, status_of};
 use sim_cli::Status;
-use std::alloc::AllocError;
 use std::process::Abort;
-use std::test::Fail;
 
 /// 61 lines that are no commands, and one that is. A carriage return is dropped only before a
 /// line's end.
@@ -73,13 +70,11 @@ look next
 ";
 
 #[test]
-fn refuses_lines_that_are_no_commands(rt: HostRuntime) -> Result<(), Fail> {
-    let mut want = String::new(rt.alloc());
-    push_times(&mut want, "bad line\n", 61)?;
-    want.push_str("due 0 serial 0 host a start\n")?;
-    let status = status_of(rt.alloc(), HEAD, BAD, want.as_bytes());
+fn refuses_lines_that_are_no_commands(rt: HostRuntime) {
+    let want = lines_of(rt.alloc(), "~61*bad line\n~due 0 serial 0 host a start");
+    let want = want.expect(&rt, "the answers");
+    let status = status_of(rt.alloc(), HEAD.as_bytes(), BAD, want.as_str());
     assert_eq!(rt; status, Some(Status::Well));
-    Ok(())
 }
 
 /// A scenario, and lines of all forms. A line has at most 256 bytes and is read whatever its
@@ -114,7 +109,7 @@ unwatch 0
 watch w.next < 0000000000000000001
 ";
 
-const ANSWERS: &[u8] = b"place 1 clock 0
+const ANSWERS: &str = "place 1 clock 0
 bad line
 bad line
 place 2 clock 0
@@ -133,35 +128,20 @@ bad line
 place 0 clock 0
 ";
 
-/// Adds the text `first`, a piece this many times, and the end of the line.
-fn push_line(
-    text: &mut String,
-    first: &str,
-    piece: &str,
-    times: u32,
-    end: &str,
-) -> Result<(), AllocError> {
-    text.push_str(first)?;
-    push_times(text, piece, times)?;
-    text.push_str(end)
-}
-
-/// Adds lines of 256 bytes and of more.
-fn push_long_lines(text: &mut String) -> Result<(), AllocError> {
-    push_line(text, "@0 ", " ", 245, "look next\n")?;
-    push_line(text, "@0 ", " ", 244, "look next\n")?;
-    push_line(text, "x", "x", 256, "\n")?;
-    push_line(text, "#", "x", 256, "\n")?;
-    push_line(text, "x", "x", 300_000, "\n")?;
-    push_line(text, "#", "x", 300_000, "\n")?;
-    text.push_str("back 1")
-}
+/// More lines, of 256 bytes and of more. The last one has no end.
+const LONG_LINES: &str = "\
+@0 ~245* ~look next
+@0 ~244* ~look next
+x~256*x~
+#~256*x~
+x~300000*x~
+#~300000*x~
+back 1";
 
 #[test]
-fn takes_lines_as_they_come(rt: HostRuntime) -> Result<(), Fail> {
-    let mut long = String::new(rt.alloc());
-    push_long_lines(&mut long)?;
-    let status = status_of(rt.alloc(), LINES, long.as_bytes(), ANSWERS);
+fn takes_lines_as_they_come(rt: HostRuntime) {
+    let long = lines_of(rt.alloc(), LONG_LINES).expect(&rt, "the lines");
+    let long = long.as_str().trim_end().as_bytes();
+    let status = status_of(rt.alloc(), LINES, long, ANSWERS);
     assert_eq!(rt; status, Some(Status::Well));
-    Ok(())
 }

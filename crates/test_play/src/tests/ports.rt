@@ -22,7 +22,7 @@ impl Eprint for Quiet {
 #[derive(Clone, Copy)]
 pub struct Pieces<'a> {
     pub rest: &'a [u8],
-    more: &'a [u8],
+    pub more: &'a [u8],
     pub most: usize,
     pub reads_left: usize,
 }
@@ -72,9 +72,10 @@ pub struct Narrow<'a> {
 }
 
 impl<'a> Narrow<'a> {
-    pub fn new(answers: &'a [u8]) -> Narrow<'a> {
+    /// Makes a writer of one byte a write that never fails.
+    pub fn new(answers: &'a str) -> Narrow<'a> {
         Narrow {
-            to_come: answers,
+            to_come: answers.as_bytes(),
             is_same: true,
             to_flush: answers.len(),
             most: 1,
@@ -83,31 +84,10 @@ impl<'a> Narrow<'a> {
         }
     }
 
-    /// Returns whether it got all expected bytes, and nothing else.
-    pub fn is_done(&self) -> bool {
-        self.is_same && self.to_come.is_empty()
-    }
-
-    /// Returns the part of the answers that it got.
-    pub fn told(&self, answers: &'a [u8]) -> &'a [u8] {
-        answers
-            .split_at(answers.len().saturating_sub(self.to_come.len()))
-            .0
-    }
-
-    /// Returns whether it got exactly `len` bytes of the answers, or all if they are shorter.
-    pub fn took(&self, answers: &[u8], len: usize) -> bool {
-        self.is_same && self.to_come.len() == answers.len().saturating_sub(len)
-    }
-}
-
-impl<'a> Narrow<'a> {
-    /// Makes a writer that takes any number of bytes in one write.
-    pub fn wide(answers: &'a [u8]) -> Narrow<'a> {
-        Narrow {
-            most: usize::MAX,
-            ..Narrow::new(answers)
-        }
+    /// Returns whether it got the expected bytes but for the last ones, this many, and nothing
+    /// else.
+    pub fn is_short_by(&self, len: usize) -> bool {
+        self.is_same && self.to_come.len() == len
     }
 }
 

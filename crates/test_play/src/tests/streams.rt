@@ -2,29 +2,22 @@
 ghost use Rattle.std.specs.Prelude.{codes, [], ◌∷◌};
 
 use super::ports::{Narrow, Pieces, Quiet};
-use super::scenes::played;
-use sim_cli::{EchoSubject, Only, Shipped, Status, Subject, Tally, With, play};
+use super::scenes::{HEAD, play_shipped};
+use sim_cli::{EchoSubject, Only, Status, Subject, Tally, With, play};
 use sim_node::Node;
 use sim_protocols::Echo;
-use std::alloc::Global;
-use std::io;
-use std::io::Read;
 use std::process::Abort;
+use std::test::Fail;
 
-/// A scenario of the server `a` and the client `w`, which sends two pings of 10 ms, and the line
-/// `---`: 14 lines.
-pub const HEAD: &[u8] =
-    b"format = 1\nseed = \"0000000000000000000000000000000000000000000000000000000000000000\"\nprotocol = \"echo\"\ntick = 100\nlatency_min = 10\nlatency_max = 10\nloss = 0\nservers = [\"a\"]\ncheckpoint = 4\nwindow = 2\n[[client]]\nname = \"w\"\nops = 2\n---\n";
+/// All that can happen to the two pings.
+const FIRST_RUN: &str = "step\nstep\nstep\nstep\nstep\nstep\nstep\nlook\n";
 
-/// The commands of the first run: all that can happen in the scenario.
-const FIRST_RUN: &[u8] = b"step\nstep\nstep\nstep\nstep\nstep\nstep\nlook\n";
-
-const FIRST_ANSWERS: &[u8] =
-    b"place 1 clock 0\nplace 2 clock 0\nplace 3 clock 10\nplace 4 clock 20\nplace 5 clock 30\nplace 6 clock 40\nrefused 7 Idle\nplace 6 clock 40 serial 6 net 8 torn 0 pending 0 held 0\n";
+const FIRST_ANSWERS: &str =
+    "place 1 clock 0\nplace 2 clock 0\nplace 3 clock 10\nplace 4 clock 20\nplace 5 clock 30\nplace 6 clock 40\nrefused 7 Idle\nplace 6 clock 40 serial 6 net 8 torn 0 pending 0 held 0\n";
 
 /// A scenario of a primary, a backup and a client, on disks whose syncs take 5 ms; the line `---`;
 /// and two lines that are skipped.
-const DISKS_HEAD: &[u8] = br#"format = 2
+const DISKS_HEAD: &str = r#"format = 2
 seed = "000102030405060708090a0b0c0d0e0f101112131415161718191a1b1c1d1e1f"
 protocol = "primary_backup"
 tick = 40
@@ -44,7 +37,7 @@ ops = 2
 "#;
 
 /// A script with each command on three branches. Some are refused. Its last line has no end.
-const EACH_COMMAND: &[u8] = br#"look next
+const EACH_COMMAND: &str = r#"look next
 step
 run 5
 branch 6
@@ -99,7 +92,7 @@ up p
 look"#;
 
 /// The answers, a line for each command. Another program wrote the same.
-const EACH_ANSWER: &[u8] = br#"due 0 serial 0 host p start
+const EACH_ANSWER: &str = r#"due 0 serial 0 host p start
 place 1 clock 0
 place 6 clock 27
 made 1
@@ -157,9 +150,9 @@ place 15 clock 95 serial 21 net 16 torn 0 pending 3 held 0
 /// A play: a scenario up to its line `---`, a script, and its answers.
 #[derive(Clone, Copy)]
 struct Example {
-    head: &'static [u8],
-    script: &'static [u8],
-    answers: &'static [u8],
+    head: &'static str,
+    script: &'static str,
+    answers: &'static str,
     /// How often the answers are flushed if each byte takes a read: before each line of the script,
     /// and at the end.
     flushes: usize,
@@ -182,207 +175,139 @@ const EACH: Example = Example {
 
 impl Example {
     fn reader(&self) -> Pieces<'static> {
-        Pieces::new(self.head, self.script)
+        Pieces::new(self.head.as_bytes(), self.script.as_bytes())
     }
 
-    fn len(&self) -> usize {
-        self.head.len().saturating_add(self.script.len())
-    }
-
-    /// Returns how many lines answer the bytes of this many reads: one for each whole line, and one
-    /// for the rest if the reads came to the end.
-    fn answered_lines(&self, reads: usize) -> usize {
-        if reads > self.len() {
-            return line_ends(self.answers);
-        }
+    /// Returns how many bytes of the answers are to come after this many reads of a byte: a line
+    /// answers each whole line, and one the rest if the reads came to the end.
+    fn to_come(&self, reads: usize) -> usize {
+        let script = self.script.as_bytes();
         let reads = reads.saturating_sub(self.head.len());
-        let (front, _) = self.script.split_at(reads.min(self.script.len()));
-        line_ends(front)
+        if reads > script.len() {
+            return 0;
+        }
+        let (front, _) = script.split_at(reads);
+        let lines = front.iter().filter(|byte| **byte == b'\n').count();
+        let mut rest = self.answers;
+        for _ in 0..lines {
+            rest = rest.split_once('\n').unwrap_or(("", "")).1;
+        }
+        rest.len()
     }
 }
 
-/// Returns the number of line ends in a text.
-fn line_ends(text: &[u8]) -> usize {
-    text.iter().filter(|byte| **byte == b'\n').count()
-}
-
-#[test]
-fn plays_a_byte_at_a_time(rt: HostRuntime) {
-    for example in [FIRST, EACH] {
-        let mut reader = example.reader();
-        let mut writer = Narrow::new(example.answers);
-        let status = played(rt.alloc(), &mut reader, &mut writer);
-        assert_eq!(rt; (status, status.number()), (Status::Well, 0));
-        // All is flushed before each line that takes a read, and at the end.
-        assert!(rt; writer.took(example.answers, example.answers.len()) && writer.to_flush == 0);
-        assert_eq!(rt;
-            1_000_usize.saturating_sub(writer.flushes_left),
-            example.flushes
-        );
-    }
-}
-
-/// Checks a play whose reader fails after this many reads of a byte: it writes the answers of the
-/// whole lines, and flushes them.
-fn a_read_fails<A: Abort + Drop>(rt: &A, alloc: Global, example: &Example, reads: usize) {
-    let mut reader = example.reader();
-    reader.reads_left = reads;
-    let mut writer = Narrow::new(example.answers);
-    let status = played(alloc, &mut reader, &mut writer);
-    let told = writer.told(example.answers);
-    let is_whole = told.last().is_none_or(|byte| *byte == b'\n');
-    let want = if reads <= example.len() {
-        Status::ReaderFailed
-    } else {
-        Status::Well
-    };
-    assert!(rt;
-        writer.is_same && is_whole && writer.to_flush == writer.to_come.len(),
-        "at read {reads}"
-    );
-    assert_eq!(rt;
-        (status, line_ends(told)),
-        (want, example.answered_lines(reads)),
-        "at read {reads}"
-    );
-}
-
-/// Each read of an input fails in turn, also the one that finds its end.
+/// Each read of an input fails in turn, also the one that finds its end, and at last none does. The
+/// answers of the whole lines are written and flushed.
 #[test]
 fn answers_whole_lines_up_to_a_failed_read(rt: HostRuntime) {
     for example in [FIRST, EACH] {
-        for reads in 0..example.len().saturating_add(2) {
-            a_read_fails(&rt, rt.alloc(), &example, reads);
+        let len = example.head.len().saturating_add(example.script.len());
+        for reads in 0..len.saturating_add(2) {
+            let mut reader = Pieces {
+                reads_left: reads,
+                ..example.reader()
+            };
+            let mut writer = Narrow {
+                flushes_left: example.flushes,
+                ..Narrow::new(example.answers)
+            };
+            let status = play_shipped(rt.alloc(), &mut reader, &mut writer);
+            if reads > len {
+                assert_eq!(rt; (status, status.number()), (Status::Well, 0));
+                assert_eq!(rt; writer.flushes_left, 0);
+            } else {
+                assert_eq!(rt; status, Status::ReaderFailed, "at read {reads}");
+            }
+            let to_come = example.to_come(reads);
+            assert!(rt; writer.is_short_by(to_come), "at read {reads}");
+            assert_eq!(rt; writer.to_flush, to_come, "at read {reads}");
         }
     }
 }
 
-/// Checks that a play, whose reader gives this many bytes a read, ends when its writer fails after
-/// this many writes of a byte.
-fn a_write_fails<A: Abort + Drop>(
-    rt: &A,
-    alloc: Global,
-    example: &Example,
-    most: usize,
-    writes: usize,
-) {
-    let mut reader = example.reader();
-    reader.most = most;
-    let mut writer = Narrow::new(example.answers);
-    writer.writes_left = writes;
-    let status = played(alloc, &mut reader, &mut writer);
-    assert!(rt; writer.took(example.answers, writes), "at write {writes}");
-    let want = if example.answers.len() <= writes {
-        Status::Well
-    } else {
-        Status::WriterFailed
-    };
-    assert_eq!(rt; status, want, "at write {writes}");
-}
-
-/// Each write of the answers fails in turn, if they are written line by line, and if they are
-/// buffered.
+/// Each write of the answers fails in turn, the last one first, and before that none does; if they
+/// are written line by line, and if they are buffered.
 #[test]
 fn stops_at_a_failed_write(rt: HostRuntime) {
     for (example, most) in [(FIRST, 1), (EACH, 1), (FIRST, 100_000)] {
-        for writes in 0..example.answers.len().saturating_add(1) {
-            a_write_fails(&rt, rt.alloc(), &example, most, writes);
+        for to_come in 0..example.answers.len().saturating_add(1) {
+            let mut reader = Pieces {
+                most,
+                ..example.reader()
+            };
+            let mut writer = Narrow {
+                writes_left: example.answers.len().saturating_sub(to_come),
+                ..Narrow::new(example.answers)
+            };
+            let status = play_shipped(rt.alloc(), &mut reader, &mut writer);
+            let want = if to_come == 0 {
+                Status::Well
+            } else {
+                Status::WriterFailed
+            };
+            assert_eq!(rt; status, want, "{to_come} bytes before the end");
+            assert!(rt;
+                writer.is_short_by(to_come),
+                "{to_come} bytes before the end"
+            );
         }
     }
 }
 
-const TWO_STEPS: &[u8] = b"place 1 clock 0\nplace 2 clock 0\n";
+const TWO_STEPS: &str = "step\nstep\n";
 
-/// Checks that a play whose writer fails after this many flushes ends there, and has written
-/// exactly this.
-fn a_flush_fails<A: Abort + Drop>(
-    rt: &A,
-    alloc: Global,
-    head: &[u8],
-    script: &[u8],
-    flushes: usize,
-    want: &[u8],
-) {
-    let mut reader = Pieces::new(head, script);
-    reader.most = 100_000;
-    let mut writer = Narrow::new(want);
-    writer.flushes_left = flushes;
-    let status = played(alloc, &mut reader, &mut writer);
-    assert_eq!(rt; status, Status::WriterFailed, "at flush {flushes}");
-    assert!(rt; writer.took(want, want.len()), "at flush {flushes}");
-}
+const TWO_PLACES: &str = "place 1 clock 0\nplace 2 clock 0\n";
 
 /// A flush fails before the script takes a read, before its next line does, at the end of the
-/// input, and for a fault.
+/// input, and for a fault. At last a writer takes nothing. A row has the most bytes of a read and
+/// of a write, and the number of flushes before the one that fails.
 #[test]
 fn stops_at_a_failed_flush(rt: HostRuntime) {
-    let alloc = rt.alloc();
-    let script = b"step\nstep\n".as_slice();
-    a_flush_fails(&rt, alloc, HEAD, script, 0, b"");
-    a_flush_fails(&rt, alloc, HEAD, script, 1, TWO_STEPS);
-    a_flush_fails(&rt, alloc, HEAD, script, 2, TWO_STEPS);
-    a_flush_fails(&rt, alloc, b"---\n", b"", 0, b"scenario fault 4 format\n");
-}
-
-#[test]
-fn a_writer_that_takes_nothing_has_failed(rt: HostRuntime) {
-    let mut reader = FIRST.reader();
-    let mut writer = Narrow::new(FIRST_ANSWERS);
-    writer.most = 0;
-    let status = played(rt.alloc(), &mut reader, &mut writer);
-    assert_eq!(rt; status, Status::WriterFailed);
-    assert!(rt; writer.took(FIRST_ANSWERS, 0));
-}
-
-/// A reader of this many `#`, one byte a read.
-#[derive(Clone, Copy)]
-struct Marks {
-    left: usize,
-}
-
-impl Read for Marks {
-    fn read(&mut self, buf: &mut [u8]) -> io::Result<usize> {
-        if buf.is_empty() || self.left == 0 {
-            return Ok(0);
-        }
-        self.left -= 1;
-        buf[0] = b'#';
-        Ok(1)
+    for (head, script, read, written, flushes_left, want) in [
+        (HEAD, TWO_STEPS, 100_000, 1, 0, ""),
+        (HEAD, TWO_STEPS, 100_000, 1, 1, TWO_PLACES),
+        (HEAD, TWO_STEPS, 100_000, 1, 2, TWO_PLACES),
+        ("---\n", "", 100_000, 1, 0, "scenario fault 4 format\n"),
+        (HEAD, FIRST_RUN, 1, 0, 1_000, ""),
+    ] {
+        let mut reader = Pieces {
+            most: read,
+            ..Pieces::new(head.as_bytes(), script.as_bytes())
+        };
+        let mut writer = Narrow {
+            most: written,
+            flushes_left,
+            ..Narrow::new(want)
+        };
+        let status = play_shipped(rt.alloc(), &mut reader, &mut writer);
+        assert_eq!(rt; status, Status::WriterFailed, "at flush {flushes_left}");
+        assert!(rt; writer.is_short_by(0), "at flush {flushes_left}");
     }
 }
 
-/// Checks that a play of a text that is no scenario, read byte by byte, leaves this much of it.
-fn leaves<A: Abort + Drop>(rt: &A, alloc: Global, input: &[u8], left: usize, want: &[u8]) {
-    let mut reader = Pieces::new(input, b"");
-    let mut writer = Narrow::new(want);
-    let status = played(alloc, &mut reader, &mut writer);
-    assert_eq!(rt; (status, reader.rest.len()), (Status::BadScenario, left));
-    assert!(rt; writer.took(want, want.len()));
-}
-
+/// A text that is no scenario is read up to its end, and a long one not even so far. What comes
+/// after it stays unread.
 #[test]
-fn reads_no_more_than_a_bad_scenario(rt: HostRuntime) {
+fn reads_no_more_than_a_bad_scenario(rt: HostRuntime) -> Result<(), Fail> {
     let alloc = rt.alloc();
-    let format = b"scenario fault 4 format\n".as_slice();
-    leaves(&rt, alloc, b"", 0, format);
-    leaves(&rt, alloc, b"---\nstep\n", 5, format);
-    leaves(
-        &rt,
-        alloc,
-        b"\xff\n---\r\nstep\n",
-        5,
-        b"scenario fault 2 text\n",
-    );
-}
-
-#[test]
-fn reads_no_more_than_a_long_scenario(rt: HostRuntime) {
-    let mut long = Marks { left: 65_700 };
-    let want = b"scenario fault 1 text\n".as_slice();
-    let mut writer = Narrow::new(want);
-    let status = play::<Shipped, _, _, _>(&Quiet, rt.alloc(), &mut long, &mut writer);
-    assert_eq!(rt; (status, long.left), (Status::BadScenario, 100));
-    assert!(rt; writer.took(want, want.len()));
+    let long = "#".repeat(alloc, 65_700)?;
+    for (input, left, want) in [
+        (b"".as_slice(), 0, "scenario fault 4 format\n"),
+        (b"---\nstep\n".as_slice(), 5, "scenario fault 4 format\n"),
+        (
+            b"\xff\n---\r\nstep\n".as_slice(),
+            5,
+            "scenario fault 2 text\n",
+        ),
+        (long.as_bytes(), 100, "scenario fault 1 text\n"),
+    ] {
+        let mut reader = Pieces::new(input, b"");
+        let mut writer = Narrow::new(want);
+        let status = play_shipped(alloc, &mut reader, &mut writer);
+        assert_eq!(rt; (status, reader.rest.len()), (Status::BadScenario, left));
+        assert!(rt; writer.is_short_by(0), "{want}");
+    }
+    Ok(())
 }
 
 /// A variant of echo, with a name and names of probes of its own.
@@ -413,30 +338,34 @@ impl Subject for Pings {
 }
 
 /// The scenario of `HEAD`, for another protocol than echo.
-const PINGS_HEAD: &[u8] =
-    b"format = 1\nseed = \"0000000000000000000000000000000000000000000000000000000000000000\"\nprotocol = \"pings\"\ntick = 100\nlatency_min = 10\nlatency_max = 10\nloss = 0\nservers = [\"a\"]\ncheckpoint = 4\nwindow = 2\n[[client]]\nname = \"w\"\nops = 2\n---\n";
-
-/// Checks that a play over the two subjects writes this, and ends with this status.
-fn plays_two<A: Abort + Drop>(rt: &A, alloc: Global, head: &[u8], want: &[u8], status: Status) {
-    let mut reader = Pieces::new(head, b"step\nlook probe w pings\n");
-    let mut writer = Narrow::new(want);
-    let ended = play::<With<EchoSubject, Only<Pings>>, _, _, _>(
-        &Quiet,
-        alloc,
-        &mut reader,
-        &mut writer,
-    );
-    assert_eq!(rt; ended, status);
-    assert!(rt; writer.took(want, want.len()));
-}
+const PINGS_HEAD: &str =
+    "format = 1\nseed = \"0000000000000000000000000000000000000000000000000000000000000000\"\nprotocol = \"pings\"\ntick = 100\nlatency_min = 10\nlatency_max = 10\nloss = 0\nservers = [\"a\"]\ncheckpoint = 4\nwindow = 2\n[[client]]\nname = \"w\"\nops = 2\n---\n";
 
 #[test]
 fn plays_subjects_of_ones_own(rt: HostRuntime) {
-    let alloc = rt.alloc();
-    let pings = b"place 1 clock 0\nw pings 0\n".as_slice();
-    plays_two(&rt, alloc, PINGS_HEAD, pings, Status::Well);
-    let echo = b"place 1 clock 0\nrefused 11 BadCondition\n".as_slice();
-    plays_two(&rt, alloc, HEAD, echo, Status::Well);
-    let other = b"scenario fault 7 protocol\n".as_slice();
-    plays_two(&rt, alloc, DISKS_HEAD, other, Status::BadScenario);
+    let script = b"step\nlook probe w pings\n".as_slice();
+    for (head, want, status) in [
+        (PINGS_HEAD, "place 1 clock 0\nw pings 0\n", Status::Well),
+        (
+            HEAD,
+            "place 1 clock 0\nrefused 11 BadCondition\n",
+            Status::Well,
+        ),
+        (
+            DISKS_HEAD,
+            "scenario fault 7 protocol\n",
+            Status::BadScenario,
+        ),
+    ] {
+        let mut reader = Pieces::new(head.as_bytes(), script);
+        let mut writer = Narrow::new(want);
+        let ended = play::<With<EchoSubject, Only<Pings>>, _, _, _>(
+            &Quiet,
+            rt.alloc(),
+            &mut reader,
+            &mut writer,
+        );
+        assert_eq!(rt; ended, status, "{want}");
+        assert!(rt; writer.is_short_by(0), "{want}");
+    }
 }

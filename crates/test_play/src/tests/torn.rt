@@ -1,9 +1,104 @@
-//! The plays of the folder `examples` in which a crash tears a write, and their answers, byte by
-//! byte.
-use super::examples::plays;
+//! The plays of the folder `examples` in which a put comes to a host before its start, or a crash
+//! tears a write, laid out as in `examples`.
 
-const TORN_COMMIT: &str =
-    r#"# Two-phase commit on slow disks: a is the coordinator, b the participant, and a sync takes 5 ms.
+/// Plays, each after `^` and its name; after `~` its answers, which are separated by `; `.
+pub const TORN: &str = r#"^early-put
+# Primary-backup with a primary a and a backup b. Every message takes 10 ms, and a sync 5 ms. w puts two values.
+# a restarts, and takes a put before its start: b never gets the put before that one, and w is never done.
+format = 2
+seed = "0000000000000000000000000000000000000000000000000000000000000000"
+protocol = "primary_backup"
+tick = 100
+latency_min = 10
+latency_max = 10
+loss = 0
+disk_latency = 5
+servers = ["a", "b"]
+checkpoint = 64
+window = 64
+
+[[client]]
+name = "w"
+ops = 2
+---
+# a has put 1 on its disk, and the cut keeps it from b. w has no answer, and sends the put again.
+partition a b
+run 5
+hold w a
+run 2
+look probe a applied
+look probe b applied
+
+# The put comes to a just as a restarts. It has the older serial, so it comes before the start.
+release w a
+bounce a
+look next
+step
+look probe a applied
+look next
+step
+
+# a begins the put as its second one, and sends that alone. b waits for the first one, and takes no other.
+repair a b
+run 1000
+look probe w next
+look probe a applied
+look probe b applied
+
+# If the start comes first, the put waits until b has the one before it, and w is done.
+branch 9
+@1 bounce a
+@1 step
+@1 release w a
+@1 repair a b
+@1 run 1000
+~
+place 1 clock 0; place 6 clock 15; place 7 clock 15; place 9 clock 200; a applied 1; b applied 0; place 10 clock 200; place 11 clock 200; due 200 serial 10 host a message; place 12 clock 200; a applied 2; due 200 serial 11 host a start; place 13 clock 200; place 14 clock 200; place 1014 clock 33515; w next 1; a applied 2; b applied 0; made 1; place 10 clock 200; place 11 clock 200; place 12 clock 200; place 13 clock 200; place 29 clock 415 all done
+^early-apply
+# Primary-backup with a primary a and a backup b. Every message takes 10 ms, and a sync 5 ms. w puts one value.
+# a restarts, and takes a put before its start: the start sends the put to b before it is stable, and a crash of a loses it.
+format = 2
+seed = "0000000000000000000000000000000000000000000000000400000000000000"
+protocol = "primary_backup"
+tick = 100
+latency_min = 10
+latency_max = 10
+loss = 0
+disk_latency = 5
+servers = ["a", "b"]
+checkpoint = 64
+window = 64
+
+[[client]]
+name = "w"
+ops = 1
+---
+# The put comes to a just as a restarts. It has the older serial, so it comes before the start.
+hold w a
+run 3
+release w a
+bounce a
+watch b.applied <= a.applied
+run 2
+look host a
+look next
+
+# a has sent the put to b, and its own write is not stable. The crash loses it.
+crash a
+look host a
+bounce a
+run 2
+look probe a applied
+look probe b applied
+
+# a begins the put again, as its first one. b takes it for one that it has, and acknowledges it.
+unwatch 0
+run 1000
+look probe w next
+~
+place 1 clock 0; place 4 clock 0; place 5 clock 0; place 6 clock 0; made 0; place 8 clock 0; a up done no draws 3 stable 0 unsynced 2; due 5 serial 6 host a sync; place 9 clock 0; a down done no draws 3 stable 16 unsynced 0; place 10 clock 0; place 12 clock 10 watch 0; a applied 0; b applied 1; dropped 0; place 20 clock 245 all done; w next 2
+^torn-commit
+# Two-phase commit on slow disks: a is the coordinator, b the participant, and a sync takes 5 ms.
 # A crash that tears the coordinator's write of its commit breaks their agreement on transaction 1.
 format = 2
 seed = "0000000000000000000000000000000000000000000000000500000000000000"
@@ -54,33 +149,10 @@ look probe b first
 # A step back they still agreed.
 back 1
 look probe b first
-"#;
-
-const TORN_COMMIT_ANSWERS: &str = "place 1 clock 0
-place 2 clock 0
-place 3 clock 0
-place 4 clock 10
-place 5 clock 15
-place 6 clock 25
-place 7 clock 30
-place 8 clock 40
-a up done no draws 4 stable 10 unsynced 1
-place 9 clock 40
-place 10 clock 40
-a up done no draws 4 stable 10 unsynced 0
-a first 2
-b first 0
-place 11 clock 40
-due 50 serial 15 host b message
-place 12 clock 50
-a first 2
-b first 1
-place 11 clock 40
-b first 0
-";
-
-const WALK_BACK: &str =
-    r#"# The run of torn-commit.play, approached from behind: a watch stops the run where the servers disagree, a rewind finds where it
+~
+place 1 clock 0; place 2 clock 0; place 3 clock 0; place 4 clock 10; place 5 clock 15; place 6 clock 25; place 7 clock 30; place 8 clock 40; a up done no draws 4 stable 10 unsynced 1; place 9 clock 40; place 10 clock 40; a up done no draws 4 stable 10 unsynced 0; a first 2; b first 0; place 11 clock 40; due 50 serial 15 host b message; place 12 clock 50; a first 2; b first 1; place 11 clock 40; b first 0
+^walk-back
+# The run of torn-commit.play, approached from behind: a watch stops the run where the servers disagree, a rewind finds where it
 # began, and a branch shows what happens without the crash.
 format = 2
 seed = "0000000000000000000000000000000000000000000000000500000000000000"
@@ -125,30 +197,10 @@ look probe a first
 
 # All events that the first branch keeps.
 trace
-"#;
-
-const WALK_BACK_ANSWERS: &str = r#"made 0
-place 8 clock 40
-made 1
-place 9 clock 40
-place 10 clock 40
-place 12 clock 50 watch 0
-a first 2
-b first 1
-made 1
-place 8 clock 40 watch 1
-a up done no draws 4 stable 10 unsynced 1
-place 9 clock 40
-place 10 clock 40
-a first 2
-place 16 clock 140 all done
-a first 1
-b first 1
-{"branch":0,"events":["step","step","step","step","step","step","step","step","crash a","bounce a","step","step"]}
-"#;
-
-const TORN_TAG: &str =
-    r#"# The register on slow disks: a, b and c keep it, and a sync takes 5 ms. w writes 3001, reads, writes 3003, and reads again.
+~
+made 0; place 8 clock 40; made 1; place 9 clock 40; place 10 clock 40; place 12 clock 50 watch 0; a first 2; b first 1; made 1; place 8 clock 40 watch 1; a up done no draws 4 stable 10 unsynced 1; place 9 clock 40; place 10 clock 40; a first 2; place 16 clock 140 all done; a first 1; b first 1; {"branch":0,"events":["step","step","step","step","step","step","step","step","crash a","bounce a","step","step"]}
+^torn-tag
+# The register on slow disks: a, b and c keep it, and a sync takes 5 ms. w writes 3001, reads, writes 3003, and reads again.
 # A crash of a tears its write of 3003: it keeps the new tag with the old value, and the last read goes back to 3001.
 format = 2
 seed = "0000000000000000000000000000000000000000000000000200000000000000"
@@ -203,38 +255,10 @@ look probe w val
 branch 38
 @1 run 100
 @1 look probe w val
-"#;
-
-const TORN_TAG_ANSWERS: &str = "made 0
-place 30 clock 85 watch 0
-w val 3001
-dropped 0
-made 0
-place 38 clock 115 watch 0
-a up done no draws 8 stable 24 unsynced 1
-a val 3003
-place 39 clock 115
-place 40 clock 115
-a up done no draws 8 stable 24 unsynced 0
-a num 2
-a val 3001
-dropped 0
-made 0
-place 47 clock 130 watch 0
-w next 4
-a val 3001
-b val 3003
-c val 3003
-dropped 0
-place 58 clock 170 all done
-w val 3001
-made 1
-place 57 clock 170 all done
-w val 3003
-";
-
-const TORN_CELL: &str =
-    r#"# Primary-backup on slow disks: a is the primary, b the backup, and a sync takes 5 ms. w puts one value into cell 1.
+~
+made 0; place 30 clock 85 watch 0; w val 3001; dropped 0; made 0; place 38 clock 115 watch 0; a up done no draws 8 stable 24 unsynced 1; a val 3003; place 39 clock 115; place 40 clock 115; a up done no draws 8 stable 24 unsynced 0; a num 2; a val 3001; dropped 0; made 0; place 47 clock 130 watch 0; w next 4; a val 3001; b val 3003; c val 3003; dropped 0; place 58 clock 170 all done; w val 3001; made 1; place 57 clock 170 all done; w val 3003
+^torn-cell
+# Primary-backup on slow disks: a is the primary, b the backup, and a sync takes 5 ms. w puts one value into cell 1.
 # A crash of a keeps the cell that it wrote and loses the count beside it: a has a value that b does not have.
 format = 2
 seed = "0000000000000000000000000000000000000000000000000400000000000000"
@@ -279,31 +303,10 @@ look probe b applied
 @1 look host b
 @1 look probe a applied
 @1 look probe b applied
-"#;
-
-const TORN_CELL_ANSWERS: &str = "place 4 clock 10
-a up done no draws 2 stable 0 unsynced 2
-a applied 1
-place 5 clock 10
-place 6 clock 10
-a up done no draws 2 stable 16 unsynced 0
-a applied 0
-made 1
-place 7 clock 10
-place 8 clock 10 idle
-a up done no draws 3 stable 16 unsynced 0
-b up done no draws 1 stable 0 unsynced 0
-a applied 0
-b applied 0
-place 14 clock 250 all done
-a up done no draws 6 stable 137 unsynced 0
-b up done no draws 3 stable 137 unsynced 0
-a applied 1
-b applied 1
-";
-
-const TORN_COUNT: &str =
-    r#"# Primary-backup on slow disks: a is the primary, b the backup, and a sync takes 5 ms. w puts 300 values.
+~
+place 4 clock 10; a up done no draws 2 stable 0 unsynced 2; a applied 1; place 5 clock 10; place 6 clock 10; a up done no draws 2 stable 16 unsynced 0; a applied 0; made 1; place 7 clock 10; place 8 clock 10 idle; a up done no draws 3 stable 16 unsynced 0; b up done no draws 1 stable 0 unsynced 0; a applied 0; b applied 0; place 14 clock 250 all done; a up done no draws 6 stable 137 unsynced 0; b up done no draws 3 stable 137 unsynced 0; a applied 1; b applied 1
+^torn-count
+# Primary-backup on slow disks: a is the primary, b the backup, and a sync takes 5 ms. w puts 300 values.
 # A crash of a tears its count of puts on the way from 255 to 256, so that it reads 0: the puts from there on never reach b.
 format = 2
 seed = "0000000000000000000000000000000000000000000000000700000000000000"
@@ -346,34 +349,6 @@ branch 1534
 @1 look probe w next
 @1 look probe a applied
 @1 look probe b applied
+~
+made 0; place 1534 clock 12760 watch 0; a up done no draws 767 stable 137 unsynced 2; b applied 255; place 1535 clock 12760; place 1536 clock 12760; a applied 0; b applied 255; dropped 0; place 1763 clock 14975 all done; w next 301; a applied 45; b applied 255; made 1; place 1803 clock 15000 all done; w next 301; a applied 300; b applied 300
 "#;
-
-const TORN_COUNT_ANSWERS: &str = "made 0
-place 1534 clock 12760 watch 0
-a up done no draws 767 stable 137 unsynced 2
-b applied 255
-place 1535 clock 12760
-place 1536 clock 12760
-a applied 0
-b applied 255
-dropped 0
-place 1763 clock 14975 all done
-w next 301
-a applied 45
-b applied 255
-made 1
-place 1803 clock 15000 all done
-w next 301
-a applied 300
-b applied 300
-";
-
-#[test]
-fn plays_torn_writes(rt: HostRuntime) {
-    let alloc = rt.alloc();
-    plays(&rt, alloc, TORN_COMMIT, TORN_COMMIT_ANSWERS);
-    plays(&rt, alloc, WALK_BACK, WALK_BACK_ANSWERS);
-    plays(&rt, alloc, TORN_TAG, TORN_TAG_ANSWERS);
-    plays(&rt, alloc, TORN_CELL, TORN_CELL_ANSWERS);
-    plays(&rt, alloc, TORN_COUNT, TORN_COUNT_ANSWERS);
-}
