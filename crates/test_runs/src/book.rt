@@ -1,259 +1,361 @@
-//! Books of echo: the work of jumps, refusals in their order, and commands of each kind. Worked
-//! plays of whole scripts are in `test_program`.
+//! Books of echo and the tapes of their branches: worked rows of orders and answers, the numbers of
+//! entries, and a frozen run. Worked plays of whole scripts are in `test_program`.
 //!
 //! The contract of `Book::turn` says how each command is answered, for every book and every
-//! command. It cannot say that a turn succeeds if memory is ample, nor that its definitions are the
-//! ones that were meant. These tests check both.
+//! command, and those of a tape how far its records reach and how many turns, copies and undos a
+//! call takes at most. They cannot say that a call succeeds if memory is ample, nor that their
+//! definitions are the ones that were meant. These tests check both.
 //!
-//! - Worked rows: refusals in their order, a rewind, commands on two branches, and the turns, copies
-//!   and undos that each jump takes.
+//! - The rows have each kind of command, refusals in their order, a rewind, commands on two branches,
+//!   and the turns, copies and undos of steps and jumps. The jumps take each way: undo by records,
+//!   forward from the place, and from a checkpoint.
 //! - `proofs/BookRows.antt` computes the definitions on a small book, as lemmas.
 //!
 //! What each test catches:
-//! - `refusals_come_in_order`: a refusal for another reason, or a refused command that moves.
-//! - `commands_are_carried_out`: a turn that answers want of memory for no reason, whatever its
-//!   command; a rewind that passes over a failing place; two branches that are not apart.
-//! - `jumps_take_the_nearest_way`: a jump that replays or copies more, or gives up; a branch whose
-//!   world is not lent, or that exists before it is made.
+//! - `books_go_by_their_rows`: a turn that answers want of memory for no reason, whatever its
+//!   command; places, clocks and views other than one works out by hand; a refusal for another
+//!   reason, or a refused command that moves; a rewind that passes over a failing place; branches
+//!   that are not apart; a step or a jump that takes more work; a branch whose world is not lent,
+//!   or that exists before it is made.
 //! - `sessions_are_numbered_apart`: an entry under another number; a freeze that returns nothing.
-use sim_book::{Book, Command, Refusal, Reply, Stop};
+//! - `a_frozen_run_makes_tapes`: a frozen run that changes with its origin, or a tape of it that is
+//!   made with other work.
+use crate::scenes::{NEXT, tape_of};
+use sim_book::{Book, Command, Reply};
 use sim_echo::Echo;
 use sim_watch::{Comparison, Cond, Op, SharedCond, Term, Value};
-use sim_world::{Fault, Query, View};
-use std::alloc::Global;
+use sim_world::{Event, Fault, Query};
+use std::alloc::{AllocError, Global};
 use std::process::Abort;
 use std::test::Fail;
 use test_support::{Counts, Setting, TWO_ECHOES};
 
 type EchoBook = Book<Echo<Counts>>;
 
-/// The probe of a client of echo that shows its next operation.
-const NEXT: u8 = 0;
+// Scenes of a book of one server and one client with two operations. A title begins with the
+// interval and the window of the scene. An order names its branch first. An answer has the place,
+// the clock and why a command stopped; with a jump also the turns, copies and undos that it took.
+//
+// `here` shows the clock of a branch's world, whether a step can happen there, and whether its tape
+// is warm. `count` shows all turns, copies and undos of the book so far.
+const SCENES: &str = "\
+#4 2 A run is walked back.
+step 0: 1 0 Asked
+step 0: 2 0 Asked
+step 0: 3 10 Asked
+step 0: 4 20 Asked
+step 0: 5 30 Asked
+step 0: 6 40 Asked
+step 0: Idle
+here 0: Some((40, Err(Idle))) Some(true)
+back 0 6: 0 0 Asked
+summary 0: 0 Summary { clock: 0, serial: 2, net: 0, torn: 0, pending: 2, held: 0 }
+forward 0 6: 6 40 Asked
+summary 0: 6 Summary { clock: 40, serial: 6, net: 8, torn: 0, pending: 0, held: 0 }
+#4 2 A release is undone.
+hold 0 0 1: 1 0 Asked
+step 0: 2 0 Asked
+step 0: 3 0 Asked
+release 0 0 1: 4 0 Asked
+next 0: 4 Next(Some(Coming { due: 0, serial: 2, host: 0, kind: Message }))
+back 0 1: 3 0 Asked
+summary 0: 3 Summary { clock: 0, serial: 2, net: 0, torn: 0, pending: 0, held: 1 }
+forward 0 1: 4 0 Asked
+next 0: 4 Next(Some(Coming { due: 0, serial: 2, host: 0, kind: Message }))
+#4 2 A crash is undone.
+crash 0 0: 1 0 Asked
+summary 0: 1 Summary { clock: 0, serial: 2, net: 0, torn: 0, pending: 1, held: 0 }
+crash 0 0: 2 0 Asked
+summary 0: 2 Summary { clock: 0, serial: 2, net: 0, torn: 0, pending: 1, held: 0 }
+back 0 1: 1 0 Asked
+summary 0: 1 Summary { clock: 0, serial: 2, net: 0, torn: 0, pending: 1, held: 0 }
+forward 0 1: 2 0 Asked
+bounce 0 0: 3 0 Asked
+summary 0: 3 Summary { clock: 0, serial: 3, net: 0, torn: 0, pending: 2, held: 0 }
+#4 2 A tail is cut.
+step 0: 1 0 Asked
+step 0: 2 0 Asked
+step 0: 3 10 Asked
+step 0: 4 20 Asked
+step 0: 5 30 Asked
+step 0: 6 40 Asked
+back 0 2: 4 20 Asked
+freeze 0: frozen 6
+cut 0: 4 20 Asked
+freeze 0: frozen 4
+step 0: 5 30 Asked
+step 0: 6 40 Asked
+freeze 0: frozen 6
+#4 2 Adding an event counts a turn, and the copies of each checkpoint.
+count: (2, 2, 0)
+step 0: 1 0 Asked
+count: (3, 2, 0)
+step 0: 2 0 Asked
+count: (4, 2, 0)
+step 0: 3 10 Asked
+count: (5, 2, 0)
+step 0: 4 20 Asked
+count: (6, 4, 0)
+step 0: 5 30 Asked
+count: (7, 4, 0)
+step 0: 6 40 Asked
+count: (8, 4, 0)
+#4 2 Jumps after steps take the nearest way.
+step 0: 1 0 Asked
+step 0: 2 0 Asked
+step 0: 3 10 Asked
+step 0: 4 20 Asked
+step 0: 5 30 Asked
+step 0: 6 40 Asked
+goto 0 5: 5 30 Asked by (0, 0, 1)
+freeze 0: frozen 6
+goto 0 1: 1 0 Asked by (1, 2, 0)
+freeze 0: frozen 6
+goto 0 4: 4 20 Asked by (0, 2, 0)
+freeze 0: frozen 6
+goto 0 6: 6 40 Asked by (2, 0, 0)
+freeze 0: frozen 6
+#4 2 Jumps after a run take the nearest way.
+run 0 100: 6 40 AllDone
+goto 0 5: 5 30 Asked by (0, 0, 1)
+here 0: Some((30, Ok(()))) Some(true)
+here 1: None None
+goto 0 1: 1 0 Asked by (1, 2, 0)
+here 0: Some((0, Ok(()))) Some(true)
+here 1: None None
+goto 0 4: 4 20 Asked by (0, 2, 0)
+here 0: Some((20, Ok(()))) Some(true)
+here 1: None None
+#1 1 After steps, each event has its checkpoint.
+step 0: 1 0 Asked
+step 0: 2 0 Asked
+step 0: 3 10 Asked
+step 0: 4 20 Asked
+step 0: 5 30 Asked
+step 0: 6 40 Asked
+goto 0 2: 2 0 Asked by (0, 2, 0)
+freeze 0: frozen 6
+#1 1 After a run, each event has its checkpoint.
+run 0 100: 6 40 AllDone
+goto 0 2: 2 0 Asked by (0, 2, 0)
+here 0: Some((0, Ok(()))) Some(true)
+here 1: None None
+#4 2 The server crashes on a branch, before and after its origin goes on.
+step 0: 1 0 Asked
+step 0: 2 0 Asked
+step 0: 3 10 Asked
+branch 0 3: made 1
+here 1: None Some(false)
+cut 1: 3 10 Asked
+freeze 1: frozen 3
+crash 1 0: 4 10 Asked
+step 1: 5 20 Asked
+step 1: 6 30 Asked
+step 1: Idle
+here 1: Some((30, Err(Idle))) Some(true)
+summary 1: 6 Summary { clock: 30, serial: 5, net: 6, torn: 0, pending: 0, held: 0 }
+step 0: 4 20 Asked
+step 0: 5 30 Asked
+step 0: 6 40 Asked
+branch 0 3: made 2
+here 2: None Some(false)
+cut 2: 3 10 Asked
+freeze 2: frozen 3
+crash 2 0: 4 10 Asked
+step 2: 5 20 Asked
+step 2: 6 30 Asked
+step 2: Idle
+here 2: Some((30, Err(Idle))) Some(true)
+summary 2: 6 Summary { clock: 30, serial: 5, net: 6, torn: 0, pending: 0, held: 0 }
+goto 0 4: 4 20 Asked by (0, 0, 2)
+freeze 0: frozen 6
+#4 2 Refusals before the end of a branch come in order.
+run 0 100: 6 40 AllDone
+back 0 1: 5 30 Asked
+hold 0 0 0: SameHost
+hold 0 9 9: UnknownHost
+hold 0 0 1: NotAtEnd
+crash 0 2: UnknownHost
+goto 0 9: TooFar by (0, 0, 0)
+step 0: NotAtEnd
+step 9: UnknownBranch
+unwatch 0 0: UnknownWatch
+link 0 1 1: SameHost
+probe 0 0 9: BadCondition
+watch_nothing 0: BadCondition
+freeze 0: frozen 6
+#4 2 A rewind past the window, and what follows the first run from there.
+run 0 100: 6 40 AllDone
+watch 0: made 0
+rewind 0 6: 3 10 Watch(0)
+unwatch 0 0: dropped 0
+forward 0 1: 4 20 Asked
+cut 0: 4 20 Asked
+step 0: 5 30 Asked
+branch 0 5: made 1
+crash 1 0: 6 30 Asked
+summary 1: 6 Summary { clock: 30, serial: 6, net: 8, torn: 0, pending: 1, held: 0 }
+run 1 9: 7 40 AllDone
+tick 0: 7 130 AllDone
+";
 
-/// What a reply says; of a list of events, its length.
-#[derive(Clone, Copy, Debug, PartialEq, Eq)]
-enum Told {
-    Moved(u32, u64, Stop),
-    Made(u32),
-    Dropped(u32),
-    Seen(u32, View),
-    Frozen(u32),
-    Refused(Refusal),
+// The client's next operation is above 1.
+const IS_PAST_ONE: Term = Term::Cmp(
+    1,
+    NEXT,
+    Comparison {
+        op: Op::Greater,
+        value: Value::Number(1),
+    },
+);
+
+// Returns the number of a word: 0 if it is left out, and 255, which names nothing, if it is none.
+fn number(word: Option<&str>) -> u8 {
+    word.unwrap_or("0").parse::<u8>().unwrap_or(255)
 }
 
-fn tell(reply: &Reply) -> Told {
+// Returns the command of a name, on a branch and with two numbers more.
+fn command(alloc: Global, name: &str, branch: u32, first: u8, second: u8) -> Result<Command, Fail> {
+    let (count, host, other) = (u32::from(first), u16::from(first), u16::from(second));
+    Ok(match name {
+        "step" => Command::Step(branch),
+        "tick" => Command::Tick(branch),
+        "run" => Command::Run(branch, count),
+        "crash" => Command::Fault(branch, Fault::Crash(host)),
+        "bounce" => Command::Fault(branch, Fault::Bounce(host)),
+        "hold" => Command::Fault(branch, Fault::Hold(host, other)),
+        "release" => Command::Fault(branch, Fault::Release(host, other)),
+        "back" => Command::Back(branch, count),
+        "forward" => Command::Forward(branch, count),
+        "goto" => Command::Goto(branch, count),
+        "rewind" => Command::Rewind(branch, count),
+        "cut" => Command::Cut(branch),
+        "branch" => Command::Branch(branch, count),
+        "watch" => Command::Watch(
+            branch,
+            SharedCond::new(alloc, Cond::new().and(IS_PAST_ONE)?)?,
+        ),
+        "watch_nothing" => Command::Watch(branch, SharedCond::new(alloc, Cond::new())?),
+        "unwatch" => Command::Unwatch(branch, count),
+        "summary" => Command::Look(branch, Query::Summary),
+        "next" => Command::Look(branch, Query::Next),
+        "link" => Command::Look(branch, Query::Link(host, other)),
+        "probe" => Command::Look(branch, Query::Probe(host, second)),
+        "freeze" => Command::Freeze(branch),
+        _ => return Err(Fail::from("an unknown command")),
+    })
+}
+
+// Writes what a reply says; of a list of events, its length.
+fn tell(told: &mut String, reply: &Reply) -> Result<(), AllocError> {
     match reply {
-        Reply::Moved { place, clock, stop } => Told::Moved(*place, *clock, *stop),
-        Reply::Made(number) => Told::Made(*number),
-        Reply::Dropped(number) => Told::Dropped(*number),
-        Reply::Seen { place, view } => Told::Seen(*place, *view),
-        Reply::Frozen(list) => Told::Frozen(list.len()),
-        Reply::Refused(why) => Told::Refused(*why),
+        Reply::Moved { place, clock, stop } => write!(told, "{place} {clock} {stop:?}"),
+        Reply::Made(number) => write!(told, "made {number}"),
+        Reply::Dropped(number) => write!(told, "dropped {number}"),
+        Reply::Seen { place, view } => write!(told, "{place} {view:?}"),
+        Reply::Frozen(list) => write!(told, "frozen {}", list.len()),
+        Reply::Refused(why) => write!(told, "{why:?}"),
     }
 }
 
-// Returns the answer of a command that went as far as asked.
-fn asked(place: u32, clock: u64) -> Told {
-    Told::Moved(place, clock, Stop::Asked)
+// Gives a book the order of a row, and compares the answer.
+fn goes_by(rt: &impl Abort, alloc: Global, book: &mut EchoBook, row: &str) -> Result<(), Fail> {
+    let Some((order, want)) = row.split_once(": ") else {
+        return Err(Fail::from("no answer"));
+    };
+    let mut words = order.split(' ');
+    let name = words.next().unwrap_or("");
+    let branch = u32::from(number(words.next()));
+    let (first, second) = (number(words.next()), number(words.next()));
+    let mut told = String::new(alloc);
+    match name {
+        "count" => write!(told, "{:?}", book.meter().counted())?,
+        "here" => {
+            let here = book
+                .here(branch)
+                .map(|world| (world.clock(), world.can(Event::Step)));
+            write!(told, "{here:?} {:?}", book.warm(branch))?;
+        }
+        _ => {
+            let before = book.meter().counted();
+            let entry = book.turn(alloc, 0, command(alloc, name, branch, first, second)?)?;
+            tell(&mut told, &entry.reply)?;
+            if name == "goto" {
+                write!(told, " by {:?}", book.meter().since(before))?;
+            }
+        }
+    }
+    assert_eq!(rt; told.as_str(), want, "{order}");
+    Ok(())
 }
 
-// Makes a book of one server and one client with two operations, whose first branch did all that
-// can happen: six events. It has a checkpoint after each `interval` events, and `window` records.
-fn ran(alloc: Global, interval: u32, window: u32) -> Result<EchoBook, Fail> {
+// Gives a new book the orders of a scene, row by row.
+fn all_go_by(rt: &impl Abort, alloc: Global, scene: &str) -> Result<(), Fail> {
+    let Some((title, rows)) = scene.split_once('\n') else {
+        return Err(Fail::from("no rows"));
+    };
+    let mut words = title.split(' ');
     let setting = Setting {
-        interval,
-        window,
+        interval: u32::from(number(words.next())),
+        window: u32::from(number(words.next())),
         ..TWO_ECHOES
     };
     let mut book = Book::new(alloc, &setting.scenario()?, Counts::new())?;
-    book.turn(alloc, 0, Command::Run(0, 100))?;
-    Ok(book)
-}
-
-// Checks that the command is answered like this.
-fn is_told(
-    rt: &impl Abort,
-    alloc: Global,
-    book: &mut EchoBook,
-    command: Command,
-    want: Told,
-) -> Result<(), Fail> {
-    let entry = book.turn(alloc, 0, command)?;
-    assert_eq!(rt; tell(&entry.reply), want, "entry {}", entry.number);
-    Ok(())
-}
-
-// Checks that the command is refused for this reason.
-fn is_refused(
-    rt: &impl Abort,
-    alloc: Global,
-    book: &mut EchoBook,
-    command: Command,
-    why: Refusal,
-) -> Result<(), Fail> {
-    is_told(rt, alloc, book, command, Told::Refused(why))
-}
-
-// Checks refusals at a place before the end of the first branch.
-fn refuses(rt: &impl Abort, alloc: Global, book: &mut EchoBook) -> Result<(), Fail> {
-    let unknown = Refusal::UnknownHost;
-    is_told(rt, alloc, book, Command::Back(0, 1), asked(5, 30))?;
-    is_refused(
-        rt,
-        alloc,
-        book,
-        Command::Fault(0, Fault::Hold(0, 0)),
-        Refusal::SameHost,
-    )?;
-    is_refused(
-        rt,
-        alloc,
-        book,
-        Command::Fault(0, Fault::Hold(9, 9)),
-        unknown,
-    )?;
-    is_refused(
-        rt,
-        alloc,
-        book,
-        Command::Fault(0, Fault::Hold(0, 1)),
-        Refusal::NotAtEnd,
-    )?;
-    is_refused(rt, alloc, book, Command::Fault(0, Fault::Crash(2)), unknown)?;
-    is_refused(rt, alloc, book, Command::Goto(0, 9), Refusal::TooFar)?;
-    is_refused(rt, alloc, book, Command::Step(0), Refusal::NotAtEnd)?;
-    is_refused(rt, alloc, book, Command::Step(9), Refusal::UnknownBranch)?;
-    is_refused(
-        rt,
-        alloc,
-        book,
-        Command::Unwatch(0, 0),
-        Refusal::UnknownWatch,
-    )?;
-    is_refused(
-        rt,
-        alloc,
-        book,
-        Command::Look(0, Query::Link(1, 1)),
-        Refusal::SameHost,
-    )
-}
-
-// Checks refusals of a probe that a host does not have, and of a condition without terms.
-fn refuses_conditions(rt: &impl Abort, alloc: Global, book: &mut EchoBook) -> Result<(), Fail> {
-    let bad = Refusal::BadCondition;
-    is_refused(rt, alloc, book, Command::Look(0, Query::Probe(0, 9)), bad)?;
-    let nothing = SharedCond::new(alloc, Cond::new())?;
-    is_refused(rt, alloc, book, Command::Watch(0, nothing), bad)?;
-    is_told(rt, alloc, book, Command::Freeze(0), Told::Frozen(6))
-}
-
-#[test]
-fn refusals_come_in_order(rt: HostRuntime) -> Result<(), Fail> {
-    let mut book = ran(rt.alloc(), 4, 2)?;
-    refuses(&rt, rt.alloc(), &mut book)?;
-    refuses_conditions(&rt, rt.alloc(), &mut book)
-}
-
-// Checks a rewind past the window to a place at which the client's next operation is not above 1,
-// and what follows the first run from there.
-fn rewinds(rt: &impl Abort, alloc: Global, book: &mut EchoBook) -> Result<(), Fail> {
-    let most = Comparison {
-        op: Op::Greater,
-        value: Value::Number(1),
-    };
-    let cond = Cond::new().and(Term::Cmp(1, NEXT, most))?;
-    let watch = Command::Watch(0, SharedCond::new(alloc, cond)?);
-    is_told(rt, alloc, book, watch, Told::Made(0))?;
-    let at_three = Told::Moved(3, 10, Stop::Watch(0));
-    is_told(rt, alloc, book, Command::Rewind(0, 6), at_three)?;
-    is_told(rt, alloc, book, Command::Unwatch(0, 0), Told::Dropped(0))?;
-    is_told(rt, alloc, book, Command::Forward(0, 1), asked(4, 20))?;
-    is_told(rt, alloc, book, Command::Cut(0), asked(4, 20))?;
-    is_told(rt, alloc, book, Command::Step(0), asked(5, 30))
-}
-
-// Checks commands on a branch that is made at the end of the first, place 5. The server crashes
-// there while its second answer is in flight.
-fn branches(rt: &impl Abort, alloc: Global, book: &mut EchoBook) -> Result<(), Fail> {
-    let view = View::Summary {
-        clock: 30,
-        serial: 6,
-        net: 8,
-        torn: 0,
-        pending: 1,
-        held: 0,
-    };
-    let (crash, look) = (Fault::Crash(0), Query::Summary);
-    is_told(rt, alloc, book, Command::Branch(0, 5), Told::Made(1))?;
-    is_told(rt, alloc, book, Command::Fault(1, crash), asked(6, 30))?;
-    is_told(rt, alloc, book, Command::Look(1, look), Told::Seen(6, view))?;
-    let done = Told::Moved(7, 40, Stop::AllDone);
-    is_told(rt, alloc, book, Command::Run(1, 9), done)?;
-    let ticked = Told::Moved(7, 130, Stop::AllDone);
-    is_told(rt, alloc, book, Command::Tick(0), ticked)
-}
-
-#[test]
-fn commands_are_carried_out(rt: HostRuntime) -> Result<(), Fail> {
-    let mut book = ran(rt.alloc(), 4, 2)?;
-    rewinds(&rt, rt.alloc(), &mut book)?;
-    branches(&rt, rt.alloc(), &mut book)
-}
-
-// Checks that a jump is answered like this, that it takes this many turns, copies and undos, and
-// that the only branch's world is warm.
-fn jumps(
-    rt: &impl Abort,
-    alloc: Global,
-    book: &mut EchoBook,
-    to: u32,
-    clock: u64,
-    work: (u64, u64, u64),
-) -> Result<(), Fail> {
-    let before = book.meter().counted();
-    is_told(rt, alloc, book, Command::Goto(0, to), asked(to, clock))?;
-    assert_eq!(rt; book.meter().since(before), work, "to {to}");
-    assert_eq!(rt; book.here(0).map(|world| world.clock()), Some(clock));
-    assert!(rt; book.here(1).is_none());
+    for row in rows.lines() {
+        goes_by(rt, alloc, &mut book, row)?;
+    }
     Ok(())
 }
 
 #[test]
-fn jumps_take_the_nearest_way(rt: HostRuntime) -> Result<(), Fail> {
-    let mut book = ran(rt.alloc(), 4, 2)?;
-    jumps(&rt, rt.alloc(), &mut book, 5, 30, (0, 0, 1))?;
-    jumps(&rt, rt.alloc(), &mut book, 1, 0, (1, 2, 0))?;
-    jumps(&rt, rt.alloc(), &mut book, 4, 20, (0, 2, 0))?;
-    let mut book = ran(rt.alloc(), 1, 1)?;
-    jumps(&rt, rt.alloc(), &mut book, 2, 0, (0, 2, 0))
-}
-
-// Checks that a session's command has this number, and leads to this place.
-fn is_numbered(
-    rt: &impl Abort,
-    alloc: Global,
-    book: &mut EchoBook,
-    session: u8,
-    number: u32,
-    place: u32,
-) -> Result<(), Fail> {
-    let entry = book.turn(alloc, session, Command::Back(0, 1))?;
-    assert_eq!(rt; (entry.session, entry.number), (session, number));
-    let is_there = matches!(&entry.reply, Reply::Moved { place: now, .. } if *now == place);
-    assert!(rt; is_there);
+fn books_go_by_their_rows(rt: HostRuntime) -> Result<(), Fail> {
+    for scene in SCENES.split('#').skip(1) {
+        all_go_by(&rt, rt.alloc(), scene)?;
+    }
     Ok(())
 }
 
 #[test]
 fn sessions_are_numbered_apart(rt: HostRuntime) -> Result<(), Fail> {
-    let mut book = ran(rt.alloc(), 4, 2)?;
-    is_numbered(&rt, rt.alloc(), &mut book, 0, 2, 5)?;
-    is_numbered(&rt, rt.alloc(), &mut book, 1, 1, 4)?;
-    is_numbered(&rt, rt.alloc(), &mut book, 0, 3, 3)?;
-    is_numbered(&rt, rt.alloc(), &mut book, 1, 2, 2)?;
-    let (entry, frozen) = book.freeze(rt.alloc(), 1, 0)?;
+    let alloc = rt.alloc();
+    let mut book = EchoBook::new(alloc, &TWO_ECHOES.scenario()?, Counts::new())?;
+    book.turn(alloc, 0, Command::Run(0, 100))?;
+    for (session, number, place) in [(0, 2, 5), (1, 1, 4), (0, 3, 3), (1, 2, 2)] {
+        let entry = book.turn(alloc, session, Command::Back(0, 1))?;
+        let is_there = matches!(&entry.reply, Reply::Moved { place: now, .. } if *now == place);
+        let is_numbered = (entry.session, entry.number) == (session, number);
+        assert!(rt;
+            is_there && is_numbered,
+            "number {number} of session {session}"
+        );
+    }
+    let (entry, frozen) = book.freeze(alloc, 1, 0)?;
     assert!(rt; entry.number == 3 && frozen.is_some());
     assert_eq!(rt; book.into_entries().len(), 6);
+    Ok(())
+}
+
+// The tape that a run came from loses its events before the tapes of the run are made.
+#[test]
+fn a_frozen_run_makes_tapes(rt: HostRuntime) -> Result<(), Fail> {
+    let alloc = rt.alloc();
+    let mut meter = Counts::new();
+    let mut origin = tape_of(alloc, &TWO_ECHOES.scenario()?, 6, &mut meter)?;
+    let run = origin.freeze(alloc)?;
+    run.events().share(alloc)?;
+    if origin.place() != origin.len() {
+        return Err(Fail::from("not at the end"));
+    }
+    origin.truncate(0);
+    for (place, work, clock) in [(3, (3, 2, 0), 10), (4, (0, 2, 0), 20), (6, (2, 2, 0), 40)] {
+        if run.events().len() < place {
+            return Err(Fail::from("past the end"));
+        }
+        let before = meter.counted();
+        let tape = run.tape(alloc, place, &mut meter)?;
+        let is_there = tape.warm() && tape.place() == place && tape.len() == 6;
+        assert!(rt; is_there && tape.clock() == clock, "at {place}");
+        assert_eq!(rt; meter.since(before), work, "to {place}");
+    }
     Ok(())
 }

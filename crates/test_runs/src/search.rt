@@ -5,7 +5,7 @@
 //! runs, and that they do not give up for want of memory. These tests check that.
 //!
 //! - `rows`: worked searches and sweeps, one of them over 3,000 seeds, and requests that are
-//!   refused.
+//!   refused, each by 1, 2 and 16 workers.
 //! - `long`: a place near the end of a run of 20,000 events in 313 pieces.
 //! - `overlap`, `meeting`, `comers`: two workers that wait for each other inside a piece. If a
 //!   search ran them one after the other, they would never meet.
@@ -13,10 +13,9 @@
 //! Echo is the node, since its state is a number and its runs can be worked out by hand.
 //!
 //! What each test catches:
-//! - `rows::places_of_a_run`, `rows::seeds_of_echo`: a search, or a sweep of up to 3,000 seeds, that
-//!   wants memory for no reason; a piece that is entered or left twice, or never.
-//! - `rows::searches_that_are_refused`, `rows::sweeps_that_are_refused`: a request that is refused
-//!   for want of memory in place of its reason.
+//! - `rows::searches_and_sweeps`: a search, or a sweep of up to 3,000 seeds, that wants memory for
+//!   no reason; a request that is refused for want of memory in place of its reason; a piece that
+//!   is entered or left twice, or never, or although the search is refused.
 //! - `long::a_late_place_of_a_long_run`: a search that gives up past the size of the small runs,
 //!   with one worker or with several.
 //! - `overlap::two_workers_search_at_once`, `overlap::two_workers_sweep_at_once`: a search or a
@@ -26,4 +25,3 @@ mod long;
 mod meeting;
 mod overlap;
 mod rows;
-mod scenes;

@@ -16,17 +16,8 @@ pub struct Comer<'a> {
 }
 
 impl<'a> Comer<'a> {
-    /// Makes a meter that has come already, and waits for nobody.
-    pub fn late(meeting: &'a Meeting) -> Comer<'a> {
-        Comer {
-            tally: Tally::new(),
-            meeting,
-            number: 0,
-            came: true,
-        }
-    }
-
-    fn first(meeting: &'a Meeting, number: u64) -> Comer<'a> {
+    /// Makes a meter that has not come yet.
+    pub fn new(meeting: &'a Meeting, number: u64) -> Comer<'a> {
         Comer {
             tally: Tally::new(),
             meeting,
@@ -61,7 +52,7 @@ pub fn comers<'a>(alloc: Global, meeting: &'a Meeting) -> Result<Vec<Comer<'a>>,
     ensures { IfOk result (λ v. vec_len v ≡ 2) }
 {
     let mut meters = Vec::new(alloc);
-    meters.push(Comer::first(meeting, 0))?;
-    meters.push(Comer::first(meeting, 1))?;
+    meters.push(Comer::new(meeting, 0))?;
+    meters.push(Comer::new(meeting, 1))?;
     Ok(meters)
 }

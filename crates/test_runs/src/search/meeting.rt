@@ -12,7 +12,8 @@ const LOOKS: u32 = 10_000_000;
 pub struct Meeting {
     zero: AtomicBool,
     one: AtomicBool,
-    met: AtomicU64,
+    /// How many of the two saw the other.
+    pub met: AtomicU64,
 }
 
 impl Meeting {
@@ -22,11 +23,6 @@ impl Meeting {
             one: AtomicBool::new(false),
             met: AtomicU64::new(0),
         }
-    }
-
-    /// Returns how many of the two saw the other.
-    pub fn met(&self) -> u64 {
-        self.met.load(SeqCst)
     }
 
     /// Lets numbers 0 and 1 wait for each other; any other goes on.

@@ -1,22 +1,29 @@
 //! Two workers of a search, and of a sweep, work at once.
+use crate::scenes::{next_at_most, tape_of};
 use crate::search::comers::{Comer, comers};
 use crate::search::meeting::Meeting;
-use crate::search::scenes::{echoes, frozen_run, next_at_most};
 use sim_echo::Echo;
 use sim_search::{search, sweep};
+use sim_watch::Cond;
+use std::sync::atomic::Ordering::SeqCst;
 use std::test::Fail;
+use test_support::TWO_ECHOES;
+
+// A number that waits for nobody at a meeting: the run is made before the workers begin.
+const PASSER: u64 = 2;
 
 #[test]
 fn two_workers_search_at_once(rt: HostRuntime) -> Result<(), Fail> {
+    let alloc = rt.alloc();
     let (meeting, gate) = (Meeting::new(), Meeting::new());
-    let scenario = echoes(2, 2, 4)?;
-    let cond = next_at_most(1, 3)?;
-    let run = frozen_run(rt.alloc(), &scenario, 6, &mut Comer::late(&meeting))?;
-    let meters = comers(rt.alloc(), &meeting)?;
-    let found = search(&rt, rt.alloc(), &run, 0, 6, &cond, meters, &gate);
+    let scenario = TWO_ECHOES.scenario()?;
+    let cond = Cond::new().and(next_at_most(1, 3))?;
+    let run = tape_of(alloc, &scenario, 6, &mut Comer::new(&meeting, PASSER))?.freeze(alloc)?;
+    let meters = comers(alloc, &meeting)?;
+    let found = search(&rt, alloc, &run, 0, 6, &cond, meters, &gate);
     assert!(rt; found == Ok(None));
     assert_eq!(rt;
-        (gate.met(), meeting.met()),
+        (gate.met.load(SeqCst), meeting.met.load(SeqCst)),
         (2, 2),
         "inside, and at a turn"
     );
@@ -26,8 +33,8 @@ fn two_workers_search_at_once(rt: HostRuntime) -> Result<(), Fail> {
 #[test]
 fn two_workers_sweep_at_once(rt: HostRuntime) -> Result<(), Fail> {
     let (meeting, gate) = (Meeting::new(), Meeting::new());
-    let scenario = echoes(2, 2, 4)?;
-    let cond = next_at_most(1, 3)?;
+    let scenario = TWO_ECHOES.scenario()?;
+    let cond = Cond::new().and(next_at_most(1, 3))?;
     let meters = comers(rt.alloc(), &meeting)?;
     let found = sweep::<Echo<Comer>, _, _>(
         &rt,
@@ -42,7 +49,7 @@ fn two_workers_sweep_at_once(rt: HostRuntime) -> Result<(), Fail> {
     );
     assert!(rt; found == Ok(None));
     assert_eq!(rt;
-        (gate.met(), meeting.met()),
+        (gate.met.load(SeqCst), meeting.met.load(SeqCst)),
         (2, 2),
         "inside, and at a turn"
     );

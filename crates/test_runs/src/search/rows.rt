@@ -1,7 +1,7 @@
 //! Worked searches and sweeps of a run of six steps, also refused ones.
 ghost use Rattle.std.specs.Prelude.{◌≤◌};
 
-use crate::search::scenes::{echoes, frozen_run, next_at_most, tallies};
+use crate::scenes::{next_at_most, tallies, tape_of};
 use sim_echo::Echo;
 use sim_search::{Gate, OpenGate, SearchFault, search, sweep};
 use sim_tally::Tally;
@@ -14,196 +14,93 @@ use std::sync::atomic::AtomicU64;
 use std::sync::atomic::Ordering::SeqCst;
 use std::test::Fail;
 use std::thread::Threads;
+use test_support::TWO_ECHOES;
 
-// Returns the run of the six steps that can happen.
-fn six_steps(alloc: Global) -> Result<Frozen<Echo<Tally>>, Fail> {
-    frozen_run(alloc, &echoes(2, 2, 4)?, 7, &mut Tally::new())
-}
-
-// For two pieces: 1 for each time that it was entered, and 1,000 for each time that it was left.
+// For two pieces, how often each was entered and left: enters and leaves of the first in units and
+// thousands, those of the second in millions and billions.
 #[derive(Drop)]
-struct Counts {
-    first: AtomicU64,
-    second: AtomicU64,
+struct Visits {
+    count: AtomicU64,
 }
 
-fn no_counts() -> Counts {
-    Counts {
-        first: AtomicU64::new(0),
-        second: AtomicU64::new(0),
-    }
-}
+const ONE_EACH: u64 = 1_001_001_001;
 
-impl Counts {
-    fn add(&self, piece: u64, n: u64) {
-        match piece {
-            0 => self.first.fetch_add(n, SeqCst),
-            _ => self.second.fetch_add(n, SeqCst),
-        };
-    }
-
-    // Returns whether both pieces were entered and left once.
-    fn are_even(&self) -> bool {
-        self.first.load(SeqCst) == 1_001 && self.second.load(SeqCst) == 1_001
-    }
-}
-
-impl Gate for Counts {
+impl Gate for Visits {
     fn enter<R: Wait>(&self, _rt: &R, piece: u64) {
-        self.add(piece, 1);
+        self.count
+            .fetch_add(if piece == 0 { 1 } else { 1_000_000 }, SeqCst);
     }
 
     fn leave<R: Wait>(&self, _rt: &R, piece: u64) {
-        self.add(piece, 1_000);
+        self.count
+            .fetch_add(if piece == 0 { 1_000 } else { 1_000_000_000 }, SeqCst);
     }
 }
 
-// Checks which place this many workers find first at which the client's next operation is above
-// this number. Each of the two pieces is entered and left once.
-fn finds<R: Threads + Wait + Sync + Abort>(
+// Checks what this many workers find between two places, and that they enter and leave each of the
+// two pieces once, or none if the search is refused.
+fn searches<R: Threads + Wait + Sync + Abort>(
     rt: &R,
     alloc: Global,
     run: &Frozen<Echo<Tally>>,
     workers: u32,
-    most: u64,
-    want: Option<u32>,
 ) -> Result<(), Fail>
     requires { (1 ≤ workers) × (workers ≤ 16) }
 {
-    let cond = next_at_most(1, most)?;
-    let meters = tallies(alloc, workers)?;
-    let gate = no_counts();
-    let found = search(rt, alloc, run, 0, 6, &cond, meters, &gate);
-    assert!(rt; found == Ok(want), "above {most}");
-    assert!(rt; gate.are_even(), "one enter and one leave a piece");
-    Ok(())
-}
-
-#[test]
-fn places_of_a_run(rt: HostRuntime) -> Result<(), Fail> {
-    let run = six_steps(rt.alloc())?;
-    for workers in [1, 2, 16] {
-        finds(&rt, rt.alloc(), &run, workers, 1, Some(4))?;
-        finds(&rt, rt.alloc(), &run, workers, 3, None)?;
+    for (lo, hi, term, want, visits) in [
+        (0, 6, next_at_most(1, 1), Ok(Some(4)), ONE_EACH),
+        (0, 6, next_at_most(1, 3), Ok(None), ONE_EACH),
+        (0, 7, Term::Up(0), Err(SearchFault::BadRange), 0),
+        (4, 3, Term::Up(0), Err(SearchFault::BadRange), 0),
+        (0, 6, Term::Up(2), Err(SearchFault::BadCondition), 0),
+    ] {
+        let cond = Cond::new().and(term)?;
+        let meters = tallies(alloc, workers)?;
+        let gate = Visits {
+            count: AtomicU64::new(0),
+        };
+        let found = search(rt, alloc, run, lo, hi, &cond, meters, &gate);
+        let is_right = found == want && gate.count.load(SeqCst) == visits;
+        assert!(rt; is_right, "{lo} to {hi} by {workers}: {found:?}");
     }
     Ok(())
 }
 
-// Returns why a search for a place at which the host is down is refused.
-fn is_refused<R: Threads + Wait + Sync + Abort>(
-    rt: &R,
-    alloc: Global,
-    run: &Frozen<Echo<Tally>>,
-    lo: u64,
-    hi: u64,
-    host: u16,
-) -> Result<SearchFault, Fail> {
-    let up = Cond::new().and(Term::Up(host))?;
-    let meters = tallies(alloc, 1)?;
-    match search(rt, alloc, run, lo, hi, &up, meters, &OpenGate) {
-        Ok(_) => Err(Fail::from("an answer")),
-        Err(why) => Ok(why),
-    }
-}
-
-#[test]
-fn searches_that_are_refused(rt: HostRuntime) -> Result<(), Fail> {
-    let run = six_steps(rt.alloc())?;
-    let far = is_refused(&rt, rt.alloc(), &run, 0, 7, 0)?;
-    let back = is_refused(&rt, rt.alloc(), &run, 4, 3, 0)?;
-    assert!(rt; far == SearchFault::BadRange && back == SearchFault::BadRange);
-    let unknown = is_refused(&rt, rt.alloc(), &run, 0, 6, 2)?;
-    assert_eq!(rt; unknown, SearchFault::BadCondition);
-    Ok(())
-}
-
-// The seeds of a sweep, and the number of steps of their runs.
-#[derive(Clone, Copy)]
-struct Seeds {
-    first: u64,
-    count: u64,
-    events: u64,
-}
-
-// Returns the result of a sweep by this many workers.
-fn swept<R: Threads + Wait + Sync>(
-    rt: &R,
-    alloc: Global,
-    workers: u32,
-    seeds: Seeds,
-    cond: &Cond,
-) -> Result<Result<Option<(u64, u32)>, SearchFault>, Fail>
+// Checks what this many workers find among seeds, by the first seed, their count and the number of
+// steps of their runs.
+fn sweeps<R: Threads + Wait + Sync + Abort>(rt: &R, alloc: Global, workers: u32) -> Result<(), Fail>
     requires { (1 ≤ workers) × (workers ≤ 16) }
 {
-    let Seeds {
-        first,
-        count,
-        events,
-    } = seeds;
-    let scenario = echoes(2, 2, 4)?;
-    let meters = tallies(alloc, workers)?;
-    Ok(sweep::<Echo<Tally>, _, _>(
-        rt, alloc, &scenario, first, count, events, cond, meters, &OpenGate,
-    ))
-}
-
-// Checks that sweeps by 1, 2 and 16 workers find this.
-fn sweeps<R: Threads + Wait + Sync + Abort>(
-    rt: &R,
-    alloc: Global,
-    seeds: Seeds,
-    most: u64,
-    want: Option<(u64, u32)>,
-) -> Result<(), Fail> {
-    let cond = next_at_most(1, most)?;
-    for workers in [1, 2, 16] {
-        let found = swept(rt, alloc, workers, seeds, &cond)?;
-        assert!(rt; found == Ok(want), "above {most} by {workers}");
+    let scenario = TWO_ECHOES.scenario()?;
+    for (first, count, events, term, want) in [
+        (0, 3, 6, next_at_most(1, 1), Ok(Some((0, 4)))),
+        (5, 3_000, 6, next_at_most(1, 3), Ok(None)),
+        (7, 2, 3, next_at_most(1, 1), Ok(None)),
+        (u64::MAX, 2, 6, Term::Up(0), Err(SearchFault::BadRange)),
+        (0, 0, 6, Term::Up(0), Err(SearchFault::BadRange)),
+        (0, 4_294_967_297, 6, Term::Up(0), Err(SearchFault::BadRange)),
+        (0, 1, 6, Term::Up(2), Err(SearchFault::BadCondition)),
+    ] {
+        let cond = Cond::new().and(term)?;
+        let meters = tallies(alloc, workers)?;
+        let found = sweep::<Echo<Tally>, _, _>(
+            rt, alloc, &scenario, first, count, events, &cond, meters, &OpenGate,
+        );
+        assert!(rt;
+            found == want,
+            "{count} from {first} by {workers}: {found:?}"
+        );
     }
     Ok(())
 }
 
-fn seeds_from(first: u64, count: u64, events: u64) -> Seeds {
-    Seeds {
-        first,
-        count,
-        events,
-    }
-}
-
 #[test]
-fn seeds_of_echo(rt: HostRuntime) -> Result<(), Fail> {
-    sweeps(&rt, rt.alloc(), seeds_from(0, 3, 6), 1, Some((0, 4)))?;
-    sweeps(&rt, rt.alloc(), seeds_from(5, 3_000, 6), 3, None)?;
-    sweeps(&rt, rt.alloc(), seeds_from(7, 2, 3), 1, None)
-}
-
-// Checks that a sweep for a place at which the host is down fails for this reason.
-fn is_no_sweep<R: Threads + Wait + Sync + Abort>(
-    rt: &R,
-    alloc: Global,
-    seeds: Seeds,
-    host: u16,
-    why: SearchFault,
-) -> Result<(), Fail> {
-    let up = Cond::new().and(Term::Up(host))?;
-    let found = swept(rt, alloc, 1, seeds, &up)?;
-    assert!(rt; found == Err(why), "of host {host}");
-    Ok(())
-}
-
-#[test]
-fn sweeps_that_are_refused(rt: HostRuntime) -> Result<(), Fail> {
+fn searches_and_sweeps(rt: HostRuntime) -> Result<(), Fail> {
     let alloc = rt.alloc();
-    let range = SearchFault::BadRange;
-    is_no_sweep(&rt, alloc, seeds_from(u64::MAX, 2, 6), 0, range)?;
-    is_no_sweep(&rt, alloc, seeds_from(0, 0, 6), 0, range)?;
-    is_no_sweep(&rt, alloc, seeds_from(0, 4_294_967_297, 6), 0, range)?;
-    is_no_sweep(
-        &rt,
-        alloc,
-        seeds_from(0, 1, 6),
-        2,
-        SearchFault::BadCondition,
-    )
+    let run = tape_of(alloc, &TWO_ECHOES.scenario()?, 7, &mut Tally::new())?.freeze(alloc)?;
+    for workers in [1, 2, 16] {
+        searches(&rt, alloc, &run, workers)?;
+        sweeps(&rt, alloc, workers)?;
+    }
+    Ok(())
 }

@@ -1,39 +1,25 @@
-//! Scenarios of echo, conditions on a client's next operation, and frozen runs.
+//! Tapes of echo, meters, and terms on a client's next operation.
 ghost use Rattle.std.specs.Prelude.{◌≡◌, IfOk, vec_len};
 
 use sim_echo::Echo;
-use sim_links::{Way, Ways};
-use sim_node::{Meter, NoMemory, Setup};
+use sim_node::{Meter, NoMemory};
 use sim_tally::Tally;
-use sim_tape::{Frozen, Tape};
-use sim_watch::{Comparison, Cond, Op, Term, Value};
+use sim_tape::Tape;
+use sim_watch::{Comparison, Op, Term, Value};
 use sim_world::{Event, Scenario};
 use std::alloc::Global;
 use std::test::Fail;
 
-/// Returns a scenario of one server of echo and its clients, of this many operations each. A message
-/// takes 10 ms.
-pub fn echoes(hosts: u16, operations: u16, interval: u32) -> Result<Scenario, Fail> {
-    let ways = Ways::all(Way {
-        latency_min: 10,
-        latency_max: 10,
-        loss: 0,
-    });
-    let setup = Setup {
-        servers: 1,
-        hosts,
-        ops: [operations; 32],
-    };
-    Ok(Scenario::new([0; 32], 100, ways, 0, setup, interval, 2)?)
-}
+/// The probe of a client of echo that shows its next operation.
+pub const NEXT: u8 = 0;
 
-/// Returns the condition that the client's next operation is at most this.
-pub fn next_at_most(client: u16, n: u64) -> Result<Cond, Fail> {
+/// Returns the term that a client's next operation is at most this.
+pub fn next_at_most(client: u16, n: u64) -> Term {
     let most = Comparison {
         op: Op::LessOrEqual,
         value: Value::Number(n),
     };
-    Ok(Cond::new().and(Term::Cmp(client, 0, most))?)
+    Term::Cmp(client, NEXT, most)
 }
 
 /// Makes a meter for each worker.
@@ -60,16 +46,16 @@ fn add<M: Meter>(alloc: Global, tape: &mut Tape<Echo<M>>, meter: &mut M) -> Resu
     Ok(true)
 }
 
-/// Returns the run of this many steps, or of as many as can happen.
-pub fn frozen_run<M: Meter>(
+/// Returns a tape of this many steps, or of as many as can happen.
+pub fn tape_of<M: Meter>(
     alloc: Global,
     scenario: &Scenario,
     steps: u32,
     meter: &mut M,
-) -> Result<Frozen<Echo<M>>, Fail> {
+) -> Result<Tape<Echo<M>>, NoMemory> {
     let mut tape = Tape::new(alloc, scenario, meter)?;
     for _step in 0..steps {
         add(alloc, &mut tape, meter)?;
     }
-    Ok(tape.freeze(alloc)?)
+    Ok(tape)
 }
