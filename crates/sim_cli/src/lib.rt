@@ -11,8 +11,8 @@
 //! - [`play_strictly`] is a play that ends with the answer to the first line of its script that is
 //!   at fault: a [`ScriptFault`], which [`tell_fault`] reports on standard error.
 //! - [`follow`] carries out a script and writes no answers. [`played`] does it on a new book, and
-//!   returns all kept events of its first branch; [`given_events`] returns these as a list. Strictly,
-//!   the first line at fault ends the script with a [`ScriptStop`].
+//!   returns all kept events of its first branch; [`given_events`] returns these as a list.
+//!   Strictly, the first line at fault ends the script with a [`ScriptStop`].
 //! - [`Status`] says how a play ended; its number is the exit status of the program.
 //! - [`explain_fault`] explains on standard error why a text is no scenario; [`open`] calls it.
 //!   [`report_condition`] says there why words are no condition.
@@ -39,8 +39,8 @@
 //! - Want of memory before the first line of the script ends the play with status 4 before anything
 //!   is written.
 //! - A script that is followed without answers ends if a command wants memory. With the loop of a
-//!   play and a writer that drops its text, a search would go on over a run that the script does not
-//!   describe.
+//!   play and a writer that drops its text, a search would go on over a run that the script does
+//!   not describe.
 #![tactic(auto)]
 
 mod answering;

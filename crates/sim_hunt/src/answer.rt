@@ -69,8 +69,11 @@ pub enum Form {
 /// The numbers of a sweep.
 #[derive(Clone, Copy)]
 pub struct Swept {
+    /// The number of the first seed.
     pub first: u64,
+    /// The number of seeds.
     pub count: u64,
+    /// The most events of each run, without those of the script and of the quiet end.
     pub events: u64,
 }
 

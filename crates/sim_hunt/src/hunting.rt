@@ -29,19 +29,21 @@ use std::thread::Threads;
 #[derive(Clone, Copy)]
 pub struct Hunt<'a> {
     pub area: Area,
+    /// The condition in words.
     pub cond: &'a str,
+    /// The workers, 1 to 16, and whether progress is reported.
     pub team: Team,
 }
 
 /// Where a condition is looked for.
 #[derive(Clone, Copy)]
 pub enum Area {
-    /// in the places from `lo` to `hi` of the first branch, of a script in which with `strict` no
-    /// line may be at fault
+    /// In the places from `lo` to `hi`, both included, of the first branch of a script's run. With
+    /// `strict`, no line of the script may be at fault.
     Places { lo: u64, hi: u64, strict: bool },
-    /// in the runs of at most `events` steps of `count` seeds, from number `first` on
+    /// In the runs of `count` seeds, from number `first` on, of at most `events` steps each.
     Seeds { first: u64, count: u64, events: u64 },
-    /// in the runs of seeds whose events are planned
+    /// In the planned runs of seeds.
     Planned(PlannedRuns),
 }
 
@@ -52,6 +54,7 @@ pub struct PlannedRuns {
     pub count: u64,
     /// The number of events planned before the quiet end.
     pub events: u64,
+    /// The spacing of faults, and the number of steps of the quiet end.
     pub plan: FaultPlan,
     /// Whether the condition is tested only at the last place of each run.
     pub at_end: bool,

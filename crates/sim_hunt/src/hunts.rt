@@ -157,11 +157,15 @@ fn write_answer<W: Write>(alloc: Global, writer: &mut W, form: Form, answer: Ans
     }
 }
 
-/// Reads a scenario, and hunts in its runs, with 1 to 16 workers, over the protocols of a list. Writes
-/// one line: the result, or why the request was refused. A fault of the scenario is reported first,
-/// then words that are no condition, then a bad range, and last a host or probe of the condition
-/// that the scenario does not have. Writes nothing if a line of a strict script is at fault, if the
-/// reader fails or if memory is wanted.
+/// Reads a scenario, and hunts in its runs, with 1 to 16 workers, over the protocols of a list.
+/// Writes one line: the result, or why the request was refused. A fault of the scenario is reported
+/// first, then words that are no condition, then a bad range, and last a host or probe of the
+/// condition that the scenario does not have. Writes nothing if a line of a strict script is at
+/// fault, if the reader fails or if memory is wanted; if the writer fails, a beginning of the line.
+///
+/// Returns the status: `Well` with a result or none, `BadScenario` for a fault of the scenario,
+/// `BadRequest` for a refused request or a strict script at fault, otherwise what failed. Standard
+/// error says why a request was refused, and the progress, if asked for.
 pub fn hunt_scenario<L: Searchable, H: Threads + Wait + Sync + Clock + Eprint, R: Read, W: Write>(
     rt: &H,
     alloc: Global,

@@ -19,7 +19,7 @@
 //!
 //! - Hunts need threads and a clock, and a play needs neither. So they have a crate of their own
 //!   above the play, which does not wait for the pages and the shrinking of runs.
-//! - A search follows its script with its own loop, which writes nothing. If a command wants
+//! - A search follows its script by `sim_cli::played`, which writes nothing. If a command wants
 //!   memory, the search ends with status 4. With the loop of a play and a writer that drops its
 //!   text, the search would go on over a run that the script does not describe.
 //! - Mistakes are reported in the order of the calls: the scenario, the words of the condition, the

@@ -9,6 +9,7 @@ use sim_cli::{Only, Subject, Subjects, With};
 /// its first eight places. Places past its end repeat the last subject, and nothing is searched
 /// there.
 pub trait Searchable: Subjects {
+    /// The subjects at the places 0 to 7.
     type Subject0: Subject;
 
     type Subject1: Subject;
@@ -25,6 +26,7 @@ pub trait Searchable: Subjects {
 
     type Subject7: Subject;
 
+    /// The nodes of the list at a place are those of its subject, if the list has that place.
     ghost at0: { Has 0 Self.listed → Serves (Self.nodes 0)
         Self.Subject0.Node.Node.laws Self.Subject0.Node.Node.PROBES };
 

@@ -11,9 +11,9 @@
 //! - [`shortened`]: shortens the text of a node's state, in which a long list is mostly the same
 //!   element.
 //!
-//! Each call that describes events makes the run of its branch anew, and walks it on a tape of its
-//! own. That costs a walk of the whole run, which a person does not notice, and nothing must be kept
-//! up to date.
+//! A walk makes a [`Run`] anew for each command that describes events, and each call of it walks a
+//! tape of its own. That costs a walk of the whole run, which a person does not notice, and nothing
+//! must be kept up to date.
 //!
 //! The words are tested and not proved: messages and states are shown by `Debug`, whose texts no
 //! contract can name.

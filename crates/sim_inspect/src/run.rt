@@ -21,9 +21,12 @@ use std::fmt::Debug;
 /// The kept events of a branch, and the places where each occurrence was queued and happened.
 #[derive(Drop)]
 pub struct Run<'a, N: Node> {
+    /// Where texts are allocated.
     pub alloc: Global,
     names: &'a Names,
+    /// The kept events, with checkpoints.
     pub frozen: Frozen<N>,
+    /// Where each occurrence was queued and happened.
     pub places: Places,
 }
 

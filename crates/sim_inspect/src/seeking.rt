@@ -20,8 +20,9 @@ const HOLDS_HERE: &str =
 pub enum SeekError {
     /// No place passes the test, for this reason.
     Nowhere(&'static str),
-    /// The request is refused.
+    /// The request is refused. [`seek`] refuses none.
     Refused(Refusal),
+    /// Memory was wanted.
     NoMemory,
 }
 
@@ -128,7 +129,9 @@ where
     }
 }
 
-/// Returns the place of a run that `sought` describes, seen from `here`.
+/// Returns the place of a run that `sought` describes, seen from place `here`. Fails with the
+/// reason if there is no such place, or for want of memory. A condition that names a host or a
+/// probe that does not exist neither holds nor fails.
 pub fn seek<N: Node<Meter = Tally> + Debug>(
     alloc: Global,
     run: &Run<'_, N>,

@@ -11,11 +11,14 @@ use sim_world::{Occurrence, World};
 use std::alloc::Global;
 use std::fmt::Debug;
 
-/// A world at a place, to be described by names.
+/// The world at a place, and what is needed to describe it.
 #[derive(Drop)]
 pub struct Sight<'a, N: Node> {
+    /// Where texts are allocated.
     pub alloc: Global,
+    /// The names of hosts and probes.
     pub names: &'a Names,
+    /// Where the occurrences of its run were queued.
     pub places: &'a Places,
     pub world: &'a World<N>,
 }

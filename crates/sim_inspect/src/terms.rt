@@ -94,7 +94,8 @@ fn tell_term<N: Node>(
     said.push('\n')
 }
 
-/// Appends which terms of a condition fail. Fails only for want of memory.
+/// Appends a line for each term of a condition that fails in a world, with the values of its
+/// probes. Leaves out a term that names an unknown host or probe. Fails only for want of memory.
 pub fn tell_failing<N: Node>(
     names: &Names,
     world: &World<N>,

@@ -13,7 +13,7 @@ pub enum Sought {
     At(u32),
     /// The place before the event that queued what happens next.
     Cause,
-    /// The place before the last event of this host, among those before the place.
+    /// The place before the last event of this host that comes before the branch's place.
     Last(u16),
     /// The first place at which a condition fails.
     First(SharedCond),
@@ -24,14 +24,20 @@ pub enum Sought {
 /// What to show of a branch at its place.
 #[derive(Drop)]
 pub enum Shown {
+    /// All pending occurrences.
     Pending,
+    /// The state of this host.
     Host(u16),
+    /// The disk of this host.
     Disk(u16),
+    /// The links that are not open.
     Links,
-    /// An event, or the one that led here.
+    /// The event with this number, from 1, or the one that led to the place.
     Event(Option<u32>),
-    /// The events from one to another.
+    /// The events from one number to another; without the first from event 1, without the second
+    /// to the last one.
     Log(Option<u32>, Option<u32>),
+    /// The input that leads to the place.
     Script,
     /// All commands, or one.
     Help(Option<&'static Topic>),
@@ -44,16 +50,20 @@ pub enum Order {
     Nothing,
     /// A line of a script.
     Asked(Command),
+    /// Goes to a place that is found.
     Sought(Sought),
+    /// Shows something.
     Shown(Shown),
     /// Makes this the branch of the lines that name none.
     Branch,
+    /// Ends the walk.
     Quit,
 }
 
 /// The request of a line, and its branch.
 #[derive(Drop)]
 pub struct Request {
+    /// The number of the branch.
     pub branch: u32,
     pub order: Order,
 }
@@ -65,6 +75,7 @@ pub enum OrderError {
     Mistake(LineMistake),
     /// The line is not UTF-8.
     NotText,
+    /// Memory was wanted.
     NoMemory,
 }
 
@@ -241,7 +252,8 @@ impl Reading<'_> {
         }
     }
 
-    // Returns the request of a line without its branch, and whether the line names one.
+    // Returns the request of what follows a line's branch, on the branch of this reading. If no
+    // word is left, it is `Branch` if the line named one, else `Nothing`.
     fn request(&self, text: &str) -> Result<Request, OrderError> {
         let (word, rest) = first_word(text);
         let branch = self.branch;
@@ -260,7 +272,9 @@ impl Reading<'_> {
     }
 }
 
-/// Returns the request of a line. If the line names no branch, it is for `branch`.
+/// Returns the request of a line, without its end. If the line names no branch, it is for `branch`.
+/// Fails with the first word that is wrong, if the line is not UTF-8, or for want of memory. Hosts
+/// and probes of conditions are not looked up here.
 pub fn order_of(
     alloc: Global,
     names: &Names,

@@ -6,12 +6,15 @@ use sim_node::NoMemory;
 use sim_script::{Expected, LineMistake, Names, tell_advice, tell_mistake, word_at};
 use std::alloc::Global;
 
-/// The names that a walk knows, and their numbers.
+/// What a sentence about a mistake needs: the names of hosts and probes, and their numbers.
 #[derive(Drop)]
 pub struct Known<'a> {
+    /// Where texts are allocated.
     pub alloc: Global,
     pub names: &'a Names,
+    /// The number of hosts.
     pub hosts: u16,
+    /// The number of probes of a node.
     pub probes: u8,
 }
 
@@ -46,7 +49,7 @@ fn not_taken_sentence(why: NotTaken) -> &'static str {
 }
 
 impl Known<'_> {
-    /// Appends why a command was refused.
+    /// Appends why a command was refused. Fails only for want of memory.
     pub fn tell_refusal(&self, why: Refusal, said: &mut String) -> Result<(), NoMemory> {
         let sentence = refusal_sentence(why);
         writeln!(said, "{sentence}")?;
@@ -58,7 +61,8 @@ impl Known<'_> {
         said.push('\n')
     }
 
-    /// Appends why a command was refused, on a branch at `place` of `kept` events.
+    /// Appends why a command was refused, on a branch at place `place` of `kept` events. Fails only
+    /// for want of memory.
     pub fn tell_refusal_at(
         &self,
         why: Refusal,
@@ -118,7 +122,7 @@ impl Known<'_> {
     }
 }
 
-/// Appends why a command was not taken.
+/// Appends why a command was not taken. Fails only for want of memory.
 pub fn tell_not_taken(why: NotTaken, said: &mut String) -> Result<(), NoMemory> {
     let sentence = not_taken_sentence(why);
     writeln!(said, "{sentence}")

@@ -3,7 +3,7 @@ use sim_script::CONDITION_FORM;
 use std::alloc::{AllocError, Global};
 use strsim::osa_distance;
 
-/// The kind of a command, by its first word.
+/// The kind of a command, by its first word. Those without a text are each a command of its own.
 #[derive(Clone, Copy)]
 pub enum Kind {
     /// A line of a script.
@@ -28,12 +28,15 @@ pub enum Kind {
 
 /// A command.
 pub struct Topic {
+    /// The first word.
     pub name: &'static str,
     /// A short name, or an empty text.
     pub short: &'static str,
     /// The words that follow it.
     pub words: &'static str,
+    /// What it does, in a line of the help.
     pub what: &'static str,
+    /// How its words are read.
     pub kind: Kind,
 }
 
@@ -323,7 +326,7 @@ fn tell_topic(topic: &Topic, said: &mut String) -> Result<(), AllocError> {
     writeln!(said, "{name:>12} {words:<9} {short:<2} {what}")
 }
 
-/// Appends an overview of all commands, or the help for one.
+/// Appends an overview of all commands, or the help for one. Fails only for want of memory.
 pub fn tell_help(about: Option<&'static Topic>, said: &mut String) -> Result<(), AllocError> {
     let Some(topic) = about else {
         return said.push_str(OVERVIEW);

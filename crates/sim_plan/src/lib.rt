@@ -1,7 +1,9 @@
 //! Plans faults at random: the events of a numbered run besides its steps.
 //!
-//! A [`Plan`] has the distance between faults, if there are any, the number of planned events, and
-//! the number of quiet steps after them. A [`Planner`] gives the planned events of a scenario one
+//! A [`Plan`] has the distance between faults, if there are any, the number of planned events, the
+//! number of quiet steps after them, and whether only the last place is tested. [`Plan::new`] makes
+//! one from the numbers of a command line, and [`report_plan`] says on standard error which of them
+//! is past its limit. A [`Planner`] gives the planned events of a scenario one
 //! by one: steps, and now and then a fault or the healing of an earlier one. At most two faults
 //! wait for their healing. [`run_of`] returns the run of a scenario as a list: the planned events
 //! that can happen. [`run_of_planner`] does it for any planner, such as one over a slice of events.

@@ -23,7 +23,7 @@ pub struct Plan {
     pub at_end: bool,
 }
 
-// Returns the spacing of faults, or `None` if it is greater than that of any plan.
+// Returns the spacing of faults, or `None` if it does not fit 32 bits.
 fn spacing_of(faults: Option<u64>) -> Option<Option<u32>>
     ensures some { IfSome result (λ spacing. spacing ≡ faults) }
     ensures none { IfNone result (IsWide faults) }
@@ -35,7 +35,8 @@ fn spacing_of(faults: Option<u64>) -> Option<Option<u32>>
 }
 
 impl Plan {
-    /// Returns the plan with these numbers, or `None` if no plan can have one of them.
+    /// Returns the plan with these numbers, or `None` if one of them does not fit 32 bits, so that
+    /// no plan can have it. `is_within` tests the other limits.
     pub fn new(faults: Option<u64>, events: u64, quiet: u64, at_end: bool) -> Option<Plan>
         ensures some { IfSome result (λ plan. plan ≡ plan_with faults events quiet at_end) }
         ensures none { IfNone result ((given : ℕ) →

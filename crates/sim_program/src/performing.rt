@@ -56,6 +56,8 @@ fn form_of(json: bool, swept: Swept) -> Form
 /// shrinking, writes nothing then. The line is reported on standard error, and the status is
 /// `BadRequest`. Standard error also says why a condition or a range is bad. Progress, if asked
 /// for, is reported there at most twice a second.
+///
+/// A walk is no job for this call: it writes nothing and returns `BadRequest`.
 pub fn perform<L: Searchable, H: Threads + Wait + Sync + Clock + Eprint, R: Read, W: Write>(
     rt: &H,
     alloc: Global,

@@ -9,7 +9,8 @@
 //! - `rows`: small plays in both formats, for 15 pairs of checkpoint and window from the least to
 //!   the greatest. No pair may change a byte.
 //! - `lines`, `faults`, `probes`: lines of scripts, faults of scenarios, names of probes.
-//! - `full`: 65,536 events and commands, 64 branches, eight watches.
+//! - `full`: 65,536 events and commands, 64 branches, eight watches, 4,096 held messages, a trace
+//!   of 5,000 events.
 //! - `streams`, `ports`: readers and writers of one byte a call, which fail at each call in turn. A
 //!   contract does not rule out that a play blames them without cause; these tests do.
 //! - `scenes`: a scenario, and plays of rows of text.

@@ -3,8 +3,8 @@
 //! What each test catches:
 //! - `the_run_of_a_seed_made_small`: the script of a run that is another run; a fault that was not
 //!   needed and stays.
-//! - `a_page_with_a_title_that_would_leave_its_place`: a page whose title ends the data; a condition
-//!   that is shown as holding where it fails.
+//! - `a_page_with_a_title_that_would_leave_its_place`: a page whose title ends the data; a
+//!   condition that is shown as holding where it fails.
 //! - `writes_nothing_after_a_failed_read`: a search that goes on over a part of a script.
 use crate::running::{Text, gives, performed, performed_over};
 use sim_job::request;

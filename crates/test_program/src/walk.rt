@@ -587,8 +587,8 @@ place 28 clock 63
 28 clock 63: crash a
 ";
 
-// Returns the status and the output of a walk of this input by these commands. All tests call `walk`
-// here: the prover takes a minute for each call of it over the protocols that ship.
+// Returns the status and the output of a walk of this input by these commands. All tests call
+// `walk` here: the prover takes a minute for each call of it over the protocols that ship.
 fn walked<R: Eprint>(
     rt: &R,
     alloc: Global,

@@ -1,12 +1,12 @@
 //! Books of echo and the tapes of their branches: worked rows of orders and answers, the numbers of
-//! entries, and a frozen run. Worked plays of whole scripts are in `test_program`.
+//! entries, and a frozen run. Worked plays of whole scripts are in `test_play`.
 //!
 //! The contract of `Book::turn` says how each command is answered, for every book and every
 //! command, and those of a tape how far its records reach and how many turns, copies and undos a
 //! call takes at most. They cannot say that a call succeeds if memory is ample, nor that their
 //! definitions are the ones that were meant. These tests check both.
 //!
-//! - The rows have each kind of command, refusals in their order, a rewind, commands on two branches,
+//! - The rows have each kind of command, refusals in their order, a rewind, commands on branches,
 //!   and the turns, copies and undos of steps and jumps. The jumps take each way: undo by records,
 //!   forward from the place, and from a checkpoint.
 //! - `proofs/BookRows.antt` computes the definitions on a small book, as lemmas.

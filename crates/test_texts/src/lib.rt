@@ -1,5 +1,5 @@
-//! Tests of the texts of scenarios, of scripts and of command lines. There is nothing else here. The head of each
-//! module says what its tests check.
+//! Tests of the texts of scenarios, of scripts and of command lines. There is nothing else here.
+//! The head of each module says what its tests check.
 //!
 //! - `scenario`: texts of scenarios, with the fault or the values of each.
 //! - `input`: scripts and conditions that are written, and mistakes in bad lines.
