@@ -15,10 +15,11 @@ time on the clock, the processor minutes and the longest chain.
 
 import os
 import pathlib
+import shutil
 import sys
 
 TOP = pathlib.Path(__file__).resolve().parent.parent
-KIT = pathlib.Path("/opt/rattle/rlibs")
+KIT = pathlib.Path(os.path.realpath(shutil.which("rt") or sys.exit("there is no rt"))).parents[1]
 
 # What a check over a second proof takes of the memory of one from nothing.
 OVER = 0.7
@@ -56,7 +57,7 @@ class Crates:
         """Returns what rt reserves for a check of a crate, in bytes."""
         below = self.below(name)
         kit = {it for crate in [name, *below] for it in self.cited[crate]} - set(self.cited)
-        files = [KIT / f"{it}.rlib/toolchain/checked.a" for it in kit]
+        files = [KIT / f"rlibs/{it}.rlib/toolchain/checked.a" for it in kit]
         loaded = sum(os.path.getsize(file) for file in files if file.is_file())
         return (1e9 + 1e6 * self.lines[name] + 2e5 * self.count(name, "antt")
                 + 8e4 * sum(self.lines[it] for it in below) + min(5 * loaded, 2.5e9))
