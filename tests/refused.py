@@ -1,5 +1,5 @@
 #!/usr/bin/env python3
-"""Tries wrong bodies that the tests must refuse.
+"""Tries wrong bodies that the tests, or the prover, must refuse.
 
     tests/refused.py            all of tests/refused/
     tests/refused.py NAME..     these
@@ -7,10 +7,12 @@
 A file tests/refused/NAME.edit has the lines `crate:`, `tests:`, `file:`, `old:` and `new:`. In a
 copy of the crates, the text `old` of that file of the crate becomes `new`, and the tests of the
 crate `tests` are run without proof, as by `rt try --test`. It prints which tests fail. If none
-does, or the edited code does not run, the wrong body is not refused, and the status is 1.
+does, or the edited code does not run, the wrong body is not refused, and the status is 1. A file
+without the line `tests:` is tried by the prover, as by `rt must-fail`.
 
-Such a wrong body stands in a crate that loads most of the others, where the gate would prove the
-whole crate again for it. Each takes some three minutes of one processor here.
+Such a wrong body stands in a crate that loads most of the others, or that is large. The gate would
+prove the whole crate again for it. By tests each takes some three minutes of one processor, by the
+prover one to two, and the proofs of the crate and of all below it if they are not kept.
 """
 
 import pathlib
@@ -51,12 +53,31 @@ def failed_tests(room, edit):
     return re.findall(r"^test (\S+) \.\.\. FAILED", ran.stdout, re.M), ran.stdout
 
 
+def tried_by_prover(room, crate, paths):
+    """Has the prover try wrong bodies of a crate. Returns 0 if it refuses all."""
+    folder = room / "crates" / crate / "must-fail"
+    shutil.rmtree(folder, ignore_errors=True)
+    folder.mkdir()
+    for path in paths:
+        lines = path.read_text().splitlines(keepends=True)
+        (folder / path.name).write_text("".join(lines[1:]))
+    return subprocess.run(["rt", "must-fail", crate], cwd=room, stdin=subprocess.DEVNULL).returncode
+
+
 def main(names):
     paths = [EDITS / f"{name}.edit" for name in names] or sorted(EDITS.glob("*.edit"))
+    by_prover = {}
+    for path in paths:
+        edit = read_edit(path)
+        if "tests" not in edit:
+            by_prover.setdefault(edit["crate"], []).append(path)
+    paths = [path for path in paths if "tests" in read_edit(path)]
     accepted = 0
     with tempfile.TemporaryDirectory(prefix="simback-refused-") as folder:
         room = pathlib.Path(folder)
         copy_crates(room)
+        for crate, found in by_prover.items():
+            accepted += bool(tried_by_prover(room, crate, found))
         for path in paths:
             failed, said = failed_tests(room, read_edit(path))
             if failed:

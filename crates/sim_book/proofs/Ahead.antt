@@ -5,21 +5,23 @@ use Rattle.std.proofs.Math.Nat.{eq-or-lt_of_le}
 use Rattle.std.proofs.Math.Seq.{take-length}
 use Rattle.sim_node.specs.Numbers.{first_passing, least}
 use Rattle.sim_world.specs.World.{World}
-use Rattle.sim_world.specs.declared.Event.{Event}
-use Rattle.sim_world.specs.declared.Event.TheVariants as event
+use Rattle.sim_events.specs.declared.Event.{Event}
+use Rattle.sim_events.specs.declared.Event.TheVariants as event
 use Rattle.sim_world.specs.Events.{Rules, run, start, IsRunnable, unless_refused}
 use Rattle.sim_world.specs.Events as world
-use Rattle.sim_tape.proofs.Placing.{run-snoc}
+use Rattle.sim_moves.proofs.Placing.{run-snoc}
 use Rattle.sim_watch.specs.declared.command.Command.{Command}
 use Rattle.sim_watch.specs.declared.command.Command.TheVariants as command
 use Rattle.sim_book.specs.declared.Refusal.TheVariants as refusal
-use Rattle.sim_book.specs.Book.{Branch, Book, branch, empty_branch, world_of}
+use Rattle.sim_runs.specs.Branch.{Branch, world_of}
+use Rattle.sim_book.specs.Book.{Book, branch, empty_branch}
 use Rattle.sim_watch.specs.Commands.{branch_of}
-use Rattle.sim_book.specs.Answer.{first_refusal, steps, is_idle, is_due_by, after_steps, run_stop_at, run_len, tick_end, tick_steps, not_at_end, events_full, idle}
+use Rattle.sim_book.specs.Answer.{first_refusal, not_at_end, events_full, idle}
+use Rattle.sim_runs.specs.Runs.{steps, is_idle, is_due_by, after_steps, run_stop_at, run_len, tick_end, tick_steps}
 use Rattle.sim_book.specs.Headline.{AreBranches, HasStepWorlds}
 use Rattle.sim_book.proofs.Headlines.{some_is, first_free, not_less, inside, later_free}
-use Rattle.sim_book.proofs.Running.{steps_more, steps_can, can_step}
-use Rattle.sim_book.proofs.Ticking.{step_can}
+use Rattle.sim_runs.proofs.Running.{steps_more, steps_can, can_step}
+use Rattle.sim_runs.proofs.Ticking.{step_can}
 
 -- no number below the least that passes does
 passing_before : (test : ℕ → Bool) (k n d j : ℕ) → d ≤ k + n → k ≤ j → j < unwrap_or (first_passing test k n) d → test j ≡ false

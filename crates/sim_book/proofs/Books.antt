@@ -1,12 +1,12 @@
 -- From a turn on one branch to a turn of the book.
 use Rattle.std.proofs.Common.{◌≡◌, ℕ, zero, suc, ◌<◌, ◌≤◌, false, List, [], ◌∷◌, ◌++◌, Option, Some, None, length, set, get_or, inl, inr, refl, sym, ap, ◌∙◌, subst, arith, nat_le, nat_lt, take, IsTrue}
 use Rattle.std.specs.Prelude.{if◌then◌else◌, IfSome}
-use Rattle.sim_book.specs.Watches.{AreChecked}
+use Rattle.sim_runs.specs.Watches.{AreChecked}
 use Rattle.std.proofs.lemmas.Bool.{le-ltb}
 use Rattle.std.proofs.lemmas.Bool.Decides.{nat_tests}
 use Rattle.std.proofs.lemmas.List.{set-get_or, append-nil, map-set, get_or-map, length-map, map-append}
 use Rattle.sim_node.specs.Node.{NodeLaws}
-use Rattle.sim_world.specs.World.{Scenario}
+use Rattle.sim_events.specs.Scenario.{Scenario}
 use Rattle.sim_world.specs.Events.{Rules, rules}
 use Rattle.sim_tape.specs.Tape.{Tape}
 use Rattle.sim_watch.specs.Condition.{Cond, fault_of}
@@ -16,14 +16,16 @@ use Rattle.sim_book.specs.declared.Refusal.{Refusal}
 use Rattle.sim_book.specs.declared.Refusal.TheVariants as refusal
 use Rattle.sim_book.specs.declared.Reply.{Reply}
 use Rattle.sim_book.specs.declared.Reply.TheVariants as reply
-use Rattle.sim_book.specs.Book.{Branch, Book, branch, with_branch, empty_branch}
+use Rattle.sim_runs.specs.Branch.{Branch}
+use Rattle.sim_book.specs.Book.{Book, branch, with_branch, empty_branch}
 use Rattle.sim_watch.specs.Commands.{branch_of, makes_branch}
 use Rattle.sim_book.specs.Answer.{first_refusal, later_checks, refusal_of, branch_after, branches_made, answer_by, after_by}
 use Rattle.sim_book.specs.History.{IsTurn, leaves_room_for_want}
 use Rattle.sim_node.specs.Work.{Work}
 use Rattle.sim_book.specs.Keeps.{Keeps}
 use Rattle.sim_book.specs.Works.{Works}
-use Rattle.sim_book.specs.Kept.{Kept, shown, all_shown, branch_with}
+use Rattle.sim_book.specs.Kept.{Kept, shown, all_shown}
+use Rattle.sim_runs.specs.Branch.{branch_with}
 use Rattle.sim_book.specs.OnBranch.{IsTurnOn, refusal_on, reply_on, after_on}
 use Rattle.sim_book.specs.BookOf.{AllKept}
 

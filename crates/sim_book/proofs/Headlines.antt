@@ -8,17 +8,20 @@ use Rattle.std.proofs.lemmas.Bool.{le-ltb}
 use Rattle.std.proofs.lemmas.Bool.Decides.{nat_tests}
 use Rattle.std.proofs.lemmas.List.{append-nil, length-set, get_or-set_same, get_or-map, map-set, map-append, take-append-le}
 use Rattle.sim_node.specs.Node.{NodeLaws}
-use Rattle.sim_world.specs.World.{Scenario, World}
-use Rattle.sim_world.specs.declared.Event.{Event}
-use Rattle.sim_world.specs.declared.Event.TheVariants as event
-use Rattle.sim_world.specs.Events.{Rules, rules, run, start, hosts_of}
-use Rattle.sim_tape.proofs.Placing.{run-front}
+use Rattle.sim_events.specs.Scenario.{Scenario}
+use Rattle.sim_world.specs.World.{World}
+use Rattle.sim_events.specs.declared.Event.{Event}
+use Rattle.sim_events.specs.declared.Event.TheVariants as event
+use Rattle.sim_events.specs.Faults.{hosts_of}
+use Rattle.sim_world.specs.Events.{Rules, rules, run, start}
+use Rattle.sim_moves.proofs.Placing.{run-front}
 use Rattle.sim_watch.specs.declared.command.Command.{Command}
 use Rattle.sim_watch.specs.declared.command.Command.TheVariants as command
 use Rattle.sim_book.specs.declared.Refusal.{Refusal}
 use Rattle.sim_book.specs.declared.Refusal.TheVariants as refusal
 use Rattle.sim_book.specs.Kept.{Kept, shown, all_shown}
-use Rattle.sim_book.specs.Book.{Branch, Book, IsBranch, branch, with_branch, empty_branch, at_place, with_events}
+use Rattle.sim_runs.specs.Branch.{Branch, at_place, with_events}
+use Rattle.sim_book.specs.Book.{Book, IsBranch, branch, with_branch, empty_branch}
 use Rattle.sim_watch.specs.Commands.{branch_of, makes_branch}
 use Rattle.sim_book.specs.Answer.{Check, first_refusal, later_checks, unknown_host, same_host, not_at_end, events_full, idle, refusal_of, branch_after, after_by, after}
 use Rattle.sim_book.specs.Headline.{is_warm, world_by_run, IsWorldOf, AreBranches, HasWorlds, BackAfterEvent, ForwardAfterBack}

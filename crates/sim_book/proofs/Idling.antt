@@ -4,8 +4,8 @@ use Rattle.std.specs.List.{list_all}
 use Rattle.std.proofs.lemmas.Bool.{and_parts}
 use Rattle.std.proofs.lemmas.List.{get_or-map}
 use Rattle.sim_node.specs.Node.{NodeLaws}
-use Rattle.sim_world.specs.declared.Event.{Event}
-use Rattle.sim_world.specs.World.{Scenario}
+use Rattle.sim_events.specs.declared.Event.{Event}
+use Rattle.sim_events.specs.Scenario.{Scenario}
 use Rattle.sim_world.specs.Events.{Rules, rules}
 use Rattle.sim_tape.specs.Places.{world_of}
 use Rattle.sim_watch.specs.declared.command.Command.{Command}
@@ -14,10 +14,12 @@ use Rattle.sim_book.specs.declared.Refusal.{Refusal}
 use Rattle.sim_book.specs.declared.Refusal.TheVariants as refusal
 use Rattle.sim_book.specs.declared.Reply.{Reply}
 use Rattle.sim_book.specs.declared.Reply.TheVariants as reply
-use Rattle.sim_book.specs.Book.{Branch, Book, branch, empty_branch}
+use Rattle.sim_runs.specs.Branch.{Branch}
+use Rattle.sim_book.specs.Book.{Book, branch, empty_branch}
 use Rattle.sim_watch.specs.Commands.{branch_of}
-use Rattle.sim_book.specs.Book as book
-use Rattle.sim_book.specs.Answer.{Check, checks, first_refusal, refusal_of, is_idle, answer, answer_by, done_reply}
+use Rattle.sim_runs.specs.Branch as branches
+use Rattle.sim_book.specs.Answer.{Check, checks, first_refusal, refusal_of, answer, answer_by, done_reply}
+use Rattle.sim_runs.specs.Runs.{is_idle}
 use Rattle.sim_book.specs.History.{IsTurn}
 use Rattle.sim_book.specs.Kept.{Kept, shown, all_shown}
 use Rattle.sim_book.specs.BookOf.{AllKept}
@@ -72,9 +74,9 @@ module _ {State Msg : Type 0} (r : Rules State Msg) where
 module _ {State Msg : Type 0} (node : NodeLaws State Msg) (probes : ℕ) (s : Scenario) (ks : List Kept) where
   -- the world of a tape is that of its branch
   pending : (b : ℕ) (d : Kept) → b < length ks → AllKept probes s ks → is_idle (world_of (rules node probes (get_or ks b d).tape.scenario) (get_or ks b d).tape) ≡ false
-      → is_idle (book.world_of (rules node probes s) (branch b (all_shown ks))) ≡ false
+      → is_idle (branches.world_of (rules node probes s) (branch b (all_shown ks))) ≡ false
   pending b d there all busy =
-      ap (λ (x : Branch). is_idle (book.world_of (rules node probes s) x)) (get_or-map shown ks b d empty_branch there)
+      ap (λ (x : Branch). is_idle (branches.world_of (rules node probes s) x)) (get_or-map shown ks b d empty_branch there)
       ∙ ap (λ (z : Scenario). is_idle (world_of (rules node probes z) (get_or ks b d).tape)) (sym (all b d there).scenario) ∙ busy
 
   true_not : (b : Bool) → b ≡ true → b ≡ false → ⊥

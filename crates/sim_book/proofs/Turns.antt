@@ -2,29 +2,31 @@
 use Rattle.std.proofs.Common.{◌≡◌, ℕ, ◌+◌, ◌-◌, ◌<◌, ◌≤◌, ◌%◌, Bool, true, false, not, ◌||◌, set, List, [], ◌∷◌, ◌++◌, Option, Some, None, length, inl, inr, refl, get_or, get_or-set_same, get_or-set_other, sym, ap, ◌∙◌, subst, arith, is_some, nat_lt, nat_le, min, append-nil, length-append, add-zero}
 use Rattle.std.specs.Prelude.{if◌then◌else◌, IfSome}
 use Rattle.std.proofs.lemmas.Bool.{cases_order}
-use Rattle.sim_book.specs.Watches.{AreChecked}
+use Rattle.sim_runs.specs.Watches.{AreChecked}
 use Rattle.std.specs.List.{list_any}
 use Rattle.std.proofs.lemmas.Bool.{le-ltb}
 use Rattle.std.proofs.lemmas.Bool.Decides.{nat_tests}
 use Rattle.sim_node.specs.Node.{NodeLaws}
 use Rattle.sim_queue.specs.Pending.{first}
-use Rattle.sim_world.specs.declared.Event.{Event}
-use Rattle.sim_world.specs.declared.Event.TheVariants as event
-use Rattle.sim_world.specs.declared.Fault.{Fault}
-use Rattle.sim_world.specs.declared.Query.{Query}
-use Rattle.sim_world.specs.declared.View.{View}
-use Rattle.sim_world.specs.declared.Refusal.{Refusal as WorldRefusal}
-use Rattle.sim_world.specs.declared.Refusal.TheVariants as why
-use Rattle.sim_world.specs.Events.{Rules, rules, hosts_of, are_same}
+use Rattle.sim_events.specs.declared.Event.{Event}
+use Rattle.sim_events.specs.declared.Event.TheVariants as event
+use Rattle.sim_events.specs.declared.Fault.{Fault}
+use Rattle.sim_events.specs.declared.Query.{Query}
+use Rattle.sim_events.specs.declared.View.{View}
+use Rattle.sim_events.specs.declared.Refusal.{Refusal as WorldRefusal}
+use Rattle.sim_events.specs.declared.Refusal.TheVariants as why
+use Rattle.sim_events.specs.Faults.{hosts_of, are_same}
+use Rattle.sim_world.specs.Events.{Rules, rules}
 use Rattle.sim_world.specs.Events as events
 use Rattle.sim_world.specs.Looks.{looked}
+use Rattle.sim_moves.specs.Places.{acting}
+use Rattle.sim_moves.specs.Works.{undone_by}
 use Rattle.sim_tape.specs.Tape.{Tape, at, with_world, first_events, with_event, reach_here}
-use Rattle.sim_tape.specs.Places.{world_of, acting}
-use Rattle.sim_tape.specs.Works.{undone_by}
-use Rattle.sim_book.proofs.Running.{adds_none}
+use Rattle.sim_tape.specs.Places.{world_of}
+use Rattle.sim_runs.proofs.Running.{adds_none}
 use Rattle.sim_node.specs.Work.{Work}
-use Rattle.sim_book.specs.Works.{Adds, TakesBack, Looks}
-use Rattle.sim_book.specs.Tapes.{lengthened}
+use Rattle.sim_runs.specs.Works.{Adds, TakesBack, Looks}
+use Rattle.sim_runs.specs.Tapes.{lengthened}
 use Rattle.sim_watch.specs.Condition.{Cond, fault_of, has_no_host, has_no_probe, is_empty}
 use Rattle.sim_watch.specs.declared.BadTerm.TheVariants as bad
 use Rattle.std.specs.Option.{unwrap_or}
@@ -32,16 +34,18 @@ use Rattle.sim_watch.specs.declared.command.Command.{Command}
 use Rattle.sim_watch.specs.declared.command.Command.TheVariants as command
 use Rattle.sim_book.specs.declared.Refusal.{Refusal}
 use Rattle.sim_book.specs.declared.Refusal.TheVariants as refusal
-use Rattle.sim_book.specs.declared.Stop.{Stop}
-use Rattle.sim_book.specs.declared.Stop.TheVariants as stop
+use Rattle.sim_runs.specs.declared.Stop.{Stop}
+use Rattle.sim_runs.specs.declared.Stop.TheVariants as stop
 use Rattle.sim_book.specs.declared.Reply.{Reply}
 use Rattle.sim_book.specs.declared.Reply.TheVariants as reply
-use Rattle.sim_book.specs.Book.{Branch, Book}
-use Rattle.sim_book.specs.Answer.{free_watch, run_addition, tick_addition, rewind_move, branch_after, reply_of, moved, is_idle, hosts_of_query, asks_no_probe}
-use Rattle.sim_book.specs.Kept.{branch_with}
+use Rattle.sim_runs.specs.Branch.{Branch}
+use Rattle.sim_book.specs.Book.{Book}
+use Rattle.sim_book.specs.Answer.{free_watch, branch_after, reply_of, moved, hosts_of_query, asks_no_probe}
+use Rattle.sim_runs.specs.Runs.{run_addition, tick_addition, rewind_move, is_idle}
+use Rattle.sim_runs.specs.Branch.{branch_with}
 use Rattle.sim_book.specs.OnBranch.{IsTurnOn, refusal_on, reply_on, after_on}
-use Rattle.sim_book.specs.Keeps.{reach_rewound}
-use Rattle.sim_book.proofs.Reaching.{near_rewound, warm_rewound}
+use Rattle.sim_runs.specs.Reach.{reach_rewound}
+use Rattle.sim_runs.proofs.Reaching.{near_rewound, warm_rewound}
 
 module _ {State Msg : Type 0} (r : Rules State Msg) where
   pub refused_on : (book : Book) (x y : Branch) (c : Command) (why : Refusal) → refusal_on r book x c ≡ Some why → y ≡ x → IsTurnOn r book x c (reply.Refused why) y

@@ -5,13 +5,16 @@ use Rattle.std.specs.Prelude.{◌≡◌, ℕ, ◌≤◌, Bool, true, false, List
 use Rattle.std.specs.Prelude.{Some, None, slice_get, IsTrue}
 use Rattle.std.specs.Option.{unwrap_or, option_map}
 use Rattle.std.specs.List.{All}
-use Rattle.sim_world.specs.World.{Scenario, World}
+use Rattle.sim_events.specs.Scenario.{Scenario}
+use Rattle.sim_world.specs.World.{World}
 use Rattle.sim_world.specs.Events.{Rules, run}
 use Rattle.sim_watch.specs.declared.command.Command.{Command}
 use Rattle.sim_watch.specs.declared.command.Command.TheVariants as command
-use Rattle.sim_book.specs.Book.{Branch, Book, IsBranch, branch, world_at}
+use Rattle.sim_runs.specs.Branch.{Branch, world_at}
+use Rattle.sim_book.specs.Book.{Book, IsBranch, branch}
 use Rattle.sim_watch.specs.Commands.{branch_of}
-use Rattle.sim_book.specs.Answer.{after, refusal_of, steps, after_steps, run_len, tick_steps}
+use Rattle.sim_book.specs.Answer.{after, refusal_of}
+use Rattle.sim_runs.specs.Runs.{steps, after_steps, run_len, tick_steps}
 use Rattle.sim_book.specs.Kept.{Kept}
 
 -- there is such a branch, and its tape is warm

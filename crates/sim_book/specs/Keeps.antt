@@ -1,9 +1,8 @@
 -- What a command does to the warmth and the reach of its branch's tape.
-use Rattle.std.specs.Prelude.{◌≡◌, ℕ, ◌+◌, ◌-◌, ◌%◌, ◌==◌, ◌<◌, ◌≢◌, nat_le, nat_lt, min}
-use Rattle.std.specs.Prelude.{Bool, true, false, ◌&&◌, ◌||◌, if◌then◌else◌, List, length}
+use Rattle.std.specs.Prelude.{◌≡◌, ℕ, ◌+◌, ◌-◌, ◌<◌, ◌≢◌, min, Bool, true, false, List, length}
 use Rattle.std.specs.Prelude.{slice_index_or, IsTrue}
 use Rattle.sim_node.specs.Node.{NodeLaws}
-use Rattle.sim_world.specs.World.{Scenario}
+use Rattle.sim_events.specs.Scenario.{Scenario}
 use Rattle.sim_world.specs.Events.{rules}
 use Rattle.sim_tape.specs.Tape.{Tape, raised, reach_at, reach_here}
 use Rattle.sim_tape.specs.Places.{world_of}
@@ -14,23 +13,10 @@ use Rattle.sim_book.specs.declared.Refusal.TheVariants as refusal
 use Rattle.sim_book.specs.declared.Reply.{Reply}
 use Rattle.sim_book.specs.declared.Reply.TheVariants as reply
 use Rattle.sim_watch.specs.Commands.{branch_of}
-use Rattle.sim_book.specs.Answer.{is_idle, answer}
+use Rattle.sim_runs.specs.Runs.{is_idle}
+use Rattle.sim_runs.specs.Reach.{reach_rewound}
+use Rattle.sim_book.specs.Answer.{answer}
 use Rattle.sim_book.specs.Kept.{Kept, all_shown}
-
--- whether a place past the reach ends a stretch: the next place has a checkpoint, or is within the
--- reach
-abbrev pub ends_stretch : ℕ → Tape → Bool
-ends_stretch p t = ((p + 1) % t.scenario.interval == 0) || (p + 1 == t.place - reach_here t)
-
--- The reach after a rewind that may go down to `low` and stops at p. Within the reach it falls by
--- the events that are undone. Past it, it is that of a walk to p from the checkpoint at or below
--- it; but a stretch is looked through without records, and where the last place of one stops the
--- rewind before `low`, none is left.
-abbrev pub reach_rewound : ℕ → ℕ → Tape → ℕ
-reach_rewound low p t =
-    if nat_le (t.place - p) (reach_here t) then reach_here t - (t.place - p)
-    else if nat_lt low p && ends_stretch p t then 0
-    else min t.scenario.window (p % t.scenario.interval)
 
 -- The reach after a command that moves the place. It rises by one for each event added or walked
 -- forward, up to the window, and falls by one for each event walked back within the reach. On a

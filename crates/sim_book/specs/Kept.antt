@@ -2,9 +2,10 @@
 use Rattle.std.specs.Prelude.{List, map, Option, None, replicate}
 use Rattle.sim_node.specs.Work.{Work}
 use Rattle.sim_tape.specs.Tape.{Tape, opened}
-use Rattle.sim_world.specs.World.{Scenario}
+use Rattle.sim_events.specs.Scenario.{Scenario}
 use Rattle.sim_watch.specs.Condition.{Cond}
-use Rattle.sim_book.specs.Book.{Branch, Book}
+use Rattle.sim_runs.specs.Branch.{Branch, branch_with}
+use Rattle.sim_book.specs.Book.{Book}
 use Rattle.sim_book.specs.declared.Entry.{Entry}
 
 pub record Kept : Type 0 where
@@ -14,9 +15,6 @@ pub record Kept : Type 0 where
 -- the first branch of a book, unused and without watches
 abbrev pub first_kept : Scenario → Kept
 first_kept s = record { tape = opened s; watches = replicate 8 None }
-
-abbrev pub branch_with : List (Option Cond) → Tape → Branch
-branch_with watches t = record { events = t.events; place = t.place; watches = watches }
 
 abbrev pub shown : Kept → Branch
 shown k = branch_with k.watches k.tape

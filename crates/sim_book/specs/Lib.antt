@@ -3,12 +3,8 @@ pub mod Answer
 pub mod History
 pub mod Headline
 pub mod Kept
-pub mod Tapes
-pub mod OnTape
 pub mod OnBranch
 pub mod BookOf
 pub mod Keeps
 pub mod Works
 pub mod Freezing
-pub mod Watches
-pub mod Running

@@ -1,16 +1,15 @@
 -- The work of a command: the turns, copies and undos of nodes that the book's meter counts.
-use Rattle.std.specs.Prelude.{◌≡◌, ℕ, zero, suc, ◌+◌, ◌-◌, ◌*◌, ◌/◌, ◌<◌, ◌≤◌, nat_lt, false, List}
-use Rattle.std.specs.Prelude.{length, slice_index_or, IsTrue, if◌then◌else◌}
+use Rattle.std.specs.Prelude.{◌≡◌, ℕ, ◌+◌, ◌-◌, ◌<◌, ◌≤◌, false, List, length}
+use Rattle.std.specs.Prelude.{slice_index_or, IsTrue}
 use Rattle.sim_node.specs.Node.{NodeLaws}
 use Rattle.sim_node.specs.Work.{Work}
-use Rattle.sim_world.specs.declared.Event.{Event}
-use Rattle.sim_world.specs.declared.Event.TheVariants as event
-use Rattle.sim_world.specs.Acts.{running}
+use Rattle.sim_events.specs.declared.Event.TheVariants as event
 use Rattle.sim_world.specs.Events.{Rules, rules}
+use Rattle.sim_moves.specs.Places.{acting, world_at}
+use Rattle.sim_moves.specs.Works.{undone_by, OnlyTurns, Plays}
 use Rattle.sim_tape.specs.Tape.{Tape, is_within_reach, is_near_ahead, reach_here}
-use Rattle.sim_tape.specs.Places.{acting, world_at}
-use Rattle.sim_tape.specs.Works.{undone_by, OnlyTurns, Plays, TakesAtMost, nodes_below}
-use Rattle.sim_tape.specs.Works.{nodes_at_end, nodes_made}
+use Rattle.sim_tape.specs.Works.{TakesAtMost, nodes_below, nodes_at_end}
+use Rattle.sim_runs.specs.Works.{TakesBack, Adds, Looks, UndoesAtMost}
 use Rattle.sim_watch.specs.declared.command.Command.{Command}
 use Rattle.sim_watch.specs.declared.command.Command.TheVariants as command
 use Rattle.sim_book.specs.declared.Refusal.{Refusal}
@@ -40,40 +39,6 @@ module _ {State Msg : Type 0} (r : Rules State Msg) where
   abbrev pub Jumps : ℕ → Tape → Work → Work → Type 0
   Jumps p t old new = TakesAtMost (r.scenario.interval - 1) (nodes_below r p t.events) old new
 
-  -- the n events from place p on are undone, and nothing else is done
-  abbrev pub TakesBack : ℕ → ℕ → Tape → Work → Work → Type 0
-  TakesBack n p t old new = new ≡ undone_by (acting r p n t.events) old
-
-  -- The last n of these events were added: at most a turn for each, no undo, and a copy of the
-  -- world at each multiple of the interval.
-  abbrev pub Adds : ℕ → List Event → Work → Work → Type 0
-  Adds n events old new = Plays n (nodes_made r (length events - n) n events) old new
-
-  -- the number of stretches from `low` on, below `high`: one for each interval with a place there
-  abbrev pub stretches : ℕ → ℕ → ℕ
-  stretches low high =
-      if nat_lt low high
-      then (high - 1) / r.scenario.interval - low / r.scenario.interval + 1
-      else 0
-
-  -- the number of nodes copied for n checkpoints, from that of the j-th interval on, once each
-  abbrev pub nodes_from : ℕ → ℕ → List Event → ℕ
-  nodes_from j zero events = 0
-  nodes_from j (suc n) events =
-      running (world_at r (j * r.scenario.interval) events) + nodes_from (j + 1) n events
-
-  -- The work to test the places from `low` on, below `high`: for each stretch fewer turns than the
-  -- interval and at most one copy of its checkpoint. A jump goes to the last of these places.
-  abbrev pub Looks : ℕ → ℕ → Tape → Work → Work → Type 0
-  Looks low high t old new =
-      TakesAtMost (stretches low high * (r.scenario.interval - 1) + (r.scenario.interval - 1))
-      (nodes_from (low / r.scenario.interval) (stretches low high) t.events
-      + nodes_below r low t.events) old new
-
-  -- at most the reactions by which the last n events before the place act were undone
-  abbrev pub UndoesAtMost : ℕ → Tape → Work → Work → Type 0
-  UndoesAtMost n t old new = new.undos ≤ old.undos + acting r (t.place - n) n t.events
-
   -- A command that moves the place. On a cold tape a step, a run, a tick, a fault and a rewind
   -- first make the world. Then an added event takes at most one turn. A walk back within the reach
   -- takes no turn and no copy. A walk forward, and a goto a short way ahead, take at most a turn an
@@ -85,15 +50,15 @@ module _ {State Msg : Type 0} (r : Rules State Msg) where
   MovesBy (command.Fault b f) t u old new =
       WarmsAnd (Plays 1 (nodes_at_end r (event.Fault f) t)) t old new
   MovesBy (command.Run b n) t u old new =
-      WarmsAnd (Adds (length u.events - length t.events) u.events) t old new
+      WarmsAnd (Adds r (length u.events - length t.events) u.events) t old new
   MovesBy (command.Tick b) t u old new =
-      WarmsAnd (Adds (length u.events - length t.events) u.events) t old new
+      WarmsAnd (Adds r (length u.events - length t.events) u.events) t old new
   MovesBy (command.Back b n) t u old new =
-      (IsTrue t.warm → n ≤ t.reach → TakesBack n (t.place - n) t old new)
+      (IsTrue t.warm → n ≤ t.reach → TakesBack r n (t.place - n) t old new)
       × Jumps (t.place - n) t old new
       × (is_within_reach (t.place - n) t ≡ false → Renews (t.place - n) t old new)
   MovesBy (command.Goto b p) t u old new =
-      (IsTrue (is_within_reach p t) → TakesBack (t.place - p) p t old new)
+      (IsTrue (is_within_reach p t) → TakesBack r (t.place - p) p t old new)
       × (IsTrue (is_near_ahead p t) → OnlyTurns (p - t.place) old new)
       × Jumps p t old new
       × (is_within_reach p t ≡ false → is_near_ahead p t ≡ false → Renews p t old new)
@@ -101,9 +66,9 @@ module _ {State Msg : Type 0} (r : Rules State Msg) where
       (IsTrue t.warm → OnlyTurns n old new) × (t.warm ≡ false → Renews (t.place + n) t old new)
   MovesBy (command.Rewind b n) t u old new =
       WarmsAnd (λ made last.
-      (t.place - u.place ≤ reach_here t → TakesBack (t.place - u.place) u.place t made last)
-      × Looks u.place (t.place - reach_here t) t made last
-      × UndoesAtMost (reach_here t) t made last) t old new
+      (t.place - u.place ≤ reach_here t → TakesBack r (t.place - u.place) u.place t made last)
+      × Looks r u.place (t.place - reach_here t) t made last
+      × UndoesAtMost r (reach_here t) t made last) t old new
   MovesBy (command.Cut b) t u old new = new ≡ old
   MovesBy _ t u old new = Unit {0}
 

@@ -1,6 +1,6 @@
 //! The commands on one branch.
 ghost use Rattle.std.specs.Prelude.{◌≡◌, ℕ, ◌+◌, ◌<◌, ◌≤◌, List, Option, None, Some, IsTrue};
-ghost use Rattle.std.specs.Prelude.{MatchResult, length, is_some, if◌then◌else◌};
+ghost use Rattle.std.specs.Prelude.{IfSome, MatchResult, length, is_some, if◌then◌else◌};
 ghost use Rattle.sim_node.specs.Work.{Work};
 ghost use Rattle.sim_world.specs.Events.{rules};
 ghost use Rattle.sim_world.specs.Looks.{looked, CanLook};
@@ -10,14 +10,14 @@ ghost use Rattle.sim_watch.specs.declared.command.Command.{Command};
 ghost use Rattle.sim_watch.specs.declared.command.Command.TheVariants as command;
 ghost use Rattle.sim_book.specs.Book.{Book};
 ghost use Rattle.sim_book.specs.Answer.{free_watch};
-ghost use Rattle.sim_book.specs.Kept.{branch_with};
-ghost use Rattle.sim_book.specs.OnTape.{step_refusal, world_on};
+ghost use Rattle.sim_runs.specs.Branch.{branch_with};
+ghost use Rattle.sim_runs.specs.OnTape.{step_refusal, world_on};
 ghost use Rattle.sim_book.specs.OnBranch.{IsTurnOn, Turns, TurnsWith};
 ghost use Rattle.sim_book.specs.Keeps.{Keeps};
 ghost use Rattle.sim_book.specs.Works.{Works};
-ghost use Rattle.sim_book.specs.Watches.{AreChecked};
+ghost use Rattle.sim_runs.specs.Watches.{AreChecked};
 
-use crate::{MAX_EVENTS, MAX_WATCHES, Refusal, Reply, Stop, named, rewinds, stops, ticks, walks};
+use crate::{MAX_EVENTS, MAX_WATCHES, Refusal, Reply, Stop, named};
 use sim_node::Node;
 use sim_tape::Tape;
 use sim_watch::{BadTerm, Cond};
@@ -113,7 +113,7 @@ pub(crate) fn tick<N: Node>(
         Err(_) => return Reply::Refused(Refusal::NoMemory),
         Ok(()) => {}
     }
-    match ticks::tick(alloc, tape, meter, takes) {
+    match sim_runs::tick(alloc, tape, meter, takes) {
         Err(_) => Reply::Refused(Refusal::NoMemory),
         Ok(why) => moved(tape, why),
     }
@@ -153,7 +153,7 @@ pub(crate) fn run<N: Node>(
     if count == 0 {
         return moved(tape, Stop::Asked);
     }
-    match walks::run(alloc, tape, watches, meter, count) {
+    match sim_runs::run(alloc, tape, watches, meter, count) {
         Err(_) => Reply::Refused(Refusal::NoMemory),
         Ok(why) => moved(tape, why),
     }
@@ -293,7 +293,7 @@ pub(crate) fn rewind<N: Node>(
     if count == 0 {
         return moved(tape, Stop::Asked);
     }
-    match rewinds::rewind(alloc, tape, watches, meter, count) {
+    match sim_runs::rewind(alloc, tape, watches, meter, count) {
         Err(_) => Reply::Refused(Refusal::NoMemory),
         Ok(why) => moved(tape, why),
     }
@@ -368,6 +368,19 @@ fn fault_of<N: Node>(hosts: u16, cond: &Cond) -> Option<BadTerm>
     }
 }
 
+// Returns the lowest free number of a watch.
+fn free(watches: &[Option<Cond>; 8]) -> Option<u32>
+    ensures value { result ≡ free_watch watches.now }
+    ensures few { IfSome result (λ n. n < 8) }
+{
+    for number in 0..MAX_WATCHES {
+        if watches[number].is_none() {
+            return Some(number as u32);
+        }
+    }
+    None
+}
+
 // Returns the refusal of a condition that names only known hosts but cannot be used.
 fn refuse_bad<N: Node>(watches: &[Option<Cond>; 8]) -> Reply
     ensures value { result ≡ Reply.Refused
@@ -376,7 +389,7 @@ fn refuse_bad<N: Node>(watches: &[Option<Cond>; 8]) -> Reply
     ensures work { (c : Command) (t : TapeValue) (w : Work) →
         Works N.laws N.PROBES c result t t w w }
 {
-    match stops::free(watches) {
+    match free(watches) {
         None => Reply::Refused(Refusal::WatchesFull),
         Some(_) => Reply::Refused(Refusal::BadCondition),
     }
@@ -402,7 +415,7 @@ pub(crate) fn watch<N: Node>(
         Some(BadTerm::UnknownHost) => Reply::Refused(Refusal::UnknownHost),
         Some(BadTerm::BadProbe) => refuse_bad::<N>(watches),
         Some(BadTerm::Empty) => refuse_bad::<N>(watches),
-        None => match stops::free(watches) {
+        None => match free(watches) {
             None => Reply::Refused(Refusal::WatchesFull),
             Some(number) => {
                 watches[number as usize] = Some(cond.copy());

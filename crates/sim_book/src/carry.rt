@@ -2,7 +2,7 @@ ghost use Rattle.std.specs.Prelude.{◌≡◌, ℕ, ◌+◌, ◌<◌, ◌≤◌,
 ghost use Rattle.std.specs.Prelude.{IfOk};
 ghost use Rattle.std.specs.List.{All};
 ghost use Rattle.sim_node.specs.Work.{Work};
-ghost use Rattle.sim_world.specs.World.{Scenario as ScenarioValue};
+ghost use Rattle.sim_events.specs.Scenario.{Scenario as ScenarioValue};
 ghost use Rattle.sim_world.specs.Events.{rules};
 ghost use Rattle.sim_book.specs.Book.{Book, empty_branch, IsBranch};
 ghost use Rattle.sim_watch.specs.Commands.{branch_of, makes_branch};

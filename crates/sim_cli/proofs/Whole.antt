@@ -8,7 +8,7 @@ use Rattle.sim_lines.specs.Taken.{HasHead, HasNoMarker}
 use Rattle.sim_lines.specs.Waiting.{Waiting, CountsReads, unread}
 use Rattle.sim_lines.proofs.Known.{Appends-none, Appends-append, prepend-none}
 use Rattle.sim_lines.proofs.Passing.{Keeps-Appends}
-use Rattle.sim_world.specs.World.{Scenario}
+use Rattle.sim_events.specs.Scenario.{Scenario}
 use Rattle.sim_world.specs.Events.{Rules}
 use Rattle.sim_scenario.specs.Scenario.{Protocol, ScenarioText, Fault, read}
 use Rattle.sim_cli.specs.declared.status.Answered.TheVariants as ends

@@ -8,7 +8,7 @@ use Rattle.std.specs.Str.Lines.{lines}
 use Rattle.sim_lines.specs.Cut.{head_of, whole_lines}
 use Rattle.sim_lines.specs.Taken.{HasHead}
 use Rattle.sim_lines.specs.Waiting.{Waiting}
-use Rattle.sim_world.specs.World.{Scenario}
+use Rattle.sim_events.specs.Scenario.{Scenario}
 use Rattle.sim_world.specs.Events.{Rules}
 use Rattle.sim_scenario.specs.Scenario.{Protocol, ScenarioText, Fault, read, text_fault}
 use Rattle.sim_script.specs.declared.script.ScriptLine.{ScriptLine}

@@ -1,7 +1,7 @@
 -- The run that a script leaves on the first branch.
 use Rattle.std.specs.Prelude.{◌≡◌, Bool, true, List, [], if◌then◌else◌, ⊤}
 use Rattle.std.specs.Str.Lines.{lines}
-use Rattle.sim_world.specs.declared.Event.{Event}
+use Rattle.sim_events.specs.declared.Event.{Event}
 use Rattle.sim_world.specs.Events.{Rules}
 use Rattle.sim_book.specs.Book.{branch}
 use Rattle.sim_script.specs.Script.{Text, Names}

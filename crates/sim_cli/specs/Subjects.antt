@@ -3,7 +3,7 @@ use Rattle.std.specs.Prelude.{◌≡◌, ℕ, zero, suc, List, Option, Some}
 use Rattle.std.specs.Io.KnownBytes.{prepend_known}
 use Rattle.sim_lines.specs.Waiting.{Waiting, CountsReads}
 use Rattle.sim_node.specs.Node.{NodeLaws}
-use Rattle.sim_world.specs.World.{Scenario}
+use Rattle.sim_events.specs.Scenario.{Scenario}
 use Rattle.sim_world.specs.Events.{Rules, rules}
 use Rattle.sim_scenario.specs.Scenario.{ScenarioText}
 use Rattle.sim_script.specs.Script.{Text, Names}

@@ -2,7 +2,7 @@
 ghost use Rattle.std.specs.Prelude.{◌≡◌, ◌≤◌, ◌<◌, ℕ, List, [], ◌∷◌, length, map, vec_len};
 ghost use Rattle.std.specs.Prelude.{IfOk, slice_get, string_bytes};
 ghost use Rattle.std.specs.Option.{option_copied, option_map};
-ghost use Rattle.sim_world.specs.World.{Scenario as ScenarioValue};
+ghost use Rattle.sim_events.specs.Scenario.{Scenario as ScenarioValue};
 ghost use Rattle.sim_world.specs.Events.{Rules, rules};
 ghost use Rattle.sim_scenario.specs.Scenario.{Protocol};
 ghost use Rattle.sim_script.specs.Script.{Text, Names as NamesValue};

@@ -2,7 +2,7 @@
 use Rattle.std.proofs.Common.{ℕ, List, Option, refl, sym, subst, Result}
 use Rattle.sim_lines.specs.Cut.{head_of}
 use Rattle.sim_lines.specs.Waiting.{Waiting}
-use Rattle.sim_world.specs.World.{Scenario}
+use Rattle.sim_events.specs.Scenario.{Scenario}
 use Rattle.sim_scenario.specs.Scenario.{Protocol, ScenarioText, Fault}
 use Rattle.sim_script.specs.Script.{Text, Names}
 use Rattle.sim_cli.specs.declared.status.Status.{Status}

@@ -5,7 +5,7 @@ use Rattle.std.specs.Str.Lines.{lines}
 use Rattle.std.specs.Io.KnownBytes.{Appends, prepend_known}
 use Rattle.sim_lines.specs.Cut.{head_of}
 use Rattle.sim_lines.specs.Left.{AppendsPart}
-use Rattle.sim_world.specs.declared.Event.{Event}
+use Rattle.sim_events.specs.declared.Event.{Event}
 use Rattle.sim_world.specs.Events.{Rules}
 use Rattle.sim_scenario.specs.Scenario.{Protocol, ScenarioText, Fault}
 use Rattle.sim_script.specs.Script.{Text, Names, script_line}

@@ -6,7 +6,7 @@ use Rattle.sim_lines.specs.Waiting.{Waiting}
 use Rattle.sim_lines.proofs.Known.{Appends-none}
 use Rattle.sim_scenario.specs.Scenario.{Protocol, ScenarioText, Fault}
 use Rattle.sim_script.specs.Script.{Text, Names}
-use Rattle.sim_world.specs.World.{Scenario}
+use Rattle.sim_events.specs.Scenario.{Scenario}
 use Rattle.sim_cli.specs.declared.status.Status.{Status}
 use Rattle.sim_cli.specs.declared.status.Status.TheVariants.{Well, BadScenario, BadRequest, ReaderFailed, WriterFailed, MemoryWanted}
 use Rattle.sim_cli.specs.Answers.{Faults}

@@ -3,8 +3,8 @@ use Rattle.std.proofs.Common.{◌≡◌, ◌∙◌, ◌<◌, ℕ, zero, suc, Boo
 use Rattle.std.specs.Prelude.{IfErr}
 use Rattle.std.specs.Str.Lines.{lines}
 use Rattle.sim_node.specs.Node.{NodeLaws}
-use Rattle.sim_world.specs.declared.Event.{Event}
-use Rattle.sim_world.specs.World.{Scenario}
+use Rattle.sim_events.specs.declared.Event.{Event}
+use Rattle.sim_events.specs.Scenario.{Scenario}
 use Rattle.sim_world.specs.Events.{Rules, rules}
 use Rattle.sim_watch.specs.Condition.{Cond}
 use Rattle.sim_script.specs.Script.{Text, Names, words}

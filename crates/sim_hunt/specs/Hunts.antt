@@ -3,9 +3,9 @@
 use Rattle.std.specs.Prelude.{◌≡◌, ℕ, zero, suc, ◌≤◌, ◌==◌, ◌&&◌, Bool, not, is_none, List, [], ◌∷◌}
 use Rattle.std.specs.Prelude.{length, Option, None, Some, Result, Ok, Err, ⊤, if◌then◌else◌}
 use Rattle.std.specs.Str.Lines.{lines}
-use Rattle.sim_world.specs.declared.Event.{Event}
+use Rattle.sim_events.specs.declared.Event.{Event}
 use Rattle.sim_node.specs.Node.{NodeLaws}
-use Rattle.sim_world.specs.World.{Scenario}
+use Rattle.sim_events.specs.Scenario.{Scenario}
 use Rattle.sim_world.specs.Events.{Rules, rules}
 use Rattle.sim_watch.specs.Condition.{Cond}
 use Rattle.sim_scan.specs.Search.{first_failing, first_failing_seed}

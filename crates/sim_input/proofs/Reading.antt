@@ -10,10 +10,10 @@ use Rattle.std.proofs.lemmas.Bool.Decides.{nat_tests}
 use Rattle.std.proofs.lemmas.List.{get_or_past}
 use Rattle.std.proofs.lemmas.List.Elements.{All-nil, All-cons}
 use Rattle.sim_scenario.specs.Scenario.{is_name, is_letter, is_digit, begins_with_letter}
-use Rattle.sim_world.specs.declared.Fault.{Fault}
-use Rattle.sim_world.specs.declared.Fault.TheVariants as fault
-use Rattle.sim_world.specs.declared.Event.{Event}
-use Rattle.sim_world.specs.declared.Event.TheVariants as event
+use Rattle.sim_events.specs.declared.Fault.{Fault}
+use Rattle.sim_events.specs.declared.Fault.TheVariants as fault
+use Rattle.sim_events.specs.declared.Event.{Event}
+use Rattle.sim_events.specs.declared.Event.TheVariants as event
 use Rattle.sim_watch.specs.declared.command.Command.{Command}
 use Rattle.sim_watch.specs.declared.command.Command.TheVariants as command
 use Rattle.sim_script.specs.Words.{Text, Names, named, name_at, host, host_name, words, is_word, HasNoSpace}

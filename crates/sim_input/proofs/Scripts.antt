@@ -14,7 +14,7 @@ use Rattle.sim_script.specs.Script.{script_line}
 use Rattle.sim_script.specs.declared.script.ScriptLine.TheVariants.{Asked}
 use Rattle.std.proofs.lemmas.Bool.{and_parts}
 use Rattle.std.proofs.lemmas.List.Elements.{All-nil, All-cons}
-use Rattle.sim_world.specs.declared.Event.{Event}
+use Rattle.sim_events.specs.declared.Event.{Event}
 use Rattle.sim_input.specs.Events.{AreRead, text_of, event_line, event_lines, command_of}
 use Rattle.sim_input.proofs.Reading.{is_spelling, line_spelled, line_read}
 

@@ -2,10 +2,11 @@
 use Rattle.std.proofs.Common.{◌≡◌, ◌∙◌, ℕ, ◌<◌, ◌≤◌, true, false, List, length, Some, sym, ap, subst, inl, inr, arith}
 use Rattle.std.proofs.lemmas.Bool.{cases_lt}
 use Rattle.std.proofs.lemmas.List.{get_or-map, length-map, get_or_past}
-use Rattle.sim_world.specs.declared.Event.{Event}
-use Rattle.sim_world.specs.World.{Scenario}
+use Rattle.sim_events.specs.declared.Event.{Event}
+use Rattle.sim_events.specs.Scenario.{Scenario}
 use Rattle.sim_tape.specs.Tape.{Frozen}
-use Rattle.sim_book.specs.Book.{Branch, branch, empty_branch}
+use Rattle.sim_runs.specs.Branch.{Branch}
+use Rattle.sim_book.specs.Book.{branch, empty_branch}
 use Rattle.sim_book.specs.Kept.{Kept, shown, all_shown, first_kept}
 use Rattle.sim_book.specs.Freezing.{IsWhole}
 

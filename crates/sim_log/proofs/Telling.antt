@@ -3,8 +3,9 @@ use Rattle.std.proofs.Common.{◌≡◌, ◌∙◌, ℕ, suc, ◌+◌, ◌-◌, 
 use Rattle.std.specs.List.{slice_get}
 use Rattle.std.proofs.lemmas.Option.{slice_get_cases}
 use Rattle.sim_node.specs.Node.{NodeLaws}
-use Rattle.sim_world.specs.declared.Event.{Event}
-use Rattle.sim_world.specs.World.{Scenario, World}
+use Rattle.sim_events.specs.declared.Event.{Event}
+use Rattle.sim_events.specs.Scenario.{Scenario}
+use Rattle.sim_world.specs.World.{World}
 use Rattle.sim_world.specs.Events.{Rules, rules, run}
 use Rattle.sim_tape.specs.Tape.{Tape, at, with_world}
 use Rattle.sim_log.specs.Lines.{AddsLine, AreLines, IsPast}

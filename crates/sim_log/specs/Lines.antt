@@ -2,7 +2,7 @@
 use Rattle.std.specs.Prelude.{◌≡◌, ℕ, zero, suc, ◌+◌, Bool, true, false, List, [], ◌++◌, codes}
 use Rattle.std.specs.Prelude.{take, Some}
 use Rattle.std.specs.Fmt.{decimal}
-use Rattle.sim_world.specs.declared.Event.{Event}
+use Rattle.sim_events.specs.declared.Event.{Event}
 use Rattle.sim_world.specs.World.{World}
 use Rattle.sim_world.specs.Events.{Rules, run}
 use Rattle.sim_tape.specs.Tape.{Tape, at, with_world}

@@ -1,8 +1,8 @@
 -- What is known of an event before it happens.
 use Rattle.std.specs.Prelude.{ℕ, nat_lt, ◌&&◌, List, [], Option, None, Some, if◌then◌else◌, length}
-use Rattle.sim_world.specs.declared.Event.{Event}
-use Rattle.sim_world.specs.declared.Event.TheVariants as event
-use Rattle.sim_world.specs.declared.Fault.TheVariants as fault
+use Rattle.sim_events.specs.declared.Event.{Event}
+use Rattle.sim_events.specs.declared.Event.TheVariants as event
+use Rattle.sim_events.specs.declared.Fault.TheVariants as fault
 use Rattle.sim_world.specs.World.{World, runs}
 use Rattle.sim_world.specs.Events.{Rules}
 use Rattle.sim_world.specs.Account.{tears}

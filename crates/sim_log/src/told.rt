@@ -2,7 +2,7 @@
 ghost use Rattle.std.specs.Prelude.{◌≡◌, ◌<◌, IfOk, IfSome};
 ghost use Rattle.sim_world.specs.Account.{next_reaction};
 ghost use Rattle.sim_world.specs.Events.{rules};
-ghost use Rattle.sim_world.specs.declared.Event.TheVariants as events;
+ghost use Rattle.sim_events.specs.declared.Event.TheVariants as events;
 ghost use Rattle.sim_log.specs.Told.{crashed_by, tears_of};
 
 use sim_links::Change;

@@ -1,7 +1,7 @@
 -- The log of the run that a script leaves.
 use Rattle.std.specs.Prelude.{◌≡◌, ℕ, ◌+◌, ◌-◌, Bool, true, false, List, length, Option, unwrap_or}
 use Rattle.std.specs.Str.Lines.{lines}
-use Rattle.sim_world.specs.declared.Event.{Event}
+use Rattle.sim_events.specs.declared.Event.{Event}
 use Rattle.sim_world.specs.Events.{Rules}
 use Rattle.sim_script.specs.Script.{Names}
 use Rattle.sim_cli.specs.Turns.{beginning}

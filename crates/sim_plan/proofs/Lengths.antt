@@ -4,10 +4,10 @@ use Rattle.std.specs.Prelude.{if◌then◌else◌}
 use Rattle.std.proofs.Math.Nat.{eq-or-lt_of_le}
 use Rattle.std.proofs.lemmas.Bool.{eq-eqb, or_parts}
 use Rattle.std.proofs.lemmas.List.{length-map, length-replicate}
-use Rattle.sim_world.specs.declared.Event.{Event}
-use Rattle.sim_world.specs.declared.Event.TheVariants as event
-use Rattle.sim_world.specs.declared.Fault.{Fault}
-use Rattle.sim_world.specs.World.{Scenario}
+use Rattle.sim_events.specs.declared.Event.{Event}
+use Rattle.sim_events.specs.declared.Event.TheVariants as event
+use Rattle.sim_events.specs.declared.Fault.{Fault}
+use Rattle.sim_events.specs.Scenario.{Scenario}
 use Rattle.sim_plan.specs.declared.plan.Plan.{Plan}
 use Rattle.sim_plan.specs.Planned.{heals, healing, fault_of_kind, new_fault, struck, planned_by, planned_from, planned_events, planned, quiet_end}
 use Rattle.sim_plan.specs.Happening.{IsPlan}

@@ -3,10 +3,10 @@ use Rattle.std.proofs.Common.{◌≡◌, ◌==◌, if◌then◌else◌, ℕ, zer
 use Rattle.std.proofs.Math.Nat.{mod-eq_of_lt}
 use Rattle.rand_chacha.specs.ChaCha.{ChaCha, key_of, of_seed, word_at, next_word}
 use Rattle.sim_streams.specs.Word.{word}
-use Rattle.sim_world.specs.declared.Event.{Event}
-use Rattle.sim_world.specs.declared.Event.TheVariants as event
-use Rattle.sim_world.specs.declared.Fault.{Fault}
-use Rattle.sim_world.specs.World.{Scenario}
+use Rattle.sim_events.specs.declared.Event.{Event}
+use Rattle.sim_events.specs.declared.Event.TheVariants as event
+use Rattle.sim_events.specs.declared.Fault.{Fault}
+use Rattle.sim_events.specs.Scenario.{Scenario}
 use Rattle.sim_plan.specs.declared.plan.Plan.{Plan}
 use Rattle.sim_plan.specs.declared.owed.Owed.{Owed}
 use Rattle.sim_plan.specs.declared.owed.Owed.TheVariants.{Nothing}

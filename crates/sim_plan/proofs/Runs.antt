@@ -1,8 +1,9 @@
 -- The events that happen, one after the other.
 use Rattle.std.proofs.Common.{◌≡◌, ℕ, List, [], ◌∷◌, ◌++◌, Option, Some, None, ap, ◌∙◌}
-use Rattle.sim_world.specs.declared.Event.{Event}
+use Rattle.sim_events.specs.declared.Event.{Event}
 use Rattle.sim_node.specs.Node.{NodeLaws}
-use Rattle.sim_world.specs.World.{World, Scenario}
+use Rattle.sim_events.specs.Scenario.{Scenario}
+use Rattle.sim_world.specs.World.{World}
 use Rattle.sim_world.specs.Records.{InHand}
 use Rattle.sim_world.specs.Events.{Rules, rules, start, next}
 use Rattle.sim_plan.specs.Happening.{happening}

@@ -2,7 +2,7 @@
 use Rattle.std.specs.Prelude.{◌+◌, ◌^◌, ◌<◌, ◌≤◌, List}
 use Rattle.std.specs.Option.{ForSome}
 use Rattle.rand_chacha.specs.ChaCha.{word_at}
-use Rattle.sim_world.specs.declared.Event.{Event}
+use Rattle.sim_events.specs.declared.Event.{Event}
 use Rattle.sim_plan.specs.declared.forecast.Forecast.{Forecast}
 use Rattle.sim_plan.specs.Planned.{planned_from}
 use Rattle.sim_plan.specs.Owing.{healings}

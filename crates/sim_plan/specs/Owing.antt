@@ -1,6 +1,6 @@
 -- The healings that are owed, oldest first.
 use Rattle.std.specs.Prelude.{List, [], ◌∷◌}
-use Rattle.sim_world.specs.declared.Fault.{Fault}
+use Rattle.sim_events.specs.declared.Fault.{Fault}
 use Rattle.sim_plan.specs.declared.owed.Owed.{Owed}
 use Rattle.sim_plan.specs.declared.owed.Owed.TheVariants.{Nothing, One, Two}
 

@@ -27,7 +27,7 @@ pub struct Planner<'a> {
 
 impl<'a> Model for Planner<'a> {
     ghost use Rattle.std.specs.Prelude.{◌++◌, List};
-    ghost use Rattle.sim_world.specs.declared.Event.{Event as Planned};
+    ghost use Rattle.sim_events.specs.declared.Event.{Event as Planned};
     ghost use Rattle.sim_plan.specs.Forecasting.{yet_planned, IsForecast};
 
     ghost Value = { List Planned };

@@ -4,15 +4,15 @@ use Rattle.std.specs.Prelude.{Result, Ok, Err}
 use Rattle.std.specs.Fmt.{decimal}
 use Rattle.sim_links.specs.declared.LinkState.{LinkState}
 use Rattle.sim_links.specs.declared.LinkState.TheVariants as state
-use Rattle.sim_world.specs.declared.Kind.{Kind}
-use Rattle.sim_world.specs.declared.Kind.TheVariants as kind
-use Rattle.sim_world.specs.declared.Coming.{Coming}
-use Rattle.sim_world.specs.declared.View.{View}
-use Rattle.sim_world.specs.declared.View.TheVariants as view
+use Rattle.sim_events.specs.declared.Kind.{Kind}
+use Rattle.sim_events.specs.declared.Kind.TheVariants as kind
+use Rattle.sim_events.specs.declared.Coming.{Coming}
+use Rattle.sim_events.specs.declared.View.{View}
+use Rattle.sim_events.specs.declared.View.TheVariants as view
 use Rattle.sim_book.specs.declared.Refusal.{Refusal}
 use Rattle.sim_book.specs.declared.Refusal.TheVariants as refusal
-use Rattle.sim_book.specs.declared.Stop.{Stop}
-use Rattle.sim_book.specs.declared.Stop.TheVariants as stop
+use Rattle.sim_runs.specs.declared.Stop.{Stop}
+use Rattle.sim_runs.specs.declared.Stop.TheVariants as stop
 use Rattle.sim_book.specs.declared.Reply.{Reply}
 use Rattle.sim_book.specs.declared.Reply.TheVariants as reply
 use Rattle.sim_book.specs.declared.Entry.{Entry}

@@ -3,10 +3,10 @@ use Rattle.std.specs.Prelude.{ℕ, codes, List, [], ◌∷◌, map}
 use Rattle.serde_json.specs.Data.{Data, array, number, string, object, member, no_members, unsigned}
 use Rattle.serde_json.specs.View.{items_of}
 use Rattle.serde_json.specs.Written.{compact_text}
-use Rattle.sim_world.specs.declared.Event.{Event}
-use Rattle.sim_world.specs.declared.Event.TheVariants as event
-use Rattle.sim_world.specs.declared.Fault.{Fault}
-use Rattle.sim_world.specs.declared.Fault.TheVariants as fault
+use Rattle.sim_events.specs.declared.Event.{Event}
+use Rattle.sim_events.specs.declared.Event.TheVariants as event
+use Rattle.sim_events.specs.declared.Fault.{Fault}
+use Rattle.sim_events.specs.declared.Fault.TheVariants as fault
 use Rattle.sim_script.specs.Words.{Text, Names, host_name}
 use Rattle.sim_replies.specs.Spacing.{spaced, field}
 

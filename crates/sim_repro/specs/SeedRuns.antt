@@ -1,9 +1,9 @@
 -- The run of a seed as an input for a play.
 use Rattle.std.specs.Prelude.{◌≡◌, false, List, [], Ok}
 use Rattle.std.specs.Prelude.{string_bytes}
-use Rattle.sim_world.specs.declared.Event.{Event}
+use Rattle.sim_events.specs.declared.Event.{Event}
 use Rattle.sim_world.specs.Events.{Rules}
-use Rattle.sim_world.specs.Seeds.{numbered}
+use Rattle.sim_events.specs.Seeds.{numbered}
 use Rattle.sim_plan.specs.declared.plan.Plan.{Plan}
 use Rattle.sim_plan.specs.Happening.{IsPlan, plan_with, planned_run}
 use Rattle.sim_scenario.specs.Scenario.{Protocol, ScenarioText}

@@ -1,7 +1,7 @@
 -- The smallest failing run of a script as an input for a play.
 use Rattle.std.specs.Prelude.{◌≡◌, Bool, true, false, List, length, Option, None, Some, Ok}
 use Rattle.std.specs.Prelude.{string_bytes}
-use Rattle.sim_world.specs.declared.Event.{Event}
+use Rattle.sim_events.specs.declared.Event.{Event}
 use Rattle.sim_world.specs.Events.{Rules}
 use Rattle.sim_watch.specs.Condition.{Cond}
 use Rattle.sim_search.specs.declared.SearchFault.TheVariants as fault

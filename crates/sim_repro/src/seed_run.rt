@@ -2,7 +2,7 @@
 ghost use Rattle.std.specs.Prelude.{◌≡◌, ◌≤◌, ℕ, List, [], Some, Ok, IfOk, length};
 ghost use Rattle.std.specs.Prelude.{string_bytes};
 ghost use Rattle.sim_world.specs.Events.{rules};
-ghost use Rattle.sim_world.specs.Seeds.{numbered};
+ghost use Rattle.sim_events.specs.Seeds.{numbered};
 ghost use Rattle.sim_plan.specs.Happening.{IsPlan, planned_run};
 ghost use Rattle.sim_scenario.specs.Scenario.{Protocol, ScenarioText};
 ghost use Rattle.sim_reseed.specs.Numbered.{numbered as numbered_scenario};

@@ -1,6 +1,6 @@
 //! The smallest failing run of a script as an input for a play.
 ghost use Rattle.std.specs.Prelude.{◌≡◌, ◌≤◌, ℕ, List, Some, Ok, IfOk, length, string_bytes};
-ghost use Rattle.sim_world.specs.declared.Event.{Event as EventValue};
+ghost use Rattle.sim_events.specs.declared.Event.{Event as EventValue};
 ghost use Rattle.sim_world.specs.Events.{rules};
 ghost use Rattle.sim_scenario.specs.Scenario.{Protocol, ScenarioText};
 ghost use Rattle.sim_cli.specs.Play.{Ended, read_scenario};

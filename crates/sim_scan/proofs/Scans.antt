@@ -6,18 +6,19 @@ use Rattle.std.proofs.lemmas.Bool.{cases_order}
 use Rattle.std.proofs.lemmas.List.{length-replicate, take-take, take_more, get_or-replicate}
 use Rattle.sim_node.specs.Node.{NodeLaws}
 use Rattle.sim_node.specs.Work.{Work}
-use Rattle.sim_world.specs.declared.Event.{Event}
-use Rattle.sim_world.specs.declared.Event.TheVariants as event
-use Rattle.sim_world.specs.declared.Refusal.{Refusal}
+use Rattle.sim_events.specs.declared.Event.{Event}
+use Rattle.sim_events.specs.declared.Event.TheVariants as event
+use Rattle.sim_events.specs.declared.Refusal.{Refusal}
 use Rattle.sim_world.specs.Acts.{turned_by, turned_if}
-use Rattle.sim_world.specs.World.{World, Scenario}
+use Rattle.sim_events.specs.Scenario.{Scenario}
+use Rattle.sim_world.specs.World.{World}
 use Rattle.sim_world.specs.Records.{InHand}
 use Rattle.sim_world.specs.Events.{Rules, rules, run, start, next, after, refusal_of, unless_refused}
+use Rattle.sim_history.proofs.Joined.{quotient}
+use Rattle.sim_moves.specs.Places.{IsAt}
+use Rattle.sim_moves.specs.Works.{OnlyTurns, Plays}
+use Rattle.sim_moves.proofs.Placing.{run-snoc, run-front, at-next}
 use Rattle.sim_tape.specs.Tape.{Tape, with_world, at}
-use Rattle.sim_tape.specs.Places.{IsAt}
-use Rattle.sim_tape.specs.Works.{OnlyTurns, Plays}
-use Rattle.sim_tape.proofs.Joined.{quotient}
-use Rattle.sim_tape.proofs.Placing.{run-snoc, run-front, at-next}
 use Rattle.sim_watch.specs.Condition.{Cond, holds, fault_of}
 use Rattle.sim_scan.specs.Search.{fails_of, fails_at, first_failing}
 use Rattle.sim_scan.specs.Scanning.{IsScanning, IsStepping}

@@ -1,13 +1,13 @@
 -- A scan under way: how far it has come.
 use Rattle.std.specs.Prelude.{◌≡◌, ℕ, ◌<◌, ◌≤◌, true, false, List, replicate}
 use Rattle.sim_node.specs.Node.{NodeLaws}
-use Rattle.sim_world.specs.declared.Event.{Event}
-use Rattle.sim_world.specs.declared.Event.TheVariants as event
-use Rattle.sim_world.specs.World.{Scenario}
+use Rattle.sim_events.specs.declared.Event.{Event}
+use Rattle.sim_events.specs.declared.Event.TheVariants as event
+use Rattle.sim_events.specs.Scenario.{Scenario}
 use Rattle.sim_world.specs.Records.{InHand}
 use Rattle.sim_world.specs.Events.{rules}
+use Rattle.sim_moves.specs.Places.{IsAt}
 use Rattle.sim_tape.specs.Tape.{Tape}
-use Rattle.sim_tape.specs.Places.{IsAt}
 use Rattle.sim_watch.specs.Condition.{Cond}
 use Rattle.sim_scan.specs.Search.{fails_at}
 

@@ -5,11 +5,12 @@ use Rattle.std.specs.Prelude.{is_some, take, min, max, replicate}
 use Rattle.std.specs.Option.{option_map, option_and_then}
 use Rattle.sim_node.specs.Node.{NodeLaws}
 use Rattle.sim_node.specs.Numbers.{least}
-use Rattle.sim_world.specs.declared.Event.{Event}
-use Rattle.sim_world.specs.declared.Event.TheVariants as event
-use Rattle.sim_world.specs.World.{World, Scenario}
+use Rattle.sim_events.specs.declared.Event.{Event}
+use Rattle.sim_events.specs.declared.Event.TheVariants as event
+use Rattle.sim_events.specs.Scenario.{Scenario}
+use Rattle.sim_world.specs.World.{World}
 use Rattle.sim_world.specs.Events.{Rules, rules, run}
-use Rattle.sim_world.specs.Seeds.{numbered}
+use Rattle.sim_events.specs.Seeds.{numbered}
 use Rattle.sim_scan.specs.declared.places.Piece.{Piece}
 use Rattle.sim_watch.specs.Condition.{Cond, holds}
 

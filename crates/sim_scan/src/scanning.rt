@@ -3,7 +3,8 @@ ghost use Rattle.std.specs.Prelude.{◌≡◌, ℕ, ◌+◌, ◌/◌, ◌%◌, �
 ghost use Rattle.std.specs.Prelude.{replicate};
 ghost use Rattle.std.specs.Option.{unwrap_or};
 ghost use Rattle.sim_world.specs.Events.{rules, IsRunnable};
-ghost use Rattle.sim_tape.specs.Works.{OnlyTurns, Plays, nodes_below};
+ghost use Rattle.sim_moves.specs.Works.{OnlyTurns, Plays};
+ghost use Rattle.sim_tape.specs.Works.{nodes_below};
 ghost use Rattle.sim_watch.specs.Condition.{holds, fault_of};
 ghost use Rattle.sim_scan.specs.Search.{fails_at, first_failing};
 

@@ -3,10 +3,10 @@ use Rattle.std.specs.Prelude.{ℕ, List, [], ◌∷◌, length, Bool, ◌==◌, 
 use Rattle.std.specs.Prelude.{Option, None, Some, option_and_then, nat_lt, slice_index}
 use Rattle.std.specs.Option.{option_map, option_or}
 use Rattle.std.specs.Str.{bytes_eq}
-use Rattle.sim_world.specs.declared.Fault.{Fault}
-use Rattle.sim_world.specs.declared.Fault.TheVariants as fault
-use Rattle.sim_world.specs.declared.Query.{Query}
-use Rattle.sim_world.specs.declared.Query.TheVariants as query
+use Rattle.sim_events.specs.declared.Fault.{Fault}
+use Rattle.sim_events.specs.declared.Fault.TheVariants as fault
+use Rattle.sim_events.specs.declared.Query.{Query}
+use Rattle.sim_events.specs.declared.Query.TheVariants as query
 use Rattle.sim_watch.specs.declared.command.Command.{Command}
 use Rattle.sim_watch.specs.declared.command.Command.TheVariants as command
 use Rattle.sim_script.specs.declared.script.ScriptLine.{ScriptLine}

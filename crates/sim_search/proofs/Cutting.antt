@@ -5,7 +5,7 @@ use Rattle.std.proofs.lemmas.Nat.{mul-add-lt}
 use Rattle.sim_node.specs.Numbers.{least}
 use Rattle.sim_scan.specs.Search.{pieces, piece}
 use Rattle.sim_watch.proofs.Firsts.{least_is, least_none, side}
-use Rattle.sim_tape.proofs.Joined.{quotient, multiple}
+use Rattle.sim_history.proofs.Joined.{quotient, multiple}
 use Rattle.sim_claims.specs.Best.{IsFirst}
 use Rattle.sim_search.proofs.Leasts.{least_tells, none_tells}
 

@@ -1,7 +1,7 @@
 //! The book, as the lock holds it.
 ghost use Rattle.std.specs.Prelude.{◌≡◌, ℕ, length};
 ghost use Rattle.sim_tape.specs.Tape.{Frozen as FrozenValue};
-ghost use Rattle.sim_world.specs.World.{Scenario as ScenarioValue};
+ghost use Rattle.sim_events.specs.Scenario.{Scenario as ScenarioValue};
 ghost use Rattle.sim_watch.specs.declared.command.Command.{Command};
 ghost use Rattle.sim_watch.specs.declared.command.Command.TheVariants.{Freeze};
 ghost use Rattle.sim_book.specs.Freezing.{GivesFrozen};

@@ -2,7 +2,7 @@
 ghost use Rattle.std.specs.Prelude.{◌≡◌, ◌≢◌, ℕ, ◌+◌, ◌<◌, ◌≤◌, List, [], ◌∷◌, ◌++◌, length, All};
 ghost use Rattle.std.specs.Prelude.{IfOk, IfErr, OnErr, vec_len};
 ghost use Rattle.sim_world.specs.Events.{rules};
-ghost use Rattle.sim_world.specs.World.{Scenario as ScenarioValue};
+ghost use Rattle.sim_events.specs.Scenario.{Scenario as ScenarioValue};
 ghost use Rattle.sim_book.specs.Freezing.{GivesFrozen};
 ghost use Rattle.sim_book.specs.declared.Entry.{Entry};
 ghost use Rattle.sim_book.specs.History.{of_session};

@@ -1,7 +1,7 @@
 -- Passes over the faults that stay: the progress of one.
 use Rattle.std.specs.Prelude.{◌≡◌, ℕ, ◌<◌, Bool, true, false, List, length, slice_set}
 use Rattle.std.specs.Prelude.{slice_index_or, None, IsSome}
-use Rattle.sim_world.specs.declared.Event.{Event}
+use Rattle.sim_events.specs.declared.Event.{Event}
 use Rattle.sim_world.specs.Events.{Rules}
 use Rattle.sim_watch.specs.Condition.{Cond}
 use Rattle.sim_shrink.specs.Choices.{kept_by, count_left}

@@ -1,7 +1,7 @@
 -- A failing run without the faults that its failure does not need.
 use Rattle.std.specs.Prelude.{◌≡◌, ℕ, ◌≤◌, nat_lt, Bool, true, false, List, length, take}
 use Rattle.std.specs.Prelude.{slice_set, slice_index_or, Option, Some, None}
-use Rattle.sim_world.specs.declared.Event.{Event}
+use Rattle.sim_events.specs.declared.Event.{Event}
 use Rattle.sim_world.specs.Events.{Rules, start}
 use Rattle.sim_watch.specs.Condition.{Cond}
 use Rattle.sim_scan.specs.Search.{first_failing}

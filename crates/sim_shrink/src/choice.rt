@@ -2,7 +2,7 @@
 ghost use Rattle.std.specs.Prelude.{◌≡◌, ◌+◌, ◌≤◌, ◌∷◌, List, IfOk, length, take, drop};
 ghost use Rattle.std.specs.Prelude.{if◌then◌else◌};
 ghost use Rattle.std.specs.List.{count_by, list_any};
-ghost use Rattle.sim_world.specs.declared.Event.{Event as Happens};
+ghost use Rattle.sim_events.specs.declared.Event.{Event as Happens};
 ghost use Rattle.sim_shrink.specs.Choices.{kept_by, is_fault, without, count_left};
 
 use sim_node::NoMemory;

@@ -1,10 +1,10 @@
 -- The scan of one seed of a sweep.
 use Rattle.std.proofs.Common.{◌≡◌, ℕ, List, ◌++◌, ap, ◌∙◌}
 use Rattle.sim_node.specs.Node.{NodeLaws}
-use Rattle.sim_world.specs.declared.Event.{Event}
-use Rattle.sim_world.specs.World.{Scenario}
+use Rattle.sim_events.specs.declared.Event.{Event}
+use Rattle.sim_events.specs.Scenario.{Scenario}
 use Rattle.sim_world.specs.Events.{rules, start}
-use Rattle.sim_world.specs.Seeds.{numbered}
+use Rattle.sim_events.specs.Seeds.{numbered}
 use Rattle.sim_watch.specs.Condition.{Cond}
 use Rattle.sim_plan.specs.declared.plan.Plan.{Plan}
 use Rattle.sim_plan.specs.Planned.{planned}

@@ -5,13 +5,13 @@ use Rattle.std.specs.Option.{unwrap_or}
 use Rattle.std.proofs.lemmas.List.{length-drop, drop_more}
 use Rattle.sim_node.specs.Node.{NodeLaws}
 use Rattle.sim_node.specs.Work.{Work}
-use Rattle.sim_world.specs.declared.Event.{Event}
-use Rattle.sim_world.specs.declared.Event.TheVariants as event
-use Rattle.sim_world.specs.World.{Scenario}
+use Rattle.sim_events.specs.declared.Event.{Event}
+use Rattle.sim_events.specs.declared.Event.TheVariants as event
+use Rattle.sim_events.specs.Scenario.{Scenario}
 use Rattle.sim_world.specs.Records.{InHand}
 use Rattle.sim_world.specs.Events.{Rules, rules, start, next}
-use Rattle.sim_tape.specs.Works.{OnlyTurns}
-use Rattle.sim_tape.proofs.Placing.{at-next}
+use Rattle.sim_moves.specs.Works.{OnlyTurns}
+use Rattle.sim_moves.proofs.Placing.{at-next}
 use Rattle.sim_watch.specs.Condition.{Cond, holds}
 use Rattle.sim_scan.specs.Search.{fails_at, first_failing}
 use Rattle.sim_scan.proofs.Scans.{at_start, fails_here, found_is, found_none, turns_within}

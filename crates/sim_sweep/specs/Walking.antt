@@ -1,9 +1,9 @@
 -- A walk along the run that a list of events makes: how far it has come.
 use Rattle.std.specs.Prelude.{◌≡◌, ℕ, ◌<◌, ◌≤◌, Bool, false, List, length, drop}
-use Rattle.sim_world.specs.declared.Event.{Event}
+use Rattle.sim_events.specs.declared.Event.{Event}
 use Rattle.sim_world.specs.Records.{InHand}
 use Rattle.sim_world.specs.Events.{Rules}
-use Rattle.sim_tape.specs.Places.{IsAt}
+use Rattle.sim_moves.specs.Places.{IsAt}
 use Rattle.sim_watch.specs.Condition.{Cond}
 use Rattle.sim_scan.specs.Search.{fails_at}
 use Rattle.sim_plan.specs.Happening.{happening}

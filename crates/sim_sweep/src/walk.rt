@@ -5,7 +5,7 @@ ghost use Rattle.std.specs.Prelude.{slice_index_or};
 ghost use Rattle.std.specs.Option.{unwrap_or};
 ghost use Rattle.std.specs.List.{list_any};
 ghost use Rattle.sim_world.specs.Events.{rules, next, start};
-ghost use Rattle.sim_tape.specs.Works.{OnlyTurns};
+ghost use Rattle.sim_moves.specs.Works.{OnlyTurns};
 ghost use Rattle.sim_watch.specs.Condition.{Cond as Condition, holds, fault_of, concerns, terms};
 ghost use Rattle.sim_plan.specs.Happening.{happening};
 ghost use Rattle.sim_sweep.specs.Planned.{failing_of_run};

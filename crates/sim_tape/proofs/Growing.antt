@@ -1,25 +1,29 @@
 -- Lemmas on runs that grow or are cut, and on their checkpoints.
-use Rattle.std.proofs.Common.{◌≡◌, ◌≢◌, ℕ, ◌+◌, ◌-◌, ◌*◌, ◌/◌, ◌%◌, ◌<◌, ◌≤◌, cond, List, [], ◌∷◌, ◌++◌, length, take, get_or, sym, ap, subst, ◌∙◌, ⊎_elim, arith, add-zero, length-append}
-use Rattle.std.specs.Option.{IsSome, unwrap_or}
-use Rattle.std.proofs.Math.Nat.{add-mul, one-mul, mod-lt, div-mul-le_self, div-eq_of_lt-le}
-use Rattle.std.proofs.lemmas.Bool.{cases_eq}
-use Rattle.std.proofs.lemmas.Nat.{le-div}
+use Rattle.std.proofs.Common.{◌≡◌, ◌≢◌, ℕ, ◌+◌, ◌-◌, ◌<◌, ◌≤◌, true, false, List, [], ◌∷◌, ◌++◌, length, take, sym, ap, subst, ◌∙◌, ⊎_elim, Option, Some, None, arith, length-append, ◌*◌, ◌/◌, ◌%◌, add-zero, eq-eqb}
+use Rattle.std.specs.Option.{IsSome, MatchOption}
+use Rattle.std.proofs.lemmas.Bool.{cases_eq, false≢true}
 use Rattle.std.proofs.lemmas.Option.{slice_get_within}
-use Rattle.std.proofs.lemmas.List.{take-append-le, take-take, take-map, map-append, length-map, length-take-le, get_or_append_left, get_or-take}
+use Rattle.std.proofs.Math.Nat.{add-mul, one-mul, mod-lt, div-mul-le_self, div-eq_of_lt-le}
+use Rattle.std.proofs.lemmas.Nat.{le-div}
+use Rattle.std.proofs.lemmas.List.{length-take-le}
+use Rattle.std.proofs.lemmas.Bool.Decides.{nat_tests}
+use Rattle.std.specs.declared.sync.Arc.{Arc}
+use Rattle.std.specs.Arc.{arc_value}
+use Rattle.std.specs.Prelude.{nat_eq}
 use Rattle.circular_buffer.proofs.Places.{slice_get-append_left, slice_get-take, slice_get-last}
-use Rattle.sim_node.specs.declared.Setup.{Setup}
-use Rattle.sim_node.specs.Node.{NodeRecords}
-use Rattle.sim_world.specs.declared.Event.{Event}
-use Rattle.sim_world.specs.declared.Event.TheVariants as event
+use Rattle.sim_events.specs.declared.Event.{Event}
 use Rattle.sim_world.specs.World.{World}
-use Rattle.sim_world.specs.Acts.{acts}
-use Rattle.sim_world.specs.Records.{EventRecord as Kept, InHand}
-use Rattle.sim_world.specs.Events.{Rules, run, start}
-use Rattle.sim_tape.specs.declared.entry.Entry.{Entry}
-use Rattle.sim_tape.specs.Places.{events_of, world_at, acts_at, IsAt, AreCheckpoints, Answers, AreRecords}
-use Rattle.sim_tape.specs.Inside.{IsRun}
-use Rattle.sim_tape.proofs.Joined.{quotient, multiple}
-use Rattle.sim_tape.proofs.Placing.{some_same, run-front, at-extended, at-shortened}
+use Rattle.sim_world.specs.Records.{InHand}
+use Rattle.sim_world.specs.Events.{Rules, run}
+use Rattle.sim_history.specs.declared.entry.Entry.{Entry}
+use Rattle.sim_history.specs.Log.{events_of}
+use Rattle.sim_history.proofs.Entries.{events-take, events-length, events-push}
+use Rattle.sim_history.proofs.Joined.{quotient, multiple}
+use Rattle.sim_moves.specs.Places.{world_at, IsAt}
+use Rattle.sim_moves.specs.Walk.{IsRun}
+use Rattle.sim_moves.proofs.Placing.{some_same, run-front, at-extended}
+use Rattle.sim_moves.proofs.Extending.{at-front, world_at-front, world_at-extended}
+use Rattle.sim_tape.specs.Places.{AreCheckpoints}
 
 pub same_quotient : (n k : ℕ) → 0 < k → (n + 1) % k ≢ 0 → (n + 1) / k ≡ n / k
 same_quotient n k some part =
@@ -42,33 +46,7 @@ next_quotient n k some whole =
     let before : n / k ≡ m = div-eq_of_lt-le {k = m} k {m = n} (omega (arith, is, whole, next, product, some)) (omega (arith, is, whole, next, product)) in
     omega (arith, before, up)
 
-pub events-push : (entries : List Entry) (x : Entry) → events_of (entries ++ x ∷ []) ≡ events_of entries ++ x.event ∷ []
-events-push entries x = map-append (λ (e : Entry). e.event) entries (x ∷ [])
-
-pub events-take : (n : ℕ) (entries : List Entry) → events_of (take n entries) ≡ take n (events_of entries)
-events-take n entries = sym (take-map (λ (e : Entry). e.event) n entries)
-
-pub events-length : (entries : List Entry) → length (events_of entries) ≡ length entries
-events-length entries = length-map entries (λ (e : Entry). e.event)
-
 module _ {State Msg : Type 0} (r : Rules State Msg) where
-  pub at-front : (es : List Event) (n p : ℕ) (w : InHand State Msg) → p ≤ n → IsAt r es p w → IsAt r (take n es) p w
-  at-front es n p w le h = record { here = ap (run r) (take-take p n es le) ∙ h.here; scenario = h.scenario; age = h.age }
-
-  pub at-back : (es : List Event) (n p : ℕ) (w : InHand State Msg) → p ≤ n → IsAt r (take n es) p w → IsAt r es p w
-  at-back es n p w le h = record { here = ap (run r) (sym (take-take p n es le)) ∙ h.here; scenario = h.scenario; age = h.age }
-
-  world_at-front : (es : List Event) (n p : ℕ) → p ≤ n → world_at r p (take n es) ≡ world_at r p es
-  world_at-front es n p le = ap (λ (xs : List Event). unwrap_or (run r xs) (start r)) (take-take p n es le)
-
-  pub acts_at-front : (es : List Event) (n p : ℕ) → p < n → n ≤ length es → acts_at r p (take n es) ≡ acts_at r p es
-  acts_at-front es n p lt le =
-      ap (λ (w : World State Msg). cond (acts w (get_or (take n es) p event.Step)) 1 0) (world_at-front es n p (omega (arith, lt)))
-      ∙ ap (λ (e : Event). cond (acts (world_at r p es) e) 1 0) (get_or-take n es p event.Step lt)
-
-  pub world_at-extended : (es more : List Event) (p : ℕ) → p ≤ length es → world_at r p (es ++ more) ≡ world_at r p es
-  world_at-extended es more p le = ap (λ (xs : List Event). unwrap_or (run r xs) (start r)) (take-append-le p es more le)
-
   -- the first events of a run, with their clocks
   pub run-cut : (entries : List Entry) (n : ℕ) → IsRun r entries → n ≤ length entries → IsRun r (take n entries)
   run-cut entries n h le = record {
@@ -80,7 +58,7 @@ module _ {State Msg : Type 0} (r : Rules State Msg) where
           let inside : i < length (take n entries) = slice_get_within (take n entries) i e at in
           let below : i < n = omega (arith, inside, length-take-le n entries le) in
           h.clocks.clock i e (sym (slice_get-take n entries i below) ∙ at)
-          ∙ ap (λ (w : World State Msg). w.clock) (sym (ap (λ (es : List Event). world_at r (i + 1) es) (events-take n entries) ∙ world_at-front (events_of entries) n (i + 1) (omega (arith, below))));
+          ∙ ap (λ (w : World State Msg). w.clock) (sym (ap (λ (es : List Event). world_at r (i + 1) es) (events-take n entries) ∙ world_at-front r (events_of entries) n (i + 1) (omega (arith, below))));
       small = λ i e at.
           let inside : i < length (take n entries) = slice_get_within (take n entries) i e at in
           let below : i < n = omega (arith, inside, length-take-le n entries le) in
@@ -109,7 +87,7 @@ module _ {State Msg : Type 0} (r : Rules State Msg) where
           h.clocks.clock i e (sym (slice_get-append_left entries (x ∷ []) i below) ∙ at)
           ∙ ap (λ (w : World State Msg). w.clock)
           (sym (ap (λ (es : List Event). world_at r (i + 1) es) (events-push entries x)
-          ∙ world_at-extended (events_of entries) (x.event ∷ []) (i + 1) (omega (arith, below, events-length entries)))))
+          ∙ world_at-extended r (events_of entries) (x.event ∷ []) (i + 1) (omega (arith, below, events-length entries)))))
           (cases_eq i (length entries));
       small = λ i e at.
           let inside : i < length (entries ++ x ∷ []) = slice_get_within (entries ++ x ∷ []) i e at in
@@ -137,7 +115,7 @@ module _ {State Msg : Type 0} (r : Rules State Msg) where
             let inside : i < length (take (q + 1) cs) = slice_get_within (take (q + 1) cs) i c at in
             let below : i < q + 1 = omega (arith, inside, len) in
             let low : i * k ≤ n = multiple i n k (omega (arith, below)) in
-            at-front es n (i * k) c low (h.worlds i c (sym (slice_get-take (q + 1) cs i below) ∙ at));
+            at-front r es n (i * k) c low (h.worlds i c (sym (slice_get-take (q + 1) cs i below) ∙ at));
       }
 
   -- one more event, with a checkpoint after it where it ends an interval
@@ -179,44 +157,22 @@ module _ {State Msg : Type 0} (r : Rules State Msg) where
             (cases_eq i (length cs));
       }
 
-module _ {State Msg Undo : Type 0} (told : State → Setup) (records : NodeRecords State Undo) (r : Rules State Msg) where
-  acts_at-extended : (es more : List Event) (p : ℕ) → p < length es → acts_at r p (es ++ more) ≡ acts_at r p es
-  acts_at-extended es more p lt =
-      ap (λ (w : World State Msg). cond (acts w (get_or (es ++ more) p event.Step)) 1 0) (world_at-extended r es more p (omega (arith, lt)))
-      ∙ ap (λ (e : Event). cond (acts (world_at r p es) e) 1 0) (get_or_append_left es more event.Step p lt)
+is_zero : (n : ℕ) → nat_eq n 0 ≡ true → n ≡ 0
+is_zero n h = grind (arith, nat_tests)
 
-  -- what answers for an event does so after more events were added
-  answers-extended : (es more : List Event) (p : ℕ) (u : Kept State Msg Undo) → p < length es → Answers told records r es p u → Answers told records r (es ++ more) p u
-  answers-extended es more p u lt h = record {
-    leads = λ now at. h.leads now (at-shortened r es more (p + 1) now (omega (arith, lt)) at);
-    back = λ now at. at-extended r es more p _ (omega (arith, lt)) (h.back now (at-shortened r es more (p + 1) now (omega (arith, lt)) at));
-    acted = h.acted ∙ sym (acts_at-extended es more p lt);
-  }
-
-  pub records-extended : (es more : List Event) (p : ℕ) (us : List (Kept State Msg Undo)) → p ≤ length es → AreRecords told records r es p us → AreRecords told records r (es ++ more) p us
-  records-extended es more p us le h =
-      let reach = h.reach in
-      record {
-        reach = reach;
-        answers = λ i u at.
-            let inside = slice_get_within us i u at in
-            answers-extended es more (p - length us + i) u (omega (arith, inside, reach, le)) (h.answers i u at);
-      }
-
-  answers-front : (es : List Event) (n p : ℕ) (u : Kept State Msg Undo) → p < n → n ≤ length es → Answers told records r es p u → Answers told records r (take n es) p u
-  answers-front es n p u lt le h = record {
-    leads = λ now at. h.leads now (at-back r es n (p + 1) now (omega (arith, lt)) at);
-    back = λ now at. at-front r es n p _ (omega (arith, lt)) (h.back now (at-back r es n (p + 1) now (omega (arith, lt)) at));
-    acted = h.acted ∙ sym (acts_at-front r es n p lt le);
-  }
-
-  -- the records before a place are those of the events before it alone
-  pub records-front : (es : List Event) (n p : ℕ) (us : List (Kept State Msg Undo)) → p ≤ n → n ≤ length es → AreRecords told records r es p us → AreRecords told records r (take n es) p us
-  records-front es n p us le within h =
-      let reach = h.reach in
-      record {
-        reach = reach;
-        answers = λ i u at.
-            let inside = slice_get_within us i u at in
-            answers-front es n (p - length us + i) u (omega (arith, inside, reach, le)) within (h.answers i u at);
-      }
+-- the checkpoints after an event was added, with one more where the event ends an interval
+pub kept_checkpoints : {State Msg Z : Type 0} (r : Rules State Msg) (es : List Event) (e : Event) (cs ds : List (InHand State Msg)) (p k : ℕ) (copy : Option (Arc (InHand State Msg) Z))
+    → AreCheckpoints r es cs → 0 < k → k ≡ r.scenario.interval → p ≡ length es
+    → MatchOption copy (nat_eq ((p + 1) % k) 0 ≡ false) (λ c. (nat_eq ((p + 1) % k) 0 ≡ true) × IsAt r (es ++ e ∷ []) (p + 1) (arc_value c))
+    → MatchOption copy (ds ≡ cs) (λ c. ds ≡ cs ++ arc_value c ∷ []) → AreCheckpoints r (es ++ e ∷ []) ds
+kept_checkpoints r es e cs ds p k None h some is at none same =
+    let part : (length es + 1) % r.scenario.interval ≢ 0 = λ (z : (length es + 1) % r.scenario.interval ≡ 0).
+    let w : (p + 1) % k ≡ 0 = ap (λ (n : ℕ). (n + 1) % k) at ∙ ap (λ (m : ℕ). (length es + 1) % m) is ∙ z in
+    false≢true (sym none ∙ eq-eqb ((p + 1) % k) 0 w) in
+    subst (λ (xs : List (InHand _ _)). AreCheckpoints r (es ++ e ∷ []) xs) (sym same) (checkpoints-more r es cs e h (omega (arith, some, is)) part)
+kept_checkpoints r es e cs ds p k (Some c) h some is at whole same =
+    let z : (length es + 1) % r.scenario.interval ≡ 0 =
+    ap (λ (m : ℕ). (length es + 1) % m) (sym is) ∙ ap (λ (n : ℕ). (n + 1) % k) (sym at) ∙ is_zero ((p + 1) % k) whole.0 in
+    let there = subst (λ (n : ℕ). IsAt r (es ++ e ∷ []) (n + 1) (arc_value c)) at whole.1 in
+    subst (λ (xs : List (InHand _ _)). AreCheckpoints r (es ++ e ∷ []) xs) (sym same)
+    (checkpoints-push r es cs e (arc_value c) h (omega (arith, some, is)) z there)

@@ -1,19 +1,20 @@
 -- Lemmas on a tape of no events.
-use Rattle.std.proofs.Common.{◌≡◌, ℕ, ◌+◌, ◌*◌, ◌<◌, ◌≤◌, List, [], ◌∷◌, length, true, refl, sym, ap, subst, ◌∙◌, Option, Some, None, arith}
+use Rattle.std.proofs.Common.{◌≡◌, ℕ, ◌+◌, ◌<◌, true, List, [], ◌∷◌, length, refl, sym, ap, subst, ◌∙◌, Some, arith, ◌*◌}
 use Rattle.std.specs.Prelude.{slice_get}
-use Rattle.std.proofs.Math.Nat.{zero-div, zero-mul}
 use Rattle.std.proofs.lemmas.Option.{slice_get_within}
+use Rattle.std.proofs.Math.Nat.{zero-div, zero-mul}
 use Rattle.sim_node.specs.declared.Setup.{Setup}
 use Rattle.sim_node.specs.Node.{NodeLaws, NodeRecords}
-use Rattle.sim_world.specs.declared.Event.{Event}
-use Rattle.sim_world.specs.World.{Scenario}
-use Rattle.sim_world.specs.Limits.{IsScenario}
+use Rattle.sim_events.specs.Scenario.{Scenario}
 use Rattle.sim_world.specs.Records.{EventRecord as Kept, InHand}
 use Rattle.sim_world.specs.Events.{Rules, rules, start}
-use Rattle.sim_tape.specs.declared.entry.Entry.{Entry}
-use Rattle.sim_tape.specs.Places.{IsAt, AreCheckpoints}
-use Rattle.sim_tape.specs.Inside.{LogView, IsRun, IsWalk}
-use Rattle.sim_tape.proofs.Placing.{some_same, no_records}
+use Rattle.sim_events.specs.Limits.{IsScenario}
+use Rattle.sim_history.specs.declared.entry.Entry.{Entry}
+use Rattle.sim_history.specs.Log.{LogView}
+use Rattle.sim_moves.specs.Places.{IsAt}
+use Rattle.sim_moves.specs.Walk.{IsRun}
+use Rattle.sim_moves.proofs.Placing.{some_same, no_records}
+use Rattle.sim_tape.specs.Places.{AreCheckpoints}
 use Rattle.sim_tape.proofs.Turning.{Inside}
 
 module _ {State Msg : Type 0} (r : Rules State Msg) where
@@ -76,21 +77,3 @@ module _ {State Msg Undo : Type 0} (told : State → Setup) (records : NodeRecor
       (subst (λ (xs : List (InHand State Msg)). Inside told records laws probes s [] xs 0 (Some w) us) (sym one)
       (subst (λ (v : InHand State Msg). Inside told records laws probes s [] (v ∷ []) 0 (Some v) us) (sym is_first)
       (subst (λ (xs : List (Kept State Msg Undo)). Inside told records laws probes s [] (first ∷ []) 0 (Some first) xs) (sym none) (inside-none s limits))))
-
--- a walk with no world and no records
-pub cold_walk : {State Msg Undo : Type 0} (told : State → Setup) (records : NodeRecords State Undo) (r : Rules State Msg) (es : List Event) (p : ℕ) (hand : Option (InHand State Msg))
-    (us : List (Kept State Msg Undo)) → p ≤ length es → hand ≡ None → us ≡ [] → IsWalk told records r es p hand us
-cold_walk told records r es p hand us within none empty =
-    subst (λ h. IsWalk told records r es p h us) (sym none)
-    (subst (λ xs. IsWalk told records r es p None xs) (sym empty) (record { within = within; here = refl; answers = no_records told records r es p }))
-
--- a walk that has lost its records
-pub bare_walk : {State Msg Undo : Type 0} (told : State → Setup) (records : NodeRecords State Undo) (r : Rules State Msg) (es : List Event) (p : ℕ) (hand old : Option (InHand State Msg))
-    (us vs : List (Kept State Msg Undo)) → hand ≡ old → us ≡ [] → IsWalk told records r es p old vs → IsWalk told records r es p hand us
-bare_walk {State = State} {Msg = Msg} told records r es p hand old us vs same empty walk =
-    subst (λ h. IsWalk told records r es p h us) (sym same)
-    (subst (λ xs. IsWalk told records r es p old xs) (sym empty) (bare old walk))
-  where
-    bare : (hand : Option (InHand State Msg)) → IsWalk told records r es p hand vs → IsWalk told records r es p hand []
-    bare None w = record { within = w.within; here = refl; answers = no_records told records r es p }
-    bare (Some now) w = record { within = w.within; here = w.here; answers = no_records told records r es p }

@@ -8,21 +8,20 @@ ghost use Rattle.std.specs.Bool.{OnTrue};
 ghost use Rattle.std.specs.Arc.{arc_value};
 ghost use Rattle.sim_world.specs.Clock.{clock_after};
 ghost use Rattle.sim_world.specs.Events.{rules, run, refusal_of, IsRunnable};
+ghost use Rattle.sim_history.specs.Log.{events_of};
+ghost use Rattle.sim_moves.specs.Walk.{IsRun};
+ghost use Rattle.sim_moves.specs.Works.{OnlyTurns, Plays};
 ghost use Rattle.sim_tape.specs.Tape.{opened, at, with_world, IsMoved, KeepsRun, first_events};
 ghost use Rattle.sim_tape.specs.Tape.{with_event, raised};
 ghost use Rattle.sim_tape.specs.Tape.{is_within_reach, reach_at, reach_here, is_near_ahead};
-ghost use Rattle.sim_tape.specs.Inside.{IsRun};
-ghost use Rattle.sim_tape.specs.Places.{events_of, world_of, AreCheckpoints};
-ghost use Rattle.sim_tape.specs.Works.{OnlyTurns, Plays, nodes_below, rules_of, TakesBack};
+ghost use Rattle.sim_tape.specs.Places.{world_of, AreCheckpoints};
+ghost use Rattle.sim_tape.specs.Works.{nodes_below, rules_of, TakesBack};
 ghost use Rattle.sim_tape.specs.Works.{MakesAnew, JumpsTo, AddsAtEnd, RenewsAndAdds, Opens};
 
 use crate::NoMemory;
-use crate::entry::Entry;
-use crate::event_list::EventList;
 use crate::frozen::Frozen;
-use crate::log::Log;
-use crate::shared_list::SharedList;
-use crate::walk::Walk;
+use sim_history::{Entry, EventList, Log, SharedList};
+use sim_moves::Walk;
 use sim_node::Node;
 use sim_world::{Event, PackedWorld, Scenario, World};
 use std::alloc::Global;
@@ -54,9 +53,10 @@ impl<N: Node> Drop for Tape<N> {
 impl<N: Node> Model for Tape<N> {
     ghost use Rattle.std.specs.Prelude.{◌≡◌, ◌≤◌, length, is_some};
     ghost use Rattle.sim_world.specs.Events.{rules};
+    ghost use Rattle.sim_history.specs.Log.{events_of};
+    ghost use Rattle.sim_moves.specs.Walk.{IsRun, IsWalk};
     ghost use Rattle.sim_tape.specs.Tape.{Tape as TapeView};
-    ghost use Rattle.sim_tape.specs.Places.{events_of, AreCheckpoints};
-    ghost use Rattle.sim_tape.specs.Inside.{IsRun, IsWalk};
+    ghost use Rattle.sim_tape.specs.Places.{AreCheckpoints};
 
     ghost Value = { TapeView };
 

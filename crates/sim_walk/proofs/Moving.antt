@@ -3,17 +3,19 @@ use Rattle.std.proofs.Common.{◌≡◌, ◌∙◌, ℕ, ◌<◌, ◌≤◌, [],
 use Rattle.std.proofs.lemmas.Bool.{cases_lt}
 use Rattle.std.proofs.lemmas.List.{length-set, length-append, length-take-le, get_or_append_left, get_or-set_same, get_or_past}
 use Rattle.sim_world.specs.Events.{Rules}
-use Rattle.sim_world.specs.declared.Event.TheVariants as event
+use Rattle.sim_events.specs.declared.Event.TheVariants as event
 use Rattle.sim_watch.specs.declared.command.Command.{Command}
 use Rattle.sim_watch.specs.declared.command.Command.TheVariants as command
 use Rattle.sim_book.specs.declared.Refusal.{Refusal}
 use Rattle.sim_book.specs.declared.Refusal.TheVariants as refusal
 use Rattle.sim_book.specs.declared.Reply.{Reply}
 use Rattle.sim_book.specs.declared.Reply.TheVariants as reply
-use Rattle.sim_book.specs.declared.Stop.{Stop}
-use Rattle.sim_book.specs.Book.{Branch, Book, branch, with_branch, empty_branch}
+use Rattle.sim_runs.specs.declared.Stop.{Stop}
+use Rattle.sim_runs.specs.Branch.{Branch}
+use Rattle.sim_book.specs.Book.{Book, branch, with_branch, empty_branch}
 use Rattle.sim_watch.specs.Commands.{branch_of}
-use Rattle.sim_book.specs.Answer.{tick_addition, run_addition, refusal_of, branch_after, branches_made, reply_of, answer_by, after_by}
+use Rattle.sim_runs.specs.Runs.{tick_addition, run_addition}
+use Rattle.sim_book.specs.Answer.{refusal_of, branch_after, branches_made, reply_of, answer_by, after_by}
 use Rattle.sim_book.specs.History.{IsTurn}
 use Rattle.sim_book.specs.Headline.{AreBranches}
 use Rattle.sim_book.proofs.Headlines.{inside}

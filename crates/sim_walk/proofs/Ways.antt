@@ -1,11 +1,12 @@
 -- The account of a way, by its lines.
 use Rattle.std.proofs.Common.{◌≡◌, ℕ, ◌+◌, ◌≤◌, min, false, List, [], length, Some, ap, subst, arith}
 use Rattle.sim_node.specs.Node.{NodeLaws}
-use Rattle.sim_world.specs.declared.Event.{Event}
-use Rattle.sim_world.specs.World.{Scenario}
+use Rattle.sim_events.specs.declared.Event.{Event}
+use Rattle.sim_events.specs.Scenario.{Scenario}
 use Rattle.sim_world.specs.Events.{Rules, rules}
 use Rattle.sim_tape.specs.Tape.{Frozen}
-use Rattle.sim_book.specs.Book.{Branch, branch}
+use Rattle.sim_runs.specs.Branch.{Branch}
+use Rattle.sim_book.specs.Book.{branch}
 use Rattle.sim_book.specs.Kept.{Kept, all_shown}
 use Rattle.sim_book.specs.Freezing.{IsWhole}
 use Rattle.sim_log.specs.Lines.{AreLines}

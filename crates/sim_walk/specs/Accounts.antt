@@ -1,7 +1,7 @@
 -- The account of a turn: the lines of the events that it passed.
 use Rattle.std.specs.Prelude.{◌≡◌, ℕ, ◌+◌, ◌-◌, ◌≤◌, nat_lt, min, false, List, [], length}
 use Rattle.std.specs.Prelude.{Result, Ok, Err, if◌then◌else◌}
-use Rattle.sim_world.specs.declared.Event.{Event}
+use Rattle.sim_events.specs.declared.Event.{Event}
 use Rattle.sim_world.specs.Events.{Rules}
 use Rattle.sim_book.specs.declared.Entry.{Entry}
 use Rattle.sim_book.specs.declared.NotTaken.{NotTaken}

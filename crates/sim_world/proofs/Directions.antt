@@ -12,8 +12,10 @@ use Rattle.sim_links.specs.Link as links
 use Rattle.std.specs.declared.vec.Vec.{Vec}
 use Rattle.sim_world.specs.declared.index.Index.{Index}
 use Rattle.sim_world.specs.declared.small.Small.TheVariants as small
-use Rattle.sim_world.specs.World.{World, Occurrence, one_way, on_release, arrived, in_flight, held_messages, all_arrived}
-use Rattle.sim_world.specs.Records.{FitsOne, back_one, newest_messages, AreNewest}
+use Rattle.sim_pending.specs.Occurrence.{Occurrence}
+use Rattle.sim_world.specs.World.{World, one_way, on_release, arrived, in_flight, held_messages, all_arrived}
+use Rattle.sim_pending.specs.Recall.{newest_messages, AreNewest}
+use Rattle.sim_world.specs.Records.{FitsOne, back_one}
 use Rattle.sim_world.specs.inside.Trail.{Changes, Extends, added}
 use Rattle.sim_world.specs.inside.Index.{IsIndex, timers_of}
 use Rattle.sim_world.proofs.Trails.{extends-push}

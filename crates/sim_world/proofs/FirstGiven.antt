@@ -9,7 +9,9 @@ use Rattle.sim_node.specs.declared.Input.{Input}
 use Rattle.sim_node.specs.Effects.{Effects}
 use Rattle.sim_node.specs.Node.{IsFrom}
 use Rattle.sim_world.specs.declared.index.Index.{Index}
-use Rattle.sim_world.specs.World.{Scenario, Occurrence, Seeded, host_at, place, input_of, occurrence_of, on_world, runs}
+use Rattle.sim_events.specs.Scenario.{Scenario}
+use Rattle.sim_pending.specs.Occurrence.{Occurrence, input_of, occurrence_of}
+use Rattle.sim_world.specs.World.{Seeded, host_at, place, on_world, runs}
 use Rattle.sim_world.specs.Acts.{acts_by}
 use Rattle.sim_world.specs.Events.{Rules, begun, happened, stepped, stepped_by}
 use Rattle.sim_world.specs.inside.Giving.{CanGive}

@@ -7,7 +7,8 @@ use Rattle.sim_queue.specs.declared.Item.{Item}
 use Rattle.sim_queue.specs.Pending.{Rise, IsQueue, take, without_serial}
 use Rattle.sim_queue.proofs.First.{IsIn}
 use Rattle.sim_world.specs.declared.index.Index.{Index}
-use Rattle.sim_world.specs.World.{World, Body, Occurrence, is_timer_of, is_message}
+use Rattle.sim_pending.specs.Occurrence.{Body, Occurrence, is_timer_of, is_message}
+use Rattle.sim_world.specs.World.{World}
 use Rattle.sim_world.specs.inside.Index.{IsIndex, IsCounted, timers_of, listed, flight_without, timers_without}
 use Rattle.sim_world.specs.inside.Room.{HasRoom}
 use Rattle.sim_world.proofs.Rises.{in_rise, without_absent, sum_by-without, rise_filter}

@@ -18,8 +18,10 @@ use Rattle.sim_world.specs.declared.account.Fate.{Fate}
 use Rattle.sim_world.specs.declared.account.Fate.TheVariants as fate
 use Rattle.sim_world.specs.declared.account.Ledger.{Ledger}
 use Rattle.sim_world.specs.declared.index.Index.{Index}
-use Rattle.sim_world.specs.World.{Body, Occurrence, World, is_message, is_timer_of, stopped, host_at, place, drawn, with_host, with_node, with_disk, queued, made_stable, without, in_flight, held_messages, is_full, held_back, timed, wrote}
-use Rattle.sim_world.specs.Events.{Rules, is_lost, latency, sent, sent_open, sent_over, asked, begun}
+use Rattle.sim_pending.specs.Occurrence.{Body, Occurrence, is_message, is_timer_of}
+use Rattle.sim_world.specs.World.{World, stopped, host_at, place, drawn, with_host, with_node, with_disk, queued, made_stable, without, in_flight, held_messages, is_full, held_back, timed, wrote}
+use Rattle.sim_pending.specs.Fate.{is_lost, latency}
+use Rattle.sim_world.specs.Events.{Rules, sent, sent_open, sent_over, asked, begun}
 use Rattle.sim_world.specs.Account.{open_fate, fate_over, sent_fate}
 use Rattle.sim_world.specs.inside.Index.{IsCounted, IsIndex, flight_without}
 use Rattle.sim_world.specs.inside.Ledger.{AreAsked, Follows, HasRoomFor, ledger_of}

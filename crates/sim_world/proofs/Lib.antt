@@ -30,7 +30,6 @@ pub mod Plain
 pub mod Purges
 pub mod React
 pub mod Readies
-pub mod Recalls
 pub mod Rises
 pub mod Rooms
 pub mod Sends

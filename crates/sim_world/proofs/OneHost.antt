@@ -11,7 +11,8 @@ use Rattle.sim_disk.specs.Disk as disk
 use Rattle.sim_streams.specs.Word.{stream_of}
 use Rattle.sim_node.specs.Effects.{Effect}
 use Rattle.sim_world.specs.declared.host.Host.{Host}
-use Rattle.sim_world.specs.World.{World, Body, Occurrence, input_of, host_at, stopped, drawn, with_host, with_node, timed, held_back, made_stable}
+use Rattle.sim_pending.specs.Occurrence.{Body, Occurrence, input_of}
+use Rattle.sim_world.specs.World.{World, host_at, stopped, drawn, with_host, with_node, timed, held_back, made_stable}
 use Rattle.sim_world.specs.Events.{Rules, sent_over, effect, effects, reaction, happened_to, stepped_by, stepped, asked}
 use Rattle.sim_world.specs.Acts.{first_host}
 use Rattle.sim_world.proofs.Sends.{sent_any, open_any, wrote_any}

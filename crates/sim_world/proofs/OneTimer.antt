@@ -10,11 +10,12 @@ use Rattle.sim_links.specs.Link.{link, with_link, changed, let_go}
 use Rattle.sim_disk.specs.Disk as disk
 use Rattle.sim_streams.specs.Word.{network, stream_of}
 use Rattle.sim_node.specs.Effects.{Effect}
-use Rattle.sim_world.specs.declared.Event.{Event}
-use Rattle.sim_world.specs.declared.Event.TheVariants as event
-use Rattle.sim_world.specs.declared.Fault.{Fault}
-use Rattle.sim_world.specs.declared.Fault.TheVariants as fault
-use Rattle.sim_world.specs.World.{World, Body, Occurrence, input_of, host_at, drawn, with_node, with_disk, without, is_timer_of, timed, held_back, made_stable, one_way, both_ways, on_release}
+use Rattle.sim_events.specs.declared.Event.{Event}
+use Rattle.sim_events.specs.declared.Event.TheVariants as event
+use Rattle.sim_events.specs.declared.Fault.{Fault}
+use Rattle.sim_events.specs.declared.Fault.TheVariants as fault
+use Rattle.sim_pending.specs.Occurrence.{Body, Occurrence, input_of, is_timer_of}
+use Rattle.sim_world.specs.World.{World, host_at, drawn, with_node, with_disk, without, timed, held_back, made_stable, one_way, both_ways, on_release}
 use Rattle.sim_world.specs.Events.{Rules, sent_over, effect, effects, reaction, happened_to, stepped_by, crash_of, crashed, booted, faulted, after, asked}
 use Rattle.sim_world.specs.inside.Index.{timers_of, changing_host}
 use Rattle.sim_world.specs.Acts.{first_host}

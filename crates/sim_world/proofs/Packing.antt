@@ -10,7 +10,9 @@ use Rattle.sim_queue.specs.Pending.{Pending}
 use Rattle.sim_world.specs.declared.host.Host.{Host}
 use Rattle.sim_world.specs.declared.packed_hosts.KeptHost.{KeptHost}
 use Rattle.sim_node.specs.declared.Setup.{Setup}
-use Rattle.sim_world.specs.World.{Occurrence, Scenario, World}
+use Rattle.sim_pending.specs.Occurrence.{Occurrence}
+use Rattle.sim_events.specs.Scenario.{Scenario}
+use Rattle.sim_world.specs.World.{World}
 use Rattle.sim_world.specs.inside.Index.{IsIndex}
 use Rattle.sim_world.specs.Records.{InHand}
 use Rattle.sim_world.specs.inside.Held.{Held, IsHeld, in_hand}

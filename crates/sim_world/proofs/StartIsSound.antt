@@ -10,9 +10,10 @@ use Rattle.sim_disk.specs.Disk as disk
 use Rattle.sim_node.specs.declared.Setup.{Setup}
 use Rattle.sim_node.specs.Numbers.{numbers_from}
 use Rattle.sim_world.specs.declared.host.Host.{Host}
-use Rattle.sim_world.specs.World.{Body, Occurrence, is_message, stopped, host_at, place}
+use Rattle.sim_pending.specs.Occurrence.{Body, Occurrence, is_message}
+use Rattle.sim_world.specs.World.{stopped, host_at, place}
 use Rattle.sim_world.specs.Events.{Rules, start}
-use Rattle.sim_world.specs.Limits.{IsScenario}
+use Rattle.sim_events.specs.Limits.{IsScenario}
 use Rattle.sim_world.specs.inside.Sound.{AllDueBy, NoneLate, covers, IsSound}
 use Rattle.sim_world.proofs.Counts.{sum_by-replicate_none, sum_by-map_none, get_or-replicate_zero, length-numbers_from, each-numbers}
 use Rattle.sim_world.proofs.Bodies.{covers_none}

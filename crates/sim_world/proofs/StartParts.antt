@@ -7,7 +7,7 @@ use Rattle.sim_queue.specs.declared.Item.{Item}
 use Rattle.sim_links.specs.Link.{Link, open_link}
 use Rattle.sim_node.specs.Numbers.{numbers_from}
 use Rattle.sim_world.specs.declared.index.Index.{Index}
-use Rattle.sim_world.specs.World.{Occurrence, is_message, is_timer_of}
+use Rattle.sim_pending.specs.Occurrence.{Occurrence, is_message, is_timer_of}
 use Rattle.sim_world.specs.Events.{Rules, start}
 use Rattle.sim_world.specs.inside.Index.{IsIndex, listed, timers_of}
 use Rattle.sim_world.proofs.Counts.{sum_by-replicate_none, sum_by-map_none, length-numbers_from}

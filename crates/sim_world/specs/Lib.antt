@@ -1,5 +1,4 @@
 pub mod World
-pub mod Limits
 pub mod Events
 pub mod Acts
 pub mod Clock
@@ -7,6 +6,5 @@ pub mod Memory
 pub mod Looks
 pub mod Account
 pub mod Records
-pub mod Seeds
 pub mod Undone
 pub mod inside

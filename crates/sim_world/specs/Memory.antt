@@ -4,9 +4,9 @@ use Rattle.sim_links.specs.declared.LinkState.{LinkState}
 use Rattle.sim_links.specs.declared.LinkState.TheVariants as state
 use Rattle.sim_links.specs.Link.{link}
 use Rattle.sim_node.specs.Effects.{Effect}
-use Rattle.sim_world.specs.declared.Event.{Event}
-use Rattle.sim_world.specs.declared.Event.TheVariants as event
-use Rattle.sim_world.specs.declared.Fault.TheVariants as fault
+use Rattle.sim_events.specs.declared.Event.{Event}
+use Rattle.sim_events.specs.declared.Event.TheVariants as event
+use Rattle.sim_events.specs.declared.Fault.TheVariants as fault
 use Rattle.sim_world.specs.Acts.{acts}
 use Rattle.sim_world.specs.World.{World, host_at, runs, is_full}
 

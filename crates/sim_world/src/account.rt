@@ -12,21 +12,20 @@ ghost use Rattle.sim_world.specs.Events.{rules, effect as carried, next, sent_op
 ghost use Rattle.sim_world.specs.Account.{after_told, all_told, fate_of, next_reaction, open_fate};
 ghost use Rattle.sim_world.specs.Account.{sent_fate, tears, told_if};
 ghost use Rattle.sim_world.specs.Acts.{acts};
-ghost use Rattle.sim_world.specs.declared.Event.TheVariants as event;
+ghost use Rattle.sim_events.specs.declared.Event.TheVariants as event;
 ghost use Rattle.sim_world.specs.inside.Index.{IsCounted, IsIndex};
 ghost use Rattle.sim_world.specs.inside.Ledger.{AreAsked, Follows, HasRoomFor, ledger_of};
 ghost use Rattle.sim_world.specs.inside.Room.{IsReady};
 
 use crate::NoMemory;
-use crate::effects::latency;
 use crate::index::Index;
-use crate::occurrence::Occurrence;
 use crate::parts::Parts;
-use crate::scenario::Scenario;
 use crate::world::World;
 use sim_disk::MAX_DISK_BYTES;
+use sim_events::Scenario;
 use sim_links::LinkState;
 use sim_node::{Effect, Effects, Input, MAX_LOSS, MAX_MESSAGES, Node, Setup};
+use sim_pending::{Occurrence, latency};
 use std::alloc::Global;
 use std::marker::Model;
 

@@ -5,11 +5,15 @@ ghost use Rattle.std.specs.Prelude.{IsTrue, Some, None, slice_index_or, slice_in
 ghost use Rattle.sim_streams.specs.Word.{word, network};
 ghost use Rattle.sim_queue.specs.Pending.{IsQueue};
 ghost use Rattle.sim_links.specs.Link.{link};
+ghost use Rattle.sim_links.specs.Ways.{IsWay};
+ghost use Rattle.sim_pending.specs.Fate.{latency, is_lost};
 ghost use Rattle.sim_links.specs.declared.LinkState.TheVariants as state;
 ghost use Rattle.sim_disk.specs.Disk as disk;
-ghost use Rattle.sim_world.specs.World.{body_of, Body, host_at, place, drawn, at_time, with_host};
+ghost use Rattle.sim_pending.specs.Occurrence.{body_of, Body};
+ghost use Rattle.sim_world.specs.World.{host_at, place, drawn, at_time, with_host};
 ghost use Rattle.sim_world.specs.World.{with_disk, queued, queued_after, on_world, without};
-ghost use Rattle.sim_world.specs.World.{is_timer_of, is_full, held_back, timed, wrote};
+ghost use Rattle.sim_pending.specs.Occurrence.{is_timer_of};
+ghost use Rattle.sim_world.specs.World.{is_full, held_back, timed, wrote};
 ghost use Rattle.sim_world.specs.Events.{rules, asked};
 ghost use Rattle.sim_world.specs.inside.Index.{IsIndex};
 ghost use Rattle.sim_world.specs.declared.small.Small.TheVariants as small;
@@ -17,12 +21,13 @@ ghost use Rattle.sim_world.specs.inside.Trail.{Changes, Extends, added};
 
 use crate::NoMemory;
 use crate::index::Index;
-use crate::occurrence::Occurrence;
 use crate::parts::Parts;
-use crate::scenario::Scenario;
 use crate::trail::{Compact, Trail};
 use sim_disk::WriteFault;
+use sim_events::Scenario;
+use sim_links::Way;
 use sim_node::{Input, Node};
+use sim_pending::{Crossing, Occurrence, draw_crossing};
 
 /// A message on its way from one host to another.
 #[derive(Drop)]
@@ -256,18 +261,22 @@ impl<N: Node> Parts<N> {
         self.queue_up(trail, due, h, count, Input::Synced)
     }
 
-    // Draws two words of the network's stream. A trail that led back still does, with this change
-    // added at its end.
-    pub(crate) fn draw_two(&mut self) -> (u32, u32)
+    // Draws the two words of a message over an open link. A trail that led back still does, with
+    // this change added at its end.
+    pub(crate) fn draw_crossing(&mut self, way: Way) -> Crossing
         requires places { length self.old.world.places ≡ 34 }
         requires room { place network self.old.world + 2 ≤ 2 ^ 40 }
+        requires way { IsWay way }
         ensures world { self.new ≡ record self.old { world = drawn 2 network self.old.world } }
-        ensures first { result.0 ≡ word self.old.seed network (place network self.old.world) }
-        ensures second { result.1 ≡ word self.old.seed network (place network self.old.world + 1) }
+        ensures latency { result.latency ≡ latency way
+            (word self.old.seed network (place network self.old.world)) }
+        ensures lost { result.is_lost ≡ is_lost way
+            (word self.old.seed network (place network self.old.world + 1)) }
+        ensures bound { result.latency ≤ 60000 }
         ensures leads { (t : Changes N N.Msg N.Undo)
             → Extends N.records t self.old.world (added t (small.Drew 0 2 ∷ [])) self.new.world }
     {
-        self.streams.draw_two(0)
+        draw_crossing(&mut self.streams, way)
     }
 
     // Holds a message back in a direction.

@@ -3,43 +3,15 @@ ghost use Rattle.std.specs.Prelude.{◌≡◌, ◌+◌, ◌<◌, true, option_ma
 ghost use Rattle.sim_queue.specs.Items.{item_of};
 ghost use Rattle.sim_queue.specs.Pending.{first, next_taken, with_serial};
 ghost use Rattle.sim_links.specs.Link.{link};
-ghost use Rattle.sim_world.specs.World.{host_at, in_flight, held_messages, input_of, place};
-ghost use Rattle.sim_world.specs.World.{sync_count};
+ghost use Rattle.sim_world.specs.World.{host_at, in_flight, held_messages, place};
 ghost use Rattle.sim_world.specs.Events.{rules};
 
-use crate::occurrence::Occurrence;
-use crate::scenario::Scenario;
 use crate::world::World;
 use sim_disk::Disk;
+use sim_events::Scenario;
 use sim_links::LinkState;
 use sim_node::{Input, Node};
-
-impl<M> Occurrence<M> {
-    /// Returns the host of the occurrence.
-    pub fn host(&self) -> u16
-        ensures { result ≡ self.now.host }
-    {
-        self.host
-    }
-
-    /// Returns the input that the host will get.
-    pub fn input(&self) -> &Input<M>
-        ensures { result.now ≡ input_of self.now.body }
-    {
-        &self.input
-    }
-
-    /// Returns the number of writes that a sync covers, the oldest ones, or `None` if it is no
-    /// sync.
-    pub fn sync_count(&self) -> Option<u32>
-        ensures { result ≡ sync_count self.now.body }
-    {
-        match &self.input {
-            Input::Synced => Some(self.covered),
-            Input::Start | Input::Timer | Input::Message { .. } => None,
-        }
-    }
-}
+use sim_pending::Occurrence;
 
 impl<N: Node> World<N> {
     /// Returns the scenario of the world's run.

@@ -5,7 +5,7 @@ ghost use Rattle.std.specs.Prelude.{slice_index_or, if◌then◌else◌};
 ghost use Rattle.std.specs.List.{count_by};
 ghost use Rattle.sim_queue.specs.Pending.{first};
 ghost use Rattle.sim_world.specs.World.{at_time, host_at};
-ghost use Rattle.sim_world.specs.declared.Event.TheVariants as event;
+ghost use Rattle.sim_events.specs.declared.Event.TheVariants as event;
 ghost use Rattle.sim_world.specs.Events.{rules, after, next, refusal_of, stepped};
 ghost use Rattle.sim_world.specs.Acts.{first_host, acts, reactions_of, turns_of, turned_by};
 ghost use Rattle.sim_world.specs.Acts.{turned_if};
@@ -21,12 +21,12 @@ ghost use Rattle.sim_world.specs.inside.Held.{IsHeld, in_hand};
 
 use crate::cluster::Cluster;
 use crate::parts::Parts;
-use crate::scenario::Scenario;
 use crate::tools::Tools;
 use crate::trail::{Compact, Trail};
 use crate::undo::Undo;
 use crate::world::World;
 use crate::{Event, Fault, NoMemory};
+use sim_events::Scenario;
 use sim_node::Node;
 use std::alloc::Global;
 

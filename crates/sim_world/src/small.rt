@@ -1,7 +1,7 @@
 //! The small changes of a world, as contracts see them.
-use crate::occurrence::Occurrence;
 use sim_disk::DiskUndo;
 use sim_links::LinkUndo;
+use sim_pending::Occurrence;
 use sim_queue::Item;
 
 /// A small change of a world, as contracts see it. The code builds none: it stores the same as

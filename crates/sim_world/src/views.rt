@@ -1,6 +1,6 @@
 //! What a world shows: whether an event can happen, the results of queries, and single facts for
 //! callers that ask after each step.
-ghost use Rattle.std.specs.Prelude.{◌≡◌, ℕ, ◌+◌, ◌-◌, ◌<◌, ◌≤◌, ◌&&◌, [], ◌∷◌, nat_le, length};
+ghost use Rattle.std.specs.Prelude.{◌≡◌, ℕ, ◌+◌, ◌-◌, ◌<◌, ◌≤◌, ◌&&◌, nat_le, length};
 ghost use Rattle.std.specs.Prelude.{MatchResult, Option, None, Some, IsSome, OnOk, nat_lt, not};
 ghost use Rattle.std.specs.Prelude.{is_some, if◌then◌else◌, ◌^◌, ◌*◌, drop};
 ghost use Rattle.std.specs.Option.{option_map};
@@ -9,62 +9,20 @@ ghost use Rattle.sim_queue.specs.Pending.{first};
 ghost use Rattle.sim_streams.specs.Word.{network, torn, stream_of};
 ghost use Rattle.sim_links.specs.Link.{link};
 ghost use Rattle.sim_world.specs.World.{place, runs, host_at, held_messages};
-ghost use Rattle.sim_world.specs.Events.{Rules, rules, can_go_on, refusal_of, hosts_refusal};
-ghost use Rattle.sim_world.specs.Events.{hosts_of, next};
+ghost use Rattle.sim_world.specs.Events.{Rules, rules, can_go_on, refusal_of};
+ghost use Rattle.sim_world.specs.Events.{next};
 ghost use Rattle.sim_world.specs.Looks.{looked, coming, kind_of, CanLook};
-ghost use Rattle.sim_world.specs.declared.Query.TheVariants as query;
-ghost use Rattle.sim_world.specs.declared.View.TheVariants as view;
+ghost use Rattle.sim_events.specs.declared.Query.TheVariants as query;
+ghost use Rattle.sim_events.specs.declared.View.TheVariants as view;
 
 use crate::host::Host;
-use crate::occurrence::Occurrence;
 use crate::parts::Parts;
-use crate::scenario::Scenario;
 use crate::world::World;
-use crate::{Coming, Event, Fault, Kind, MAX_ADVANCE, Query, Refusal, View};
+use crate::{Coming, Event, Kind, MAX_ADVANCE, Query, Refusal, View};
+use sim_events::Scenario;
 use sim_node::{Input, Node};
+use sim_pending::Occurrence;
 use sim_queue::Queue;
-
-// Refuses a host that does not exist.
-fn one_host(hosts: u16, h: u16) -> Option<Refusal>
-    ensures { result ≡ hosts_refusal hosts (h ∷ []) }
-{
-    if hosts <= h {
-        return Some(Refusal::UnknownHost);
-    }
-    None
-}
-
-// Refuses two hosts if one does not exist, or if both are the same.
-fn two_hosts(hosts: u16, a: u16, b: u16) -> Option<Refusal>
-    ensures { result ≡ hosts_refusal hosts (a ∷ b ∷ []) }
-{
-    if hosts <= a || hosts <= b {
-        return Some(Refusal::UnknownHost);
-    }
-    if a == b {
-        return Some(Refusal::SameHost);
-    }
-    None
-}
-
-impl Scenario {
-    /// Returns why a fault cannot happen: one of its hosts does not exist, or a fault of a link
-    /// names one host twice. The first is tested first.
-    pub fn refusal(&self, fault: Fault) -> Option<Refusal>
-        ensures { result ≡ hosts_refusal self.now.setup.hosts (hosts_of fault) }
-    {
-        let hosts = self.hosts();
-        match fault {
-            Fault::Crash(h) | Fault::Bounce(h) => one_host(hosts, h),
-            Fault::Hold(a, b)
-            | Fault::Release(a, b)
-            | Fault::Cut(a, b)
-            | Fault::CutOneway(a, b)
-            | Fault::Repair(a, b)
-            | Fault::RepairOneway(a, b) => two_hosts(hosts, a, b),
-        }
-    }
-}
 
 // Returns whether the clock can advance to a time (ms): it is no earlier, at most 60,000 ms later,
 // and nothing is due before it.

@@ -1,8 +1,8 @@
 -- A run of the register, worked out: server a and client w with two operations, a write and a read.
 use Rattle.std.specs.Prelude.{◌≡◌, ◌∷◌, Some, true, replicate}
 use Rattle.std.proofs.Common.{refl}
-use Rattle.sim_world.specs.declared.Query.TheVariants as query
-use Rattle.sim_world.specs.declared.View.TheVariants as view
+use Rattle.sim_events.specs.declared.Query.TheVariants as query
+use Rattle.sim_events.specs.declared.View.TheVariants as view
 use Rattle.sim_world.specs.Events.{Rules, rules}
 use Rattle.sim_abd.specs.declared.roles.AbdMsg.{AbdMsg}
 use Rattle.sim_abd.specs.declared.roles.State.{State}

@@ -10,14 +10,15 @@ use Rattle.sim_node.specs.declared.Input.{Input}
 use Rattle.sim_node.specs.declared.Input.TheVariants as input
 use Rattle.sim_node.specs.Effects.{Effect}
 use Rattle.sim_node.specs.Node.{NodeRecords}
-use Rattle.sim_world.specs.declared.Event.{Event}
-use Rattle.sim_world.specs.declared.Event.TheVariants as event
-use Rattle.sim_world.specs.declared.Fault.TheVariants as fault
-use Rattle.sim_world.specs.declared.Query.TheVariants as query
-use Rattle.sim_world.specs.declared.View.TheVariants as view
+use Rattle.sim_events.specs.declared.Event.{Event}
+use Rattle.sim_events.specs.declared.Event.TheVariants as event
+use Rattle.sim_events.specs.declared.Fault.TheVariants as fault
+use Rattle.sim_events.specs.declared.Query.TheVariants as query
+use Rattle.sim_events.specs.declared.View.TheVariants as view
 use Rattle.sim_world.specs.declared.small.Small.{Small}
 use Rattle.sim_world.specs.declared.small.Small.TheVariants as small
-use Rattle.sim_world.specs.World.{Body, Occurrence, World, is_full}
+use Rattle.sim_pending.specs.Occurrence.{Body, Occurrence}
+use Rattle.sim_world.specs.World.{World, is_full}
 use Rattle.sim_world.specs.Events.{Rules, start, run}
 use Rattle.sim_world.specs.Looks.{looked}
 use Rattle.sim_world.specs.Records.{AnswersFor}

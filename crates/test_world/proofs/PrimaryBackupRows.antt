@@ -1,10 +1,10 @@
 -- Runs of primary-backup, worked out.
 use Rattle.std.specs.Prelude.{◌≡◌, [], ◌∷◌, ◌++◌, Some, true, false}
 use Rattle.std.proofs.Common.{refl}
-use Rattle.sim_world.specs.declared.Event.TheVariants as event
-use Rattle.sim_world.specs.declared.Fault.TheVariants as fault
-use Rattle.sim_world.specs.declared.Query.TheVariants as query
-use Rattle.sim_world.specs.declared.View.TheVariants as view
+use Rattle.sim_events.specs.declared.Event.TheVariants as event
+use Rattle.sim_events.specs.declared.Fault.TheVariants as fault
+use Rattle.sim_events.specs.declared.Query.TheVariants as query
+use Rattle.sim_events.specs.declared.View.TheVariants as view
 use Rattle.sim_world.specs.Events.{Rules, rules}
 use Rattle.sim_primary_backup.specs.declared.roles.BackupMsg.{BackupMsg}
 use Rattle.sim_primary_backup.specs.declared.roles.State.{State}

@@ -9,11 +9,12 @@ use Rattle.sim_queue.specs.Pending.{first}
 use Rattle.sim_links.specs.Ways.{all}
 use Rattle.sim_node.specs.declared.Setup.{Setup}
 use Rattle.sim_hosts.specs.Bytes.{number_at}
-use Rattle.sim_world.specs.declared.Event.{Event}
-use Rattle.sim_world.specs.declared.Event.TheVariants as event
-use Rattle.sim_world.specs.declared.Query.{Query}
-use Rattle.sim_world.specs.declared.View.{View}
-use Rattle.sim_world.specs.World.{Scenario, timed, wrote, held_back, one_way}
+use Rattle.sim_events.specs.declared.Event.{Event}
+use Rattle.sim_events.specs.declared.Event.TheVariants as event
+use Rattle.sim_events.specs.declared.Query.{Query}
+use Rattle.sim_events.specs.declared.View.{View}
+use Rattle.sim_events.specs.Scenario.{Scenario}
+use Rattle.sim_world.specs.World.{timed, wrote, held_back, one_way}
 use Rattle.sim_world.specs.Events.{Rules, run, sent, asked, crash_of, booted}
 use Rattle.sim_world.specs.Looks.{looked}
 

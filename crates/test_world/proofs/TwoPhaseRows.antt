@@ -2,12 +2,12 @@
 use Rattle.std.specs.Prelude.{◌≡◌, [], ◌∷◌, ◌++◌, List, Some, true, false, replicate}
 use Rattle.std.specs.Option.{option_map}
 use Rattle.std.proofs.Common.{refl}
-use Rattle.sim_world.specs.declared.Event.{Event}
-use Rattle.sim_world.specs.declared.Event.TheVariants as event
-use Rattle.sim_world.specs.declared.Fault.TheVariants as fault
-use Rattle.sim_world.specs.declared.Query.TheVariants as query
-use Rattle.sim_world.specs.declared.View.TheVariants as view
-use Rattle.sim_world.specs.declared.Kind.TheVariants as kind
+use Rattle.sim_events.specs.declared.Event.{Event}
+use Rattle.sim_events.specs.declared.Event.TheVariants as event
+use Rattle.sim_events.specs.declared.Fault.TheVariants as fault
+use Rattle.sim_events.specs.declared.Query.TheVariants as query
+use Rattle.sim_events.specs.declared.View.TheVariants as view
+use Rattle.sim_events.specs.declared.Kind.TheVariants as kind
 use Rattle.sim_world.specs.World.{host_at}
 use Rattle.sim_world.specs.Events.{Rules, rules, run}
 use Rattle.sim_two_phase.specs.declared.roles.CommitMsg.{CommitMsg}

@@ -6,7 +6,8 @@ use Rattle.sim_node.specs.declared.Input.{Input}
 use Rattle.sim_node.specs.Effects.{Effect, Effects}
 use Rattle.sim_node.specs.Node.{IsFrom, IsLawful}
 use Rattle.sim_world.specs.declared.index.Index.{Index}
-use Rattle.sim_world.specs.World.{Scenario, World, Seeded, host_at, place, drawn, with_node}
+use Rattle.sim_events.specs.Scenario.{Scenario}
+use Rattle.sim_world.specs.World.{World, Seeded, host_at, place, drawn, with_node}
 use Rattle.sim_world.specs.Events.{Rules, reaction}
 use Rattle.sim_world.specs.inside.Index.{IsIndex}
 use Rattle.sim_world.specs.inside.Room.{HasRoom}

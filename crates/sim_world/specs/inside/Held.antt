@@ -4,7 +4,8 @@ use Rattle.std.specs.Prelude.{◌≡◌, ℕ, []}
 use Rattle.sim_node.specs.declared.Setup.{Setup}
 use Rattle.sim_node.specs.Effects.{Effects}
 use Rattle.sim_world.specs.declared.index.Index.{Index}
-use Rattle.sim_world.specs.World.{Scenario, Seeded}
+use Rattle.sim_events.specs.Scenario.{Scenario}
+use Rattle.sim_world.specs.World.{Seeded}
 use Rattle.sim_world.specs.inside.Index.{IsIndex}
 use Rattle.sim_world.specs.Records.{InHand}
 use Rattle.sim_world.specs.inside.Sound.{IsSound}

@@ -5,15 +5,17 @@ use Rattle.std.specs.Prelude.{Some, None, slice_index_or, slice_set}
 use Rattle.std.specs.List.{filter}
 use Rattle.sim_queue.specs.declared.Item.{Item}
 use Rattle.sim_queue.specs.Pending.{first}
-use Rattle.sim_world.specs.declared.Event.{Event}
-use Rattle.sim_world.specs.declared.Event.TheVariants as event
-use Rattle.sim_world.specs.declared.Fault.{Fault}
-use Rattle.sim_world.specs.declared.Fault.TheVariants as fault
+use Rattle.sim_events.specs.declared.Event.{Event}
+use Rattle.sim_events.specs.declared.Event.TheVariants as event
+use Rattle.sim_events.specs.declared.Fault.{Fault}
+use Rattle.sim_events.specs.declared.Fault.TheVariants as fault
 use Rattle.sim_node.specs.declared.Setup.{Setup}
 use Rattle.sim_world.specs.declared.index.Beside.{Beside}
 use Rattle.sim_world.specs.declared.index.Index.{Index}
 use Rattle.sim_world.specs.Acts.{first_host}
-use Rattle.sim_world.specs.World.{Scenario, Body, Occurrence, World, is_timer_of, in_flight}
+use Rattle.sim_events.specs.Scenario.{Scenario}
+use Rattle.sim_pending.specs.Occurrence.{Body, Occurrence, is_timer_of}
+use Rattle.sim_world.specs.World.{World, in_flight}
 use Rattle.sim_world.specs.World.{held_messages}
 use Rattle.sim_world.specs.inside.Sound.{IsSound}
 

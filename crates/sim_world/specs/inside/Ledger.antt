@@ -5,7 +5,8 @@ use Rattle.sim_links.specs.Link.{link}
 use Rattle.sim_disk.specs.Disk as disk
 use Rattle.sim_world.specs.declared.account.Ledger.{Ledger}
 use Rattle.sim_world.specs.declared.index.Index.{Index}
-use Rattle.sim_world.specs.World.{Occurrence, World, host_at, place, in_flight, held_messages}
+use Rattle.sim_pending.specs.Occurrence.{Occurrence}
+use Rattle.sim_world.specs.World.{World, host_at, place, in_flight, held_messages}
 use Rattle.sim_world.specs.inside.Index.{flight_without}
 
 -- the ledger at the start of the reaction to an occurrence due at a time

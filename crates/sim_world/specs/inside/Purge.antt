@@ -4,7 +4,8 @@ use Rattle.std.specs.List.{find}
 use Rattle.sim_queue.specs.declared.Item.{Item}
 use Rattle.sim_queue.specs.Pending.{Pending, take}
 use Rattle.sim_node.specs.Node.{NodeRecords}
-use Rattle.sim_world.specs.World.{World, Occurrence, is_lost_by_crash}
+use Rattle.sim_pending.specs.Occurrence.{Occurrence, is_lost_by_crash}
+use Rattle.sim_world.specs.World.{World}
 use Rattle.sim_world.specs.inside.Trail.{Changes, Extends}
 
 -- the first occurrence, from a serial on, that a crash of the host takes out

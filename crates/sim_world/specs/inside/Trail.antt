@@ -11,7 +11,8 @@ use Rattle.sim_world.specs.declared.small.Small.{Small}
 use Rattle.sim_world.specs.declared.small.Small.TheVariants as small
 use Rattle.sim_world.specs.declared.undo.Taken.{Taken}
 use Rattle.sim_world.specs.Undone.{is_reaction}
-use Rattle.sim_world.specs.World.{World, Body}
+use Rattle.sim_pending.specs.Occurrence.{Body}
+use Rattle.sim_world.specs.World.{World}
 use Rattle.sim_world.specs.Records.{Fits, back}
 
 -- the changes fit the world now, and lead back from it to the world before

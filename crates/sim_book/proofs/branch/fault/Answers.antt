@@ -1,8 +1,9 @@
 use Rattle.std.proofs.Common.{◌≡◌, true, arith, sym, ap, ◌∙◌, subst}
-use Rattle.sim_world.specs.declared.Event.TheVariants as event
+use Rattle.sim_events.specs.declared.Event.TheVariants as event
 use Rattle.sim_world.specs.Events.{rules}
+use Rattle.sim_moves.specs.Works.{Plays}
 use Rattle.sim_tape.specs.Tape.{Tape, with_world, with_event, reach_here}
-use Rattle.sim_tape.specs.Works.{Plays, nodes_at_end}
+use Rattle.sim_tape.specs.Works.{nodes_at_end}
 use Rattle.sim_book.specs.Works.{Works}
 use Rattle.sim_book.specs.Keeps.{Keeps}
 use Rattle.sim_watch.specs.declared.command.Command.TheVariants as command

@@ -2,8 +2,8 @@ use Rattle.sim_book.specs.Works.{Works}
 use Rattle.sim_tape.specs.Tape.{reach_here}
 use Rattle.std.proofs.Common.{◌≡◌, ◌-◌, true, arith, refl, sym, subst}
 use Rattle.sim_book.proofs.Turns.{rewind_on, rewind_none, rewind_keeps, rewind_none_keeps, rewind_works, rewind_none_works, rewind_looks}
-use Rattle.sim_book.proofs.Looking.{looks_none}
-use Rattle.sim_book.proofs.Undoing.{undone_none, rewind_undoes}
+use Rattle.sim_runs.proofs.Looking.{looks_none}
+use Rattle.sim_runs.proofs.Undoing.{undone_none, rewind_undoes}
 use Rattle.sim_world.specs.Events.{rules}
 use Rattle.sim_book.specs.Keeps.{Keeps}
 use Rattle.sim_watch.specs.declared.command.Command.TheVariants as command

@@ -1,4 +1,4 @@
-use Rattle.sim_world.specs.declared.Event.TheVariants as event
+use Rattle.sim_events.specs.declared.Event.TheVariants as event
 use Rattle.sim_tape.specs.Tape.{Tape, reach_here}
 use Rattle.sim_book.specs.Works.{Works}
 use Rattle.sim_book.specs.Keeps.{Keeps}
@@ -6,7 +6,8 @@ use Rattle.sim_watch.specs.declared.command.Command.TheVariants as command
 use Rattle.sim_book.specs.declared.Reply.{Reply}
 use Rattle.std.proofs.Common.{◌≡◌, true, arith, sym, ap, subst}
 use Rattle.sim_world.specs.Events.{rules}
-use Rattle.sim_tape.specs.Works.{Plays, nodes_at_end}
+use Rattle.sim_moves.specs.Works.{Plays}
+use Rattle.sim_tape.specs.Works.{nodes_at_end}
 use Rattle.sim_book.proofs.Turns.{step_on, step_refused, busy_on, add_keeps}
 use Rattle.sim_book.proofs.branch.step.Goals as goal
 

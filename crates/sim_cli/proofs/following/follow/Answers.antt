@@ -1,5 +1,5 @@
 use Rattle.std.proofs.Common.{◌∙◌, ap, refl, Err}
-use Rattle.sim_world.specs.World.{Scenario}
+use Rattle.sim_events.specs.Scenario.{Scenario}
 use Rattle.sim_world.specs.Events.{rules}
 use Rattle.sim_cli.specs.Turns.{course_of}
 use Rattle.sim_cli.proofs.Follows.{at_start, at_line, at_last, at_end, at_stop, at_last_stop, follows_as}

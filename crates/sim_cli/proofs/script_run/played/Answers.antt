@@ -1,5 +1,5 @@
 use Rattle.std.proofs.Common.{◌≡◌, length, refl, ap, ◌∙◌}
-use Rattle.sim_world.specs.World.{Scenario}
+use Rattle.sim_events.specs.Scenario.{Scenario}
 use Rattle.sim_world.specs.Events.{rules}
 use Rattle.sim_book.specs.Kept.{all_shown}
 use Rattle.sim_cli.specs.Turns.{beginning, course_of}

@@ -1,7 +1,7 @@
 use Rattle.std.proofs.Common.{refl, ◌∙◌, ap, None, Err}
 use Rattle.std.specs.Io.KnownBytes.{prepend_known}
 use Rattle.sim_lines.proofs.Counting.{counts_none, counts_append}
-use Rattle.sim_world.specs.World.{Scenario}
+use Rattle.sim_events.specs.Scenario.{Scenario}
 use Rattle.sim_world.specs.Events.{rules}
 use Rattle.sim_cli.specs.Turns.{course_of}
 use Rattle.sim_cli.proofs.StrictRuns.{answers_as, all_with_last, all_with_line, as_given, at_flush, at_line, at_start, ends_end, ends_failure, ends_halt, ends_last, ends_stop, ends_want}

@@ -1,5 +1,5 @@
 use Rattle.std.proofs.Common.{sym, ap}
-use Rattle.sim_book.specs.Book.{Branch}
+use Rattle.sim_runs.specs.Branch.{Branch}
 use Rattle.sim_inspect.proofs.Branches.{not_there, nowhere}
 use Rattle.sim_inspect.proofs.run.place_of.Goals as goal
 

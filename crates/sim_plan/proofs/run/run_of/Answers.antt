@@ -1,5 +1,5 @@
 use Rattle.std.proofs.Common.{◌≡◌, IfOk, List, subst}
-use Rattle.sim_world.specs.declared.Event.{Event}
+use Rattle.sim_events.specs.declared.Event.{Event}
 use Rattle.sim_world.specs.Events.{rules, start}
 use Rattle.sim_plan.specs.Happening.{happening}
 use Rattle.sim_plan.proofs.run.run_of.Goals as goal

@@ -1,6 +1,6 @@
 use Rattle.std.proofs.Common.{◌∙◌, ap, []}
 use Rattle.std.proofs.lemmas.Result.{IfOk-weaker}
-use Rattle.sim_world.specs.World.{Scenario}
+use Rattle.sim_events.specs.Scenario.{Scenario}
 use Rattle.sim_plan.specs.Happening.{planned_run}
 use Rattle.sim_repro.proofs.seed_run.events_of.Goals as goal
 

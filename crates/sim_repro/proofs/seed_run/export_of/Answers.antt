@@ -1,5 +1,5 @@
 use Rattle.std.proofs.Common.{◌≡◌, [], List, Ok, subst, string_bytes}
-use Rattle.sim_world.specs.Seeds.{numbered}
+use Rattle.sim_events.specs.Seeds.{numbered}
 use Rattle.sim_plan.specs.declared.plan.Plan.{Plan}
 use Rattle.sim_plan.specs.Happening.{IsPlan, planned_run}
 use Rattle.sim_scenario.specs.Scenario.{Protocol, ScenarioText}

@@ -1,6 +1,7 @@
 use Rattle.std.proofs.Common.{◌+◌, ◌-◌, ◌%◌}
 use Rattle.sim_world.specs.Events.{rules}
-use Rattle.sim_tape.specs.Works.{Plays, nodes_below}
+use Rattle.sim_moves.specs.Works.{Plays}
+use Rattle.sim_tape.specs.Works.{nodes_below}
 use Rattle.sim_scan.specs.Scanning.{IsScanning}
 use Rattle.sim_scan.proofs.scanning.scan_after.Given as goal
 

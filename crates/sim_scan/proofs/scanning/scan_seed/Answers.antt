@@ -1,6 +1,6 @@
 use Rattle.std.proofs.Common.{◌+◌, sym, ap, ◌∙◌, arith, replicate}
-use Rattle.sim_world.specs.declared.Event.TheVariants as event
-use Rattle.sim_world.specs.World.{Scenario}
+use Rattle.sim_events.specs.declared.Event.TheVariants as event
+use Rattle.sim_events.specs.Scenario.{Scenario}
 use Rattle.sim_watch.specs.Condition.{fault_of}
 use Rattle.sim_watch.proofs.Concerned.{holds_same}
 use Rattle.sim_scan.proofs.Scans.{at_start, stepping_none, stepping_more, idle_none, stepped_is, stepped_none, turns_begun, turns_more, turns_within}

@@ -1,5 +1,5 @@
 use Rattle.std.proofs.Common.{◌≡◌, ◌+◌, true}
-use Rattle.sim_tape.specs.Works.{OnlyTurns}
+use Rattle.sim_moves.specs.Works.{OnlyTurns}
 use Rattle.sim_watch.specs.Condition.{holds}
 use Rattle.sim_scan.specs.Scanning.{IsStepping}
 use Rattle.sim_scan.proofs.scanning.scan_seed.Given as goal

@@ -1,6 +1,6 @@
 use Rattle.std.proofs.Common.{◌≡◌, ◌≤◌, None, List, Bool, length, sym, ap, ◌∙◌, subst, arith}
-use Rattle.sim_world.specs.declared.Event.{Event}
-use Rattle.sim_world.specs.World.{Scenario}
+use Rattle.sim_events.specs.declared.Event.{Event}
+use Rattle.sim_events.specs.Scenario.{Scenario}
 use Rattle.sim_world.specs.Events.{rules}
 use Rattle.sim_watch.specs.Condition.{Cond}
 use Rattle.sim_shrink.specs.Choices.{kept_by}

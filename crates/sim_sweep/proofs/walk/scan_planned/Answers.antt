@@ -1,5 +1,5 @@
 use Rattle.std.proofs.Common.{◌+◌, not, length, sym, ap, ◌∙◌, arith}
-use Rattle.sim_world.specs.World.{Scenario}
+use Rattle.sim_events.specs.Scenario.{Scenario}
 use Rattle.sim_world.specs.Events.{rules, start}
 use Rattle.sim_watch.specs.Condition.{Cond, holds, fault_of}
 use Rattle.sim_scan.proofs.Scans.{fails_here, turns_within}

@@ -1,6 +1,6 @@
 use Rattle.std.proofs.Common.{◌≡◌, ◌+◌, ◌≤◌, not, length}
 use Rattle.sim_world.specs.Events.{rules, start}
-use Rattle.sim_tape.specs.Works.{OnlyTurns}
+use Rattle.sim_moves.specs.Works.{OnlyTurns}
 use Rattle.sim_watch.specs.Condition.{holds}
 use Rattle.sim_plan.specs.Happening.{happening}
 use Rattle.sim_sweep.specs.Walking.{IsWalking}

@@ -1,7 +1,7 @@
 use Rattle.std.proofs.Common.{◌≡◌, [], ◌∷◌, true, false, cond, List, Some, None, length, is_some, refl, sym, ap, ◌∙◌}
 use Rattle.sim_queue.specs.declared.Item.{Item}
 use Rattle.sim_queue.specs.Pending.{first}
-use Rattle.sim_world.specs.declared.Refusal.TheVariants as refusal
+use Rattle.sim_events.specs.declared.Refusal.TheVariants as refusal
 use Rattle.sim_world.proofs.views.step_refusal.Goals as goal
 
 none_first : {B : Type 0} (items : List (Item B)) → length items ≡ 0 → is_some (first items) ≡ false

@@ -1,7 +1,7 @@
 use Rattle.std.proofs.Common.{◌≡◌, None, ap, length, refl}
 use Rattle.sim_lines.proofs.Known.{Appends-none}
 use Rattle.sim_lines.proofs.Counting.{counts_none}
-use Rattle.sim_world.specs.World.{Scenario}
+use Rattle.sim_events.specs.Scenario.{Scenario}
 use Rattle.sim_world.specs.Events.{rules}
 use Rattle.sim_book.specs.Kept.{all_shown}
 use Rattle.sim_cli.specs.Turns.{beginning, course_of}

@@ -1,6 +1,6 @@
 use Rattle.std.proofs.Common.{◌≡◌, ◌∙◌, ◌+◌, ◌-◌, ◌<◌, ◌≤◌, ℕ, true, false, List, length, Option, None, sym, ap, subst, arith}
 use Rattle.std.specs.List.{slice_get}
-use Rattle.sim_world.specs.declared.Event.{Event}
+use Rattle.sim_events.specs.declared.Event.{Event}
 use Rattle.sim_world.specs.Events.{rules}
 use Rattle.sim_log.specs.Lines.{AreLines}
 use Rattle.sim_log.proofs.Telling.{is_there, no_lines, one_more, own_reach}

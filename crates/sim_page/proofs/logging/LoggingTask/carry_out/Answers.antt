@@ -1,8 +1,8 @@
 use Rattle.std.proofs.Common.{◌≡◌, refl, sym, subst, Bool, true, List}
 use Rattle.std.specs.Str.Lines.{lines}
-use Rattle.sim_world.specs.declared.Event.{Event}
+use Rattle.sim_events.specs.declared.Event.{Event}
 use Rattle.sim_world.specs.Events.{rules}
-use Rattle.sim_world.specs.World.{Scenario}
+use Rattle.sim_events.specs.Scenario.{Scenario}
 use Rattle.sim_cli.specs.declared.stop.ScriptStop.{ScriptStop}
 use Rattle.sim_cli.specs.Played.{IsFault, first_events}
 use Rattle.sim_export.specs.Exports.{IsExported}

@@ -1,6 +1,6 @@
 use Rattle.std.proofs.Common.{◌∷◌, List, ◌∙◌, sym, ap}
-use Rattle.sim_world.specs.declared.Event.{Event}
-use Rattle.sim_world.specs.declared.Fault.{Fault}
+use Rattle.sim_events.specs.declared.Event.{Event}
+use Rattle.sim_events.specs.declared.Fault.{Fault}
 use Rattle.sim_plan.specs.declared.forecast.Forecast.{Forecast}
 use Rattle.sim_plan.specs.Owing.{healings}
 use Rattle.sim_plan.specs.Forecasting.{yet_planned}

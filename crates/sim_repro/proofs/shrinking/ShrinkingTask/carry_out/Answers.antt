@@ -1,6 +1,6 @@
 use Rattle.std.proofs.Common.{◌≡◌, ◌∙◌, ap, refl, sym, subst, Bool, true, List, Option, None, Some}
 use Rattle.std.specs.Str.Lines.{lines}
-use Rattle.sim_world.specs.declared.Event.{Event}
+use Rattle.sim_events.specs.declared.Event.{Event}
 use Rattle.sim_world.specs.Events.{rules}
 use Rattle.sim_watch.specs.Condition.{Cond}
 use Rattle.sim_script.specs.Script.{Text, words}

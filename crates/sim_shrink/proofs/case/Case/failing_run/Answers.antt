@@ -1,5 +1,5 @@
 use Rattle.std.proofs.Common.{List, take, sym, ap, ◌∙◌}
-use Rattle.sim_world.specs.declared.Event.{Event}
+use Rattle.sim_events.specs.declared.Event.{Event}
 use Rattle.sim_world.specs.Events.{rules}
 use Rattle.sim_shrink.specs.Shrunk.{run_by, failing}
 use Rattle.sim_shrink.proofs.case.Case.failing_run.Goals as goal

@@ -1,5 +1,5 @@
 use Rattle.std.proofs.Common.{◌≡◌, ℕ, ◌≤◌, IfOk, List, Option, length, ap, ◌∙◌, subst, arith}
-use Rattle.sim_world.specs.declared.Event.{Event}
+use Rattle.sim_events.specs.declared.Event.{Event}
 use Rattle.sim_world.specs.Events.{rules}
 use Rattle.sim_shrink.specs.Choices.{kept_by}
 use Rattle.sim_shrink.specs.Shrunk.{failing}

@@ -1,5 +1,5 @@
 use Rattle.std.proofs.Common.{ap, ◌∙◌}
-use Rattle.sim_world.specs.World.{Scenario}
+use Rattle.sim_events.specs.Scenario.{Scenario}
 use Rattle.sim_watch.specs.Condition.{Cond, fault_of}
 use Rattle.sim_sweep.proofs.walk.Spot.passed.Goals as goal
 

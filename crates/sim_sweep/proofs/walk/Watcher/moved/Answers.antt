@@ -1,5 +1,5 @@
 use Rattle.std.proofs.Common.{sym, ◌∙◌}
-use Rattle.sim_tape.proofs.Placing.{turned_once}
+use Rattle.sim_moves.proofs.Placing.{turned_once}
 use Rattle.sim_watch.proofs.Concerned.{holds_same}
 use Rattle.sim_sweep.proofs.walk.Watcher.moved.Goals as goal
 

@@ -2,9 +2,10 @@ use Rattle.std.proofs.Common.{◌≡◌, ◌≤◌, None, sym, subst}
 use Rattle.sim_node.specs.Work.{Work}
 use Rattle.sim_world.specs.Clock.{clock_after}
 use Rattle.sim_world.specs.Events.{rules, refusal_of}
+use Rattle.sim_moves.specs.Works.{Plays}
 use Rattle.sim_tape.specs.Tape.{Tape}
 use Rattle.sim_tape.specs.Places.{world_of}
-use Rattle.sim_tape.specs.Works.{Plays, nodes_at_end}
+use Rattle.sim_tape.specs.Works.{nodes_at_end}
 use Rattle.sim_tape.proofs.Turning.{both_played}
 use Rattle.sim_tape.proofs.tape.Tape.add.Goals as goal
 

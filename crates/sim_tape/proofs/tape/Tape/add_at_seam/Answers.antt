@@ -1,17 +1,22 @@
 use Rattle.std.proofs.Common.{◌≡◌, ◌≤◌, ℕ, Bool, refl, ◌+◌, ◌%◌, ◌<◌, ◌++◌, ◌∷◌, [], None, cond, length, min, sym, ap, ◌∙◌, subst, arith}
 use Rattle.std.specs.Prelude.{nat_eq}
 use Rattle.sim_world.specs.Acts.{running}
-use Rattle.sim_world.specs.World.{Scenario}
+use Rattle.sim_events.specs.Scenario.{Scenario}
 use Rattle.sim_world.specs.Clock.{clock_after}
 use Rattle.sim_world.specs.Events.{rules, refusal_of}
-use Rattle.sim_tape.specs.declared.entry.Entry.{Entry}
+use Rattle.sim_history.specs.declared.entry.Entry.{Entry}
+use Rattle.sim_history.specs.Log.{events_of}
+use Rattle.sim_history.specs.Log.{LogView}
+use Rattle.sim_history.proofs.Entries.{events-push, events-length}
+use Rattle.sim_moves.specs.Places.{world_at}
+use Rattle.sim_moves.specs.Walk.{IsRun, IsWalk}
+use Rattle.sim_moves.specs.Works.{Plays}
 use Rattle.sim_tape.specs.Tape.{Tape}
-use Rattle.sim_tape.specs.Places.{events_of, world_at, world_of, AreCheckpoints}
-use Rattle.sim_tape.specs.Inside.{LogView, IsRun, IsWalk}
-use Rattle.sim_tape.specs.Works.{Plays, nodes_at_end}
-use Rattle.sim_tape.proofs.Growing.{events-push, events-length, run-push}
+use Rattle.sim_tape.specs.Places.{world_of, AreCheckpoints}
+use Rattle.sim_tape.specs.Works.{nodes_at_end}
+use Rattle.sim_tape.proofs.Growing.{run-push}
 use Rattle.sim_tape.proofs.Turning.{Inside, same_tape}
-use Rattle.sim_tape.proofs.Stepping.{kept_checkpoints}
+use Rattle.sim_tape.proofs.Growing.{kept_checkpoints}
 use Rattle.sim_tape.proofs.tape.Tape.add_at_seam.Goals as goal
 
 pub step-requires-clause-can : goal.step-requires-clause-can

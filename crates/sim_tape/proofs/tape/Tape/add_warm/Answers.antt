@@ -1,13 +1,16 @@
 use Rattle.std.proofs.Common.{◌≡◌, ◌≢◌, ◌≤◌, ℕ, ◌+◌, ◌%◌, ◌<◌, ◌++◌, ◌∷◌, [], None, length, min, refl, sym, ap, ◌∙◌, subst, arith, eq-eqb}
 use Rattle.std.proofs.lemmas.Bool.{false≢true}
-use Rattle.sim_world.specs.World.{Scenario}
+use Rattle.sim_events.specs.Scenario.{Scenario}
 use Rattle.sim_world.specs.Clock.{clock_after}
 use Rattle.sim_world.specs.Events.{rules, refusal_of}
-use Rattle.sim_tape.specs.declared.entry.Entry.{Entry}
+use Rattle.sim_history.specs.declared.entry.Entry.{Entry}
+use Rattle.sim_history.specs.Log.{events_of}
+use Rattle.sim_history.proofs.Entries.{events-push, events-length}
+use Rattle.sim_moves.specs.Places.{world_at}
+use Rattle.sim_moves.specs.Walk.{IsWalk}
 use Rattle.sim_tape.specs.Tape.{Tape}
-use Rattle.sim_tape.specs.Places.{events_of, world_at, world_of, AreCheckpoints}
-use Rattle.sim_tape.specs.Inside.{IsWalk}
-use Rattle.sim_tape.proofs.Growing.{events-push, events-length, run-push, checkpoints-more}
+use Rattle.sim_tape.specs.Places.{world_of, AreCheckpoints}
+use Rattle.sim_tape.proofs.Growing.{run-push, checkpoints-more}
 use Rattle.sim_tape.proofs.Turning.{Inside, same_tape}
 use Rattle.sim_tape.proofs.tape.Tape.add_warm.Goals as goal
 

@@ -2,8 +2,9 @@ use Rattle.std.proofs.Common.{◌≡◌, ℕ, ◌-◌, ◌≤◌, false, subst, 
 use Rattle.std.specs.Prelude.{OnOk}
 use Rattle.std.proofs.lemmas.Result.{on_ok_weaker}
 use Rattle.sim_world.specs.Events.{rules}
+use Rattle.sim_moves.specs.Works.{Plays}
 use Rattle.sim_tape.specs.Tape.{is_within_reach}
-use Rattle.sim_tape.specs.Works.{Plays, nodes_below}
+use Rattle.sim_tape.specs.Works.{nodes_below}
 use Rattle.sim_tape.proofs.Turning.{not_ahead}
 use Rattle.sim_tape.proofs.tape.Tape.back.Goals as goal
 

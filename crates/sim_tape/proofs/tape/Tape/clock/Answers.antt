@@ -1,7 +1,9 @@
 use Rattle.std.proofs.Common.{◌≡◌, ℕ, ◌+◌, ◌-◌, ap, ◌∙◌, subst, arith}
 use Rattle.sim_world.specs.Events.{rules}
+use Rattle.sim_history.specs.Log.{events_of}
+use Rattle.sim_moves.specs.Places.{world_at}
 use Rattle.sim_tape.specs.Tape.{Tape}
-use Rattle.sim_tape.specs.Places.{events_of, world_at, world_of}
+use Rattle.sim_tape.specs.Places.{world_of}
 use Rattle.sim_tape.proofs.tape.Tape.clock.Goals as goal
 
 pub returns-clause-value : goal.returns-clause-value

@@ -1,8 +1,8 @@
 use Rattle.std.proofs.Common.{length, ap, ◌∙◌, arith}
 use Rattle.sim_world.specs.Events.{rules}
-use Rattle.sim_tape.specs.Places.{events_of}
-use Rattle.sim_tape.proofs.Growing.{events-length}
-use Rattle.sim_tape.proofs.Opening.{cold_walk}
+use Rattle.sim_history.specs.Log.{events_of}
+use Rattle.sim_history.proofs.Entries.{events-length}
+use Rattle.sim_moves.proofs.Walking.{cold_walk}
 use Rattle.sim_tape.proofs.tape.Tape.cold.Goals as goal
 
 pub invariant_of-result : goal.invariant_of-result

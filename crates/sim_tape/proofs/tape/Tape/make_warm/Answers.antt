@@ -2,7 +2,8 @@ use Rattle.std.proofs.Common.{◌≡◌, ℕ, ◌-◌, ◌%◌, false, subst}
 use Rattle.std.specs.Prelude.{OnOk}
 use Rattle.std.proofs.lemmas.Result.{on_ok_weaker}
 use Rattle.sim_world.specs.Events.{rules}
-use Rattle.sim_tape.specs.Works.{Plays, nodes_below}
+use Rattle.sim_moves.specs.Works.{Plays}
+use Rattle.sim_tape.specs.Works.{nodes_below}
 use Rattle.sim_tape.proofs.Turning.{cold_within, cold_ahead}
 use Rattle.sim_tape.proofs.tape.Tape.make_warm.Goals as goal
 

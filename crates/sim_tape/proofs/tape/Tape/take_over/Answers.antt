@@ -1,7 +1,7 @@
 use Rattle.std.proofs.Common.{length, ap, ◌∙◌, arith}
 use Rattle.sim_world.specs.Events.{rules}
-use Rattle.sim_tape.specs.Places.{events_of}
-use Rattle.sim_tape.proofs.Opening.{bare_walk}
+use Rattle.sim_history.specs.Log.{events_of}
+use Rattle.sim_moves.proofs.Walking.{bare_walk}
 use Rattle.sim_tape.proofs.tape.Tape.take_over.Goals as goal
 
 pub invariant_of-self : goal.invariant_of-self

@@ -1,6 +1,6 @@
 use Rattle.std.proofs.Common.{◌≡◌, ◌+◌, ◌<◌, ◌≤◌, None, Some, sym, ap, subst, ◌∙◌, arith}
 use Rattle.sim_queue.specs.Pending.{first}
-use Rattle.sim_world.specs.declared.Event.TheVariants as event
+use Rattle.sim_events.specs.declared.Event.TheVariants as event
 use Rattle.sim_world.specs.Acts.{first_host, acts, turned_if}
 use Rattle.sim_world.specs.Clock.{clock_after}
 use Rattle.sim_world.specs.Events.{rules, stepped, next, refusal_of}

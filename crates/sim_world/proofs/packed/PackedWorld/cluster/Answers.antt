@@ -1,5 +1,5 @@
 use Rattle.std.proofs.Common.{◌∙◌, [], ap, sym, refl}
-use Rattle.sim_world.specs.World.{Scenario}
+use Rattle.sim_events.specs.Scenario.{Scenario}
 use Rattle.sim_world.proofs.Packing.{hand-same, opened-held}
 use Rattle.sim_world.proofs.packed.PackedWorld.cluster.Goals as goal
 

@@ -2,7 +2,8 @@ use Rattle.std.proofs.Common.{rules as std_rules, ◌≡◌, ◌<◌, ◌≤◌,
 use Rattle.sim_streams.specs.Word.{stream_of, word}
 use Rattle.sim_queue.specs.Pending.{first}
 use Rattle.sim_queue.specs.Items.{item_of}
-use Rattle.sim_world.specs.World.{host_at, input_of, place, drawn, with_node, made_stable}
+use Rattle.sim_pending.specs.Occurrence.{input_of}
+use Rattle.sim_world.specs.World.{host_at, place, drawn, with_node, made_stable}
 use Rattle.sim_world.specs.Events.{rules, next_word, begun}
 use Rattle.sim_world.specs.Account.{all_told}
 use Rattle.sim_world.specs.inside.Ledger.{Follows}

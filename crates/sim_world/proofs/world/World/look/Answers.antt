@@ -1,7 +1,7 @@
 use Rattle.std.proofs.Common.{sym, ap, ◌∙◌}
 use Rattle.sim_world.specs.Events.{rules}
 use Rattle.sim_world.specs.Looks.{looked}
-use Rattle.sim_world.specs.declared.Query.TheVariants as query
+use Rattle.sim_events.specs.declared.Query.TheVariants as query
 use Rattle.sim_world.proofs.world.World.look.Goals as goal
 
 pub returns-in-Summary : goal.returns-in-Summary

@@ -1,7 +1,7 @@
 use Rattle.std.proofs.Common.{rules as std_rules, ◌≡◌, ◌<◌, length, Some, IsSome, refl, sym, ap, subst, ◌∙◌}
 use Rattle.std.specs.Result.{IfOk}
 use Rattle.sim_queue.specs.Pending.{first}
-use Rattle.sim_world.specs.declared.Event.TheVariants as event
+use Rattle.sim_events.specs.declared.Event.TheVariants as event
 use Rattle.sim_world.specs.Events.{rules, next}
 use Rattle.sim_world.specs.Account.{after_told, next_reaction}
 use Rattle.sim_world.specs.inside.Room.{IsReady}

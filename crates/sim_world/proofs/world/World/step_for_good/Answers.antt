@@ -1,5 +1,5 @@
 use Rattle.std.proofs.Common.{◌≡◌, ◌+◌, ◌≤◌, Some, sym, ap, subst, ◌∙◌}
-use Rattle.sim_world.specs.declared.Event.TheVariants as event
+use Rattle.sim_events.specs.declared.Event.TheVariants as event
 use Rattle.sim_queue.specs.Pending.{first}
 use Rattle.sim_world.specs.Acts.{first_host, acts, turned_if}
 use Rattle.sim_world.specs.Clock.{clock_after}

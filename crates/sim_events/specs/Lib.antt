@@ -1,0 +1,4 @@
+pub mod Scenario
+pub mod Limits
+pub mod Seeds
+pub mod Faults

@@ -1,0 +1,3 @@
+-- The kept events of a run, and the shared parts in which they are kept.
+pub mod Log
+pub mod Segments

@@ -1,0 +1,31 @@
+use Rattle.std.proofs.Common.{◌+◌, sym, ◌∙◌, arith}
+use Rattle.sim_world.specs.Events.{rules}
+use Rattle.sim_history.specs.Log.{events_of}
+use Rattle.sim_history.proofs.Entries.{events-length}
+use Rattle.sim_moves.proofs.Placing.{can_play, passed_at, no_records}
+use Rattle.sim_moves.proofs.Walking.{walk_here}
+use Rattle.sim_moves.proofs.walk.Walk.pass.Goals as goal
+
+pub passed-passed-requires-clause-can : goal.passed-passed-requires-clause-can
+passed-passed-requires-clause-can g c =
+    let log = c.args.log.now in
+    let old = c.args.self.now in
+    let r = rules g.N.Node.laws g.N.Node.PROBES log.scenario in
+    let w = c.in-Some.world in
+    let here = walk_here g.N.Node.told g.N.Node.records r (events_of log.entries) c.args.place old.world old.ring.items w c.requires.walk (sym c.take.ensures.value ∙ c.in-Some.is) in
+    can_play g.N.Node.told g.N.Node.records g.N.Node.laws g.N.Node.PROBES log.scenario log.entries c.args.place c.entry-event.result w c.requires.runs.runs c.entry-event.ensures here
+
+pub returns-clause-ok : goal.returns-clause-ok
+returns-clause-ok g c =
+    let log = c.args.log.now in
+    let old = c.args.self.now in
+    let r = rules g.N.Node.laws g.N.Node.PROBES log.scenario in
+    let w = c.in-Some.world in
+    let v = c.in_ok-after.ensures in
+    let within = c.requires.within in
+    let here = walk_here g.N.Node.told g.N.Node.records r (events_of log.entries) c.args.place old.world old.ring.items w c.requires.walk (sym c.take.ensures.value ∙ c.in-Some.is) in
+    record {
+      within = omega (arith, within, events-length log.entries);
+      here = passed_at g.N.Node.told g.N.Node.records g.N.Node.laws g.N.Node.PROBES log.scenario log.entries c.args.place c.entry-event.result w c.in_ok-after.after c.entry-event.ensures here v.next v.scenario v.age;
+      answers = no_records g.N.Node.told g.N.Node.records r (events_of log.entries) (c.args.place + 1);
+    }

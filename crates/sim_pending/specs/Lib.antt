@@ -1,0 +1,3 @@
+pub mod Occurrence
+pub mod Fate
+pub mod Recall

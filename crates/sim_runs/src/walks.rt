@@ -1,0 +1,91 @@
+//! Runs: steps added one after the other.
+ghost use Rattle.std.specs.Prelude.{◌≡◌, ◌<◌, ◌≤◌, List, None, length, IsTrue, OnOk, OnErr, IfOk};
+ghost use Rattle.sim_world.specs.Events.{rules};
+ghost use Rattle.sim_tape.specs.Tape.{KeepsRun, raised};
+ghost use Rattle.sim_runs.specs.OnTape.{IsLengthened, HasGrown, step_refusal, run_on};
+ghost use Rattle.sim_runs.specs.Watches.{AreChecked, NoneFrom};
+ghost use Rattle.sim_runs.specs.Works.{Adds};
+
+use crate::{MAX_EVENTS, Stop, stops};
+use sim_node::{NoMemory, Node};
+use sim_tape::Tape;
+use sim_watch::Cond;
+use sim_world::Event;
+use std::alloc::Global;
+
+// Adds at most `count` steps, until a run has to stop. After want of memory some may have been
+// added.
+fn add_steps<N: Node>(
+    alloc: Global,
+    tape: &mut Tape<N>,
+    watches: &[Option<Cond>; 8],
+    end: usize,
+    meter: &mut N::Meter,
+    count: u32,
+) -> Result<Stop, NoMemory>
+    requires some { 1 ≤ count }
+    requires reach { tape.old.reach ≤ tape.old.scenario.window }
+    requires warm { IsTrue tape.old.warm }
+    requires place { tape.old.place ≡ length tape.old.events }
+    requires room { length tape.old.events < 65536 }
+    requires can { step_refusal N.laws N.PROBES tape.old ≡ None }
+    requires few { end ≤ 8 }
+    requires none { NoneFrom end watches.now }
+    requires checked { AreChecked tape.old.scenario.setup.hosts N.PROBES watches.now }
+    ensures stop { IfOk result (λ why.
+        why ≡ (run_on N.laws N.PROBES count watches.now tape.old).stop) }
+    ensures ok { OnOk result (IsLengthened
+        (run_on N.laws N.PROBES count watches.now tape.old).events tape.old tape.new) }
+    ensures reach { OnOk result (tape.new.reach ≡ raised
+        (length (run_on N.laws N.PROBES count watches.now tape.old).events) tape.old) }
+    ensures work { OnOk result (Adds (rules N.laws N.PROBES tape.old.scenario)
+        (length (run_on N.laws N.PROBES count watches.now tape.old).events) tape.new.events
+        (N.Meter.work meter.old) (N.Meter.work meter.new)) }
+    ensures err { OnErr result (HasGrown tape.old tape.new) }
+{
+    for added in 0..count {
+        tape.add(alloc, Event::Step, meter)?;
+        let asked = added + 1 == count;
+        if let Some(why) = stops::stop(tape, watches, end, asked) {
+            return Ok(why);
+        }
+    }
+    unreachable!()
+}
+
+/// Adds at most `count` steps, until a run has to stop. After want of memory the events are as
+/// before.
+pub fn run<N: Node>(
+    alloc: Global,
+    tape: &mut Tape<N>,
+    watches: &[Option<Cond>; 8],
+    meter: &mut N::Meter,
+    count: u32,
+) -> Result<Stop, NoMemory>
+    requires some { 1 ≤ count }
+    requires warm { IsTrue tape.old.warm }
+    requires place { tape.old.place ≡ length tape.old.events }
+    requires room { length tape.old.events < 65536 }
+    requires can { step_refusal N.laws N.PROBES tape.old ≡ None }
+    requires checked { AreChecked tape.old.scenario.setup.hosts N.PROBES watches.now }
+    ensures stop { IfOk result (λ why.
+        why ≡ (run_on N.laws N.PROBES count watches.now tape.old).stop) }
+    ensures ok { OnOk result (IsLengthened
+        (run_on N.laws N.PROBES count watches.now tape.old).events tape.old tape.new) }
+    ensures reach { OnOk result (tape.new.reach ≡ raised
+        (length (run_on N.laws N.PROBES count watches.now tape.old).events) tape.old) }
+    ensures work { OnOk result (Adds (rules N.laws N.PROBES tape.old.scenario)
+        (length (run_on N.laws N.PROBES count watches.now tape.old).events) tape.new.events
+        (N.Meter.work meter.old) (N.Meter.work meter.new)) }
+    ensures err { OnErr result (KeepsRun tape.old tape.new) }
+{
+    let start = tape.len();
+    let end = stops::end_of(watches);
+    match add_steps(alloc, tape, watches, end, meter, count) {
+        Ok(why) => Ok(why),
+        Err(want) => {
+            tape.truncate(start);
+            Err(want)
+        }
+    }
+}
