@@ -1,8 +1,8 @@
 #!/usr/bin/env python3
 """Proves and builds programs of crates/, with the libraries that they stand on and nothing else.
 
-    ./build.py                              crates/simback
-    ./build.py simback example_raft_play    these programs
+    ./build.py                         crates/simback
+    ./build.py simback example_play    these programs
 
 The programs are then crates/NAME/out/NAME. What is proved is kept in the folders out/, so a later
 run proves only what has changed. At a crate that is not proved, this prints what its check said and

@@ -45,7 +45,7 @@ for part in "${parts[@]}"; do
             tar -c --exclude=out crates.txt HANDLES crates | tar -x -C "$folder/copy"
             sed -i -f tests/browser/messages.sed "$folder/copy/crates/example_counter/src/lib.rt"
             title='</title><script>alert(1)</script>'
-            (cd "$folder/copy/crates/example_play" && rt try -- page --title "$title" < stdin) > "$folder/messages.html"
+            (cd "$folder/copy/crates/example_play" && rt try -- page --title "$title") < examples/counted-twice.play > "$folder/messages.html"
             drive tests/browser/messages.mjs "$folder/messages.html" "$title" ;;
         walk)
             names=(torn-commit partition lossy-direction)

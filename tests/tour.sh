@@ -4,8 +4,8 @@
 set -euo pipefail
 cd "$(dirname "$0")/.."
 page=$PWD/docs/TOUR.md
-export PATH="$PWD/crates/simback/out:$PWD/crates/example_raft_play/out:$PATH"
-for program in simback example_raft_play; do
+export PATH="$PWD/crates/simback/out:$PWD/crates/example_play/out:$PATH"
+for program in simback example_play; do
     command -v "$program" > /dev/null || { echo "build $program first" >&2; exit 2; }
 done
 folder=$(mktemp -d)

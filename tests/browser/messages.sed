@@ -1,7 +1,7 @@
 # Turns the counter of crates/example_counter into one whose messages and roles show themselves by texts that would leave
 # their places in a page if they could.
-/^\/\/\/ A message of the counter/,/^}/s/Debug, //
-/^\/\/\/ What a host does/,/^}/s/Debug, //
+/^\/\/\/ A message of the counter/,/^}/s/, Debug//
+/^\/\/\/ The role of a host/,/^}/s/, Debug//
 $a\
 \
 impl std::fmt::Debug for Message {\

@@ -1,55 +1,45 @@
-//! The counter of docs/NODES.md as a program: `play`, `search`, `sweep` and the other commands of
-//! `simback`, over scenarios that say `protocol = "counter"`.
+//! The example nodes as a program: `play`, `search`, `sweep` and the other commands of `simback`,
+//! over scenarios that say `protocol = "counter"` or `"raft"`. `"raft_eager"` and `"raft_hasty"`
+//! name variants of Raft with a planted mistake. docs/NODES.md has the counter, docs/RAFT.md has
+//! Raft, and docs/TOUR.md finds one of the mistakes.
 //!
-//! This is all that a program over a protocol of one's own takes: a [`Subject`], which has the name
-//! of the protocol, the least number of its servers and the names of its probes, and a `main` of
-//! one line. `sim_program::run` reads the command line and the input, and writes the answers.
+//! A program over protocols of one's own takes two things:
+//!
+//! - A [`Subject`](sim_cli::Subject) for each: the name of the protocol, the least number of its
+//!   servers, the type of its nodes and the names of their probes. `counting.rt` has that of the
+//!   counter. `raft.rt` has one subject for all variants of Raft, which differ in their names.
+//! - A `main` of one line over the list of them. `sim_program::run` reads the command line and the
+//!   input, and writes the answers.
 //!
 //! Why it is built this way:
 //!
-//! - A list of subjects is a type and no value: `Only<Counting>`, or `With<First, Only<Second>>`
-//!   for two. So everything is compiled for each type of node.
-//! - The ghost items say the same as the functions below them, for contracts. With them the
-//!   contract of `run` names this protocol and its probes.
-//! - The node has a crate of its own, `example_counter`, so that libraries and tests can use it
-//!   without the program.
+//! - A list of subjects is a type and no value: [`Only`] one, or [`With`] one before others. So
+//!   everything is compiled for each type of node. A variant of Raft is a type of node too, so a
+//!   cluster has servers of one variant only. The same scenario runs with and without a mistake:
+//!   change the protocol's name and nothing else.
+//! - The ghost items of a subject say the same as the functions below them, for contracts. With
+//!   them the contract of `run` names these protocols and their probes.
+//! - The nodes have crates of their own, `example_counter` and `example_raft`, so that libraries
+//!   and tests can use them without the program.
+//! - One program plays all examples, since the gate pays for each program by the libraries below
+//!   it. A program for the counter alone lists `Only<Counting>`.
 //!
-//! The gate runs it on the file `stdin` and compares its output with `stdout`.
+//! The gate runs it on the file `stdin`, in which a server of Raft votes twice in a term, and
+//! compares its output with `stdout`.
 #![tactic(auto)]
 
-ghost use Rattle.std.specs.Prelude.{codes, [], ◌∷◌};
+mod counting;
+mod raft;
 
-use example_counter::{Counter, Message, Role};
-use sim_cli::{Only, Subject, Tally};
+use crate::counting::Counting;
+use crate::raft::RaftSubject;
+use example_raft::{Eager, Hasty, Sound};
+use sim_cli::{Only, With};
 use sim_program::run;
 use std::process::ExitCode;
 
-struct Counting;
-
-impl Subject for Counting {
-    type Node = Counter<Tally>;
-
-    type Msg = Message;
-
-    type Undo = Role;
-
-    ghost protocol = { record { name = codes "counter"; least_servers = 1 } };
-
-    ghost probes = { codes "next" ∷ codes "count" ∷ [] };
-
-    fn name() -> &'static str {
-        "counter"
-    }
-
-    fn least_servers() -> usize {
-        1
-    }
-
-    fn probe_names() -> &'static [&'static str] {
-        &["next", "count"]
-    }
-}
+type RaftVariants = With<RaftSubject<Sound>, With<RaftSubject<Eager>, Only<RaftSubject<Hasty>>>>;
 
 fn main(rt: HostRuntime) -> ExitCode {
-    ExitCode::from(run::<Only<Counting>, _>(&rt))
+    ExitCode::from(run::<With<Counting, RaftVariants>, _>(&rt))
 }

@@ -3,9 +3,9 @@ ghost use Rattle.std.specs.Prelude.{codes, [], ◌∷◌};
 
 use super::ports::{Narrow, Pieces, Quiet};
 use super::scenes::{HEAD, play_shipped};
+use example_counter::{Counter, Message, Role};
 use sim_cli::{EchoSubject, Only, Status, Subject, Tally, With, play};
-use sim_node::Node;
-use sim_protocols::Echo;
+use std::alloc::Global;
 use std::process::Abort;
 use std::test::Fail;
 
@@ -310,22 +310,22 @@ fn reads_no_more_than_a_bad_scenario(rt: HostRuntime) -> Result<(), Fail> {
     Ok(())
 }
 
-/// A variant of echo, with a name and names of probes of its own.
-struct Pings;
+/// The counter of `example_counter`, as a program of one's own plays it.
+struct Counting;
 
-impl Subject for Pings {
-    type Node = Echo<Tally>;
+impl Subject for Counting {
+    type Node = Counter<Tally>;
 
-    type Msg = <Echo<Tally> as Node>::Msg;
+    type Msg = Message;
 
-    type Undo = <Echo<Tally> as Node>::Undo;
+    type Undo = Role;
 
-    ghost protocol = { record { name = codes "pings"; least_servers = 1 } };
+    ghost protocol = { record { name = codes "counter"; least_servers = 1 } };
 
-    ghost probes = { codes "pings" ∷ [] };
+    ghost probes = { codes "next" ∷ codes "count" ∷ [] };
 
     fn name() -> &'static str {
-        "pings"
+        "counter"
     }
 
     fn least_servers() -> usize {
@@ -333,39 +333,96 @@ impl Subject for Pings {
     }
 
     fn probe_names() -> &'static [&'static str] {
-        &["pings"]
+        &["next", "count"]
     }
 }
 
-/// The scenario of `HEAD`, for another protocol than echo.
-const PINGS_HEAD: &str =
-    "format = 1\nseed = \"0000000000000000000000000000000000000000000000000000000000000000\"\nprotocol = \"pings\"\ntick = 100\nlatency_min = 10\nlatency_max = 10\nloss = 0\nservers = [\"a\"]\ncheckpoint = 4\nwindow = 2\n[[client]]\nname = \"w\"\nops = 2\n---\n";
+/// The example `counted-twice`.
+const COUNTED_TWICE: &str =
+    r#"# The counter of docs/NODES.md, for `example_play`: a server a and two clients. Every message takes 10 ms, and a sync 5 ms.
+# A crash of a after its write and before its answer: the client asks again, and its operation is counted twice.
+format = 2
+seed = "000102030405060708090a0b0c0d0e0f101112131415161718191a1b1c1d1e1f"
+protocol = "counter"
+tick = 1000
+latency_min = 10
+latency_max = 10
+loss = 0
+disk_latency = 5
+servers = ["a"]
+checkpoint = 4
+window = 8
+[[client]]
+name = "w"
+ops = 2
+[[client]]
+name = "x"
+ops = 1
+---
+# Until all clients have counted.
+tick
+look probe a count
+look probe w next
+# Back to where the server has written a count that is not stable yet.
+goto 5
+look probe a count
+look host a
+# On a branch it crashes before it can answer. The disk keeps the write, and the client asks again: it is counted twice.
+branch 5
+@1 crash a
+@1 bounce a
+@1 look probe a count
+@1 tick
+@1 look probe a count
+# Here nothing has happened.
+look probe a count
+forward 12
+look probe a count
+"#;
+
+const COUNTED_ANSWERS: &str = r#"place 17 clock 1000 all done
+a count 3
+w next 3
+place 5 clock 10
+a count 1
+a up done no draws 3 stable 0 unsynced 1
+made 1
+place 6 clock 10
+place 7 clock 10
+a count 1
+place 20 clock 1010
+a count 4
+a count 1
+place 17 clock 1000
+a count 3
+"#;
+
+/// Returns the status of a play over echo and the counter, if it writes exactly this.
+fn status_of_own(alloc: Global, head: &str, script: &[u8], want: &str) -> Option<Status> {
+    let mut reader = Pieces::new(head.as_bytes(), script);
+    let mut writer = Narrow::new(want);
+    let status = play::<With<EchoSubject, Only<Counting>>, _, _, _>(
+        &Quiet,
+        alloc,
+        &mut reader,
+        &mut writer,
+    );
+    writer.is_short_by(0).then_some(status)
+}
 
 #[test]
 fn plays_subjects_of_ones_own(rt: HostRuntime) {
-    let script = b"step\nlook probe w pings\n".as_slice();
-    for (head, want, status) in [
-        (PINGS_HEAD, "place 1 clock 0\nw pings 0\n", Status::Well),
-        (
-            HEAD,
-            "place 1 clock 0\nrefused 11 BadCondition\n",
-            Status::Well,
-        ),
-        (
-            DISKS_HEAD,
-            "scenario fault 7 protocol\n",
-            Status::BadScenario,
-        ),
-    ] {
-        let mut reader = Pieces::new(head.as_bytes(), script);
-        let mut writer = Narrow::new(want);
-        let ended = play::<With<EchoSubject, Only<Pings>>, _, _, _>(
-            &Quiet,
-            rt.alloc(),
-            &mut reader,
-            &mut writer,
-        );
-        assert_eq!(rt; ended, status, "{want}");
-        assert!(rt; writer.is_short_by(0), "{want}");
-    }
+    let alloc = rt.alloc();
+    let counted = status_of_own(alloc, COUNTED_TWICE, b"", COUNTED_ANSWERS);
+    assert!(rt; counted == Some(Status::Well));
+
+    let script = b"step\nlook probe w count\n".as_slice();
+    let want = "place 1 clock 0\nrefused 11 BadCondition\n";
+    assert!(rt;
+        status_of_own(alloc, HEAD, script, want) == Some(Status::Well),
+        "of echo"
+    );
+    let want = "scenario fault 7 protocol\n";
+    let unknown = status_of_own(alloc, DISKS_HEAD, script, want);
+    assert!(rt; unknown == Some(Status::BadScenario));
 }
