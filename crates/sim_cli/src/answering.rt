@@ -67,7 +67,7 @@ fn answer_line<N: Node, W: Write>(
     book: &mut Book<N>,
     names: &Names,
     line: &[u8],
-    text: &mut String,
+    text: &mut Vec<u8>,
     outlet: &mut Outlet,
     writer: &mut W,
 ) -> Answered
@@ -82,7 +82,7 @@ fn answer_line<N: Node, W: Write>(
         ScriptLine::Asked(ask) => {
             let turn = turn_of(alloc, book, ask);
             match tell_turn(alloc, text, names, &turn) {
-                Ok(()) => hand(outlet, writer, text.as_bytes()),
+                Ok(()) => hand(outlet, writer, text.as_slice()),
                 Err(_) => Answered::MemoryWanted,
             }
         }
@@ -127,7 +127,7 @@ pub fn answer_lines<N: Node, R: Read, W: Write>(
         (R.remaining reader.new) }
 {
     let mut line = Vec::new(alloc);
-    let mut text = String::new(alloc);
+    let mut text = Vec::new(alloc);
     let mut outlet = Outlet::new(alloc);
     loop {
         match flush_before_read(ahead, &mut outlet, writer) {

@@ -41,7 +41,7 @@ fn answer_asked<N: Node, W: Write>(
     book: &mut Book<N>,
     names: &Names,
     ask: Ask<'_>,
-    text: &mut String,
+    text: &mut Vec<u8>,
     outlet: &mut Outlet,
     writer: &mut W,
 ) -> Result<(), Halt>
@@ -59,7 +59,7 @@ fn answer_asked<N: Node, W: Write>(
         Ok(()) => {}
         Err(_) => return Err(Halt::MemoryWanted),
     }
-    match outlet.hand_over(writer, text.as_bytes()) {
+    match outlet.hand_over(writer, text.as_slice()) {
         Ok(()) => {}
         Err(_) => return Err(Halt::WriterFailed),
     }
@@ -75,7 +75,7 @@ fn answer_strictly<N: Node, W: Write>(
     book: &mut Book<N>,
     names: &Names,
     line: &[u8],
-    text: &mut String,
+    text: &mut Vec<u8>,
     outlet: &mut Outlet,
     writer: &mut W,
 ) -> Result<(), Halt>
@@ -141,7 +141,7 @@ pub fn answer_lines_strictly<N: Node, R: Read, W: Write>(
         (R.remaining reader.old) (R.remaining reader.new) }
 {
     let mut line = Vec::new(alloc);
-    let mut text = String::new(alloc);
+    let mut text = Vec::new(alloc);
     let mut outlet = Outlet::new(alloc);
     let mut number: u64 = 0;
     loop {

@@ -3,7 +3,6 @@ ghost use Rattle.std.specs.Prelude.{◌≡◌, ◌+◌, ◌≤◌, ◌++◌, len
 
 use itoa::write_digits;
 use std::marker::Model;
-use std::str;
 
 /// The greatest length of the text (bytes): seven numbers of up to 20 digits, and their words.
 const ROOM: usize = 192;
@@ -16,14 +15,14 @@ pub struct Ending {
 }
 
 impl Model for Ending {
-    ghost use Rattle.std.specs.Prelude.{◌≤◌, drop, IsUtf8};
+    ghost use Rattle.std.specs.Prelude.{◌≤◌, drop};
     ghost use Rattle.sim_replies.specs.Ending.{Ending as Text};
 
     ghost Value = { Text };
 
     ghost view = { λ e. record { text = drop e.start e.bytes; room = e.start } };
 
-    ghost invariant = { λ e. (e.start ≤ 192) × ∥ IsUtf8 (drop e.start e.bytes) ∥₁ };
+    ghost invariant = { λ e. e.start ≤ 192 };
 }
 
 impl Ending {
@@ -75,9 +74,9 @@ impl Ending {
 
     /// Returns the text.
     #[inline(always)]
-    pub fn as_str(&self) -> &str
+    pub fn as_bytes(&self) -> &[u8]
         ensures { result.now ≡ self.now.text }
     {
-        str::from_utf8(&self.bytes[self.start..]).unwrap()
+        &self.bytes[self.start..]
     }
 }

@@ -2,7 +2,7 @@
 //! trace.
 //!
 //! [`tell_turn`] is the one public call. It takes the result of a turn and the names of hosts and
-//! probes, and writes the line into a text that the caller reuses. In a long play no common line
+//! probes, and writes the line into bytes that the caller reuses. In a long play no common line
 //! allocates.
 //!
 //! The contract says that the line is the one of the definitions in `specs/Lines.antt`, for every
@@ -16,10 +16,11 @@
 //!   no bound, so they go into the text directly, before the part that follows them.
 //! - The words for a refusal, a stop or a state are functions. The types belong to the book and to
 //!   the world, and an `impl Display` for another crate's type is not allowed.
-//! - The bytes of a line become text by a UTF-8 check that is proved never to fail. Without
-//!   `unsafe` there is no other way from bytes to a text.
+//! - A line is bytes and no `String`. They go to a writer, and without `unsafe` only a UTF-8 check
+//!   leads from bytes to a `String`, which would take a twentieth of the instructions of a short
+//!   line.
 //! - Only the line of `trace` allocates for each event. If that is refused, the contract says
-//!   nothing about the text, and the caller gets the error.
+//!   nothing about the bytes, and the caller gets the error.
 #![tactic(auto)]
 
 mod ending;

@@ -1,5 +1,5 @@
 //! The lines that answer turns.
-ghost use Rattle.std.specs.Prelude.{◌≡◌, ℕ, ◌+◌, ◌≤◌, List, ◌∷◌, ◌++◌, OnOk, string_bytes};
+ghost use Rattle.std.specs.Prelude.{◌≡◌, ℕ, ◌+◌, ◌≤◌, List, ◌∷◌, ◌++◌, OnOk};
 ghost use Rattle.sim_replies.specs.Lines.{line, move_words, reply_words, spaced, stop_words};
 ghost use Rattle.sim_replies.specs.Lines.{turn_line};
 
@@ -42,12 +42,12 @@ fn put_move(end: &mut Ending, place: u32, clock: u64, stop: Stop)
 /// Adds the line that answers a command on a branch.
 fn tell_reply(
     alloc: Global,
-    text: &mut String,
+    text: &mut Vec<u8>,
     names: &Names,
     branch: u32,
     reply: &Reply,
 ) -> Result<(), AllocError>
-    ensures { OnOk result (string_bytes text.new ≡ string_bytes text.old
+    ensures { OnOk result (text.new.items ≡ text.old.items
         ++ line (reply_words names.now branch reply.now)) }
 {
     let mut end = Ending::of("\n");
@@ -62,7 +62,7 @@ fn tell_reply(
             end.put("refused ");
         }
     }
-    text.push_str(end.as_str())
+    text.extend_from_slice(end.as_bytes())
 }
 
 /// Writes the line that answers a turn, in place of `text`. Takes memory only if `text` has too
@@ -70,18 +70,18 @@ fn tell_reply(
 /// content of `text` is unspecified.
 pub fn tell_turn(
     alloc: Global,
-    text: &mut String,
+    text: &mut Vec<u8>,
     names: &Names,
     turn: &Result<Entry, NotTaken>,
 ) -> Result<(), AllocError>
-    ensures { OnOk result (string_bytes text.new ≡ turn_line names.now turn.now) }
+    ensures { OnOk result (text.new.items ≡ turn_line names.now turn.now) }
 {
     text.clear();
     match turn {
         Ok(entry) => tell_reply(alloc, text, names, entry.command.branch(), &entry.reply),
         Err(why) => {
-            text.push_str(not_taken_name(*why))?;
-            text.push('\n')
+            text.extend_from_slice(not_taken_name(*why).as_bytes())?;
+            text.extend_from_slice(b"\n")
         }
     }
 }

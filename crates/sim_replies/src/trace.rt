@@ -1,5 +1,5 @@
 //! The kept events of a branch as JSON.
-ghost use Rattle.std.specs.Prelude.{◌≡◌, ◌++◌, IfOk, OnOk, map, string_bytes};
+ghost use Rattle.std.specs.Prelude.{◌≡◌, ◌++◌, IfOk, OnOk, map};
 ghost use Rattle.serde_json.specs.View.{view};
 ghost use Rattle.sim_replies.specs.Trace.{event_value as value_of, trace_value as branch_value};
 ghost use Rattle.sim_replies.specs.Trace.{trace_words};
@@ -40,14 +40,14 @@ fn trace_value(
 #[tactic(auto, unfolding(crate::specs::Trace::trace_words))]
 pub fn tell_trace(
     alloc: Global,
-    text: &mut String,
+    text: &mut Vec<u8>,
     names: &Names,
     branch: u32,
     events: &EventList,
 ) -> Result<(), AllocError>
-    ensures { OnOk result (string_bytes text.new ≡ string_bytes text.old
+    ensures { OnOk result (text.new.items ≡ text.old.items
         ++ trace_words names.now branch events.now) }
 {
     let trace = trace_value(alloc, names, branch, events)?.to_string(alloc)?;
-    text.push_str(trace.as_str())
+    text.extend_from_slice(trace.as_bytes())
 }

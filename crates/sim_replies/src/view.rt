@@ -1,6 +1,5 @@
 //! A view of a place, in words.
 ghost use Rattle.std.specs.Prelude.{◌≡◌, ℕ, ◌+◌, ◌≤◌, List, [], ◌∷◌, ◌++◌, codes, OnOk};
-ghost use Rattle.std.specs.Prelude.{string_bytes};
 ghost use Rattle.sim_replies.specs.Lines.{field, next_words, spaced, up_word, value_word};
 ghost use Rattle.sim_replies.specs.Lines.{view_words, yes_word};
 
@@ -13,13 +12,13 @@ use std::alloc::AllocError;
 /// Writes the first pending occurrence, or that there is none: adds names to `text`, and puts the
 /// words after them before `end`.
 fn tell_next(
-    text: &mut String,
+    text: &mut Vec<u8>,
     end: &mut Ending,
     names: &Names,
     next: Option<Coming>,
 ) -> Result<(), AllocError>
     requires { 191 ≤ end.old.room }
-    ensures { OnOk result (string_bytes text.new ++ end.new.text ≡ string_bytes text.old
+    ensures { OnOk result (text.new.items ++ end.new.text ≡ text.old.items
         ++ (next_words names.now next ++ end.old.text)) }
 {
     match next {
@@ -31,10 +30,10 @@ fn tell_next(
             let mut front = Ending::of(" host ");
             front.put_field(" serial ", coming.serial);
             front.put_field("due ", coming.due);
-            text.push_str(front.as_str())?;
+            text.extend_from_slice(front.as_bytes())?;
             end.put(kind_name(coming.kind));
             end.put(" ");
-            text.push_str(names.host_name(coming.host))
+            text.extend_from_slice(names.host_name(coming.host).as_bytes())
         }
     }
 }
@@ -95,25 +94,25 @@ fn put_host(end: &mut Ending, up: bool, done: bool, draws: u64, stable: u32, uns
 }
 
 /// Adds two names to a text, with a space after the first.
-fn add_names(text: &mut String, first: &str, second: &str) -> Result<(), AllocError>
-    ensures { OnOk result (string_bytes text.new ≡ string_bytes text.old
+fn add_names(text: &mut Vec<u8>, first: &str, second: &str) -> Result<(), AllocError>
+    ensures { OnOk result (text.new.items ≡ text.old.items
         ++ spaced (first.now ∷ second.now ∷ [])) }
 {
-    text.push_str(first)?;
-    text.push(' ')?;
-    text.push_str(second)
+    text.extend_from_slice(first.as_bytes())?;
+    text.push(b' ')?;
+    text.extend_from_slice(second.as_bytes())
 }
 
 /// Writes the view of a place: adds names to `text`, and puts the words after them before `end`.
 pub fn tell_view(
-    text: &mut String,
+    text: &mut Vec<u8>,
     end: &mut Ending,
     names: &Names,
     place: u32,
     view: View,
 ) -> Result<(), AllocError>
     requires { 191 ≤ end.old.room }
-    ensures { OnOk result (string_bytes text.new ++ end.new.text ≡ string_bytes text.old
+    ensures { OnOk result (text.new.items ++ end.new.text ≡ text.old.items
         ++ (view_words names.now place view ++ end.old.text)) }
 {
     match view {
@@ -144,7 +143,7 @@ pub fn tell_view(
             unsynced,
         } => {
             put_host(end, up, done, draws, stable, unsynced);
-            text.push_str(names.host_name(host))
+            text.extend_from_slice(names.host_name(host).as_bytes())
         }
         View::Link {
             a,

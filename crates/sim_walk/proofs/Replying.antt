@@ -1,5 +1,5 @@
 -- The answer to an order, by what was done for it.
-use Rattle.std.specs.Prelude.{◌≡◌, ℕ, Result, Ok, string_bytes}
+use Rattle.std.specs.Prelude.{◌≡◌, ℕ, Result, Ok}
 use Rattle.std.proofs.Common.{subst}
 use Rattle.sim_node.specs.Node.{NodeLaws}
 use Rattle.sim_events.specs.Scenario.{Scenario}
@@ -21,7 +21,7 @@ use Rattle.sim_walk.specs.Walks.{TakesTurn}
 pub answered : {State Msg E : Type 0} (node : NodeLaws State Msg) (probes : ℕ) (names : Names) (old new : BookView) (asked : Command) (b n : ℕ)
     (turn : Result Entry NotTaken) (a : Answer) → new.scenario ≡ old.scenario → b ≡ branch_of asked
     → n ≡ (branch b (all_shown old.kept)).place → Takes (rules node probes old.scenario) (course_of old) asked turn (course_of new)
-    → string_bytes a.reply ≡ turn_line names turn
+    → a.reply.items ≡ turn_line names turn
     → Accounts (rules node probes new.scenario) n (branch b (all_shown new.kept)).events turn a.account.told.items
     → TakesTurn (rules node probes old.scenario) names {E = E} (course_of old) asked (Ok a) (course_of new)
 answered node probes names old new asked b n turn a same of place t reply told =

@@ -30,7 +30,7 @@ account_text a = string_bytes a.lead ++ a.told.items ++ string_bytes a.said
 
 -- the output for an answer
 abbrev pub text_of : Answer → Text
-text_of a = string_bytes a.reply ++ account_text a.account
+text_of a = a.reply.items ++ account_text a.account
 
 -- the output for an order, with memory for an answer or without
 abbrev pub text_by : {E : Type 0} → Result Answer E → Text
@@ -45,14 +45,14 @@ module _ {State Msg : Type 0} (r : Rules State Msg) (names : Names) where
       (new : Course) : Type 0 where
     pub turn : Result Entry NotTaken
     pub takes : Takes r old asked turn new
-    pub told : IfOk answer (λ a. (string_bytes a.reply ≡ turn_line names turn)
+    pub told : IfOk answer (λ a. (a.reply.items ≡ turn_line names turn)
         × Accounts r (branch (branch_of asked) old.branches).place
         (branch (branch_of asked) new.branches).events
         turn a.account.told.items)
 
   -- the book is as before, and there is no reply
   abbrev pub Stays : {E : Type 0} → Course → Result Answer E → Course → Type 0
-  Stays old answer new = (new ≡ old) × IfOk answer (λ a. string_bytes a.reply ≡ [])
+  Stays old answer new = (new ≡ old) × IfOk answer (λ a. a.reply.items ≡ [])
 
   -- A line of a script is a turn of the book. A place that is sought is found, and the branch goes
   -- there by a turn, or there is none. Nothing else changes the book.

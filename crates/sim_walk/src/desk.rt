@@ -1,5 +1,5 @@
 //! Answers an order, and carries it out on the book.
-ghost use Rattle.std.specs.Prelude.{◌≡◌, ◌≤◌, [], length, IfOk, string_bytes};
+ghost use Rattle.std.specs.Prelude.{◌≡◌, ◌≤◌, [], length, IfOk};
 ghost use Rattle.sim_world.specs.Events.{rules};
 ghost use Rattle.sim_book.specs.Book.{branch as branch_in};
 ghost use Rattle.sim_watch.specs.Commands.{branch_of};
@@ -30,16 +30,16 @@ const SESSION: u8 = 0;
 /// account.
 #[derive(Drop)]
 pub(crate) struct Answer {
-    pub(crate) reply: String,
+    pub(crate) reply: Vec<u8>,
     pub(crate) account: Account,
 }
 
 impl Answer {
     // Returns an answer of words alone.
     fn of_words(alloc: Global, said: String) -> Answer
-        ensures reply { string_bytes result.reply ≡ [] }
+        ensures reply { result.reply.items ≡ [] }
     {
-        let reply = String::new(alloc);
+        let reply = Vec::new(alloc);
         let account = Account::of_words(alloc, said);
         Answer { reply, account }
     }
@@ -156,7 +156,7 @@ impl Desk<'_> {
 
     // Returns the answer if no place was found.
     fn answer_nowhere(&self, probes: u8, error: SeekError) -> Result<Answer, NoMemory>
-        ensures { IfOk result (λ a. string_bytes a.reply ≡ []) }
+        ensures { IfOk result (λ a. a.reply.items ≡ []) }
     {
         let mut said = String::new(self.alloc);
         match error {
@@ -168,11 +168,11 @@ impl Desk<'_> {
     }
 
     // Returns the line that replies to a turn.
-    fn reply_to(&self, turn: &Result<Entry, NotTaken>) -> Result<String, NoMemory>
-        ensures { IfOk result (λ reply. string_bytes reply
+    fn reply_to(&self, turn: &Result<Entry, NotTaken>) -> Result<Vec<u8>, NoMemory>
+        ensures { IfOk result (λ reply. reply.items
             ≡ turn_line self.now.opened.now.names turn.now) }
     {
-        let mut reply = String::new(self.alloc);
+        let mut reply = Vec::new(self.alloc);
         tell_turn(self.alloc, &mut reply, &self.opened.names, turn)?;
         Ok(reply)
     }
@@ -370,7 +370,7 @@ impl Desk<'_> {
     ) -> Result<Answer, NoMemory>
     where
         N::Msg: Debug,
-        ensures { IfOk result (λ a. string_bytes a.reply ≡ []) }
+        ensures { IfOk result (λ a. a.reply.items ≡ []) }
     {
         let mut said = String::new(self.alloc);
         match shown {
@@ -386,7 +386,7 @@ impl Desk<'_> {
         book: &Book<N>,
         branch: u32,
     ) -> Result<Answer, NoMemory>
-        ensures { IfOk result (λ a. string_bytes a.reply ≡ []) }
+        ensures { IfOk result (λ a. a.reply.items ≡ []) }
     {
         let mut said = String::new(self.alloc);
         match whereabouts(self.alloc, book, branch)? {

@@ -1,5 +1,5 @@
 //! Reads a scenario and a script, and then answers commands one after the other.
-ghost use Rattle.std.specs.Prelude.{◌≡◌, ◌<◌, ◌≤◌, ◌++◌, ℕ, List, Some, length, string_bytes};
+ghost use Rattle.std.specs.Prelude.{◌≡◌, ◌<◌, ◌≤◌, ◌++◌, ℕ, List, Some, length};
 ghost use Rattle.std.specs.Io.KnownBytes.{Appends};
 ghost use Rattle.sim_world.specs.Events.{rules};
 ghost use Rattle.sim_lines.specs.Waiting.{budget};
@@ -210,7 +210,7 @@ fn write_answer<W: Write>(answer: &Answer, writer: &mut W) -> Turned
     ensures on { result ≡ Turned.On → Appends (W.contents writer.old) (W.contents writer.new)
         (text_of answer.now) }
 {
-    match say(writer, answer.reply.as_bytes()) {
+    match say(writer, answer.reply.as_slice()) {
         Turned::On => write_account(&answer.account, writer),
         Turned::Ended(status) => Turned::Ended(status),
     }

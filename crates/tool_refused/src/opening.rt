@@ -1,12 +1,16 @@
 //! The scenario, the script, and the names of both.
 use crate::Trouble;
 use sim_book::{Command, Entry, NotTaken, Refusal, Reply};
-use sim_cli::{Shipped, Subjects, Tally, WasRead, read_scenario, set_up};
+use sim_cli::{BackupSubject, Only, Subjects, Tally, WasRead, read_scenario, set_up};
 use sim_protocols::PrimaryBackup;
 use sim_replies::tell_turn;
 use sim_script::{Names, ScriptLine, line_of};
 use sim_world::Scenario;
 use std::alloc::Global;
+use std::str;
+
+// The protocols that the scenario may name. The prover takes longer for a longer list.
+type Listed = Only<BackupSubject>;
 
 /// The nodes of the run.
 pub type Nodes = PrimaryBackup<Tally>;
@@ -80,9 +84,9 @@ trace
 
 /// Returns the scenario and the names.
 pub fn opening(alloc: Global) -> Result<(Scenario, Names), Trouble> {
-    match read_scenario::<Shipped>(alloc, SCENARIO.as_bytes()) {
+    match read_scenario::<Listed>(alloc, SCENARIO.as_bytes()) {
         WasRead::Scenario(text) => {
-            let probes = Shipped::probe_names(alloc, text.protocol)?;
+            let probes = Listed::probe_names(alloc, text.protocol)?;
             Ok(set_up(text, probes))
         }
         WasRead::Fault(_) => Err(Trouble::Wrong),
@@ -113,8 +117,10 @@ pub fn tell(
     names: &Names,
     turn: &Result<Entry, NotTaken>,
 ) -> Result<(), Trouble> {
-    let mut line = String::new(alloc);
+    let mut line = Vec::new(alloc);
     tell_turn(alloc, &mut line, names, turn)?;
-    text.push_str(line.as_str())?;
-    Ok(())
+    match str::from_utf8(line.as_slice()) {
+        Ok(line) => Ok(text.push_str(line)?),
+        Err(_) => Err(Trouble::Wrong),
+    }
 }

@@ -7,4 +7,4 @@ returns-in-Bad-clause-answers g c = bad_answer _ _ _ _ _ _ _ _ _ _ c.in-Bad.ensu
 
 pub returns-in-Ok-clause-answers : goal.returns-in-Ok-clause-answers
 returns-in-Ok-clause-answers g c =
-    turn_answer _ _ _ _ _ c.in-Asked.ask c.turn_of-turn.result _ _ _ _ _ _ c.in-Asked.ensures c.turn_of-turn.ensures.takes (c.as_bytes.ensures.value ∙ c.in-Ok.ensures) c.hand-in-Ok.ensures
+    turn_answer _ _ _ _ _ c.in-Asked.ask c.turn_of-turn.result _ _ _ _ _ _ c.in-Asked.ensures c.turn_of-turn.ensures.takes (c.as_slice.ensures.value ∙ c.in-Ok.ensures) c.hand-in-Ok.ensures

@@ -12,5 +12,5 @@ returns c =
     let plain = ap has_float value_is ∙ is_plain c.args.names.now c.args.branch c.args.events.now in
     let text_is : string_bytes c.in_ok-trace.trace ≡ compact_text (view c.in_ok-trace_value.field-0) = c.in_ok-trace.ensures.text plain in
     let words_are : string_bytes c.in_ok-trace.trace ≡ trace_words c.args.names.now c.args.branch c.args.events.now = text_is ∙ ap compact_text value_is in
-    let pushed : OnOk c.push_str.result (string_bytes c.push_str.new.self ≡ string_bytes c.args.text.now ++ string_bytes c.in_ok-trace.trace) = search rules in
+    let pushed : OnOk c.extend_from_slice.result (c.extend_from_slice.new.self.items ≡ c.args.text.now.items ++ string_bytes c.in_ok-trace.trace) = search rules in
     rw words_are at pushed

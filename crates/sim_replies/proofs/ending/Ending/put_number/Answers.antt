@@ -1,6 +1,5 @@
 use Rattle.std.proofs.Common.{rules, arith, ap, ◌≡◌, ℕ, ◌^◌, ◌<◌, ◌≤◌, length, decimal}
-use Rattle.std.proofs.lemmas.Fmt.{length-decimal-le, IsAscii-decimal}
-use Rattle.std.proofs.lemmas.Str.{IsUtf8-had, IsUtf8-append, IsUtf8-from_ascii}
+use Rattle.std.proofs.lemmas.Fmt.{length-decimal-le}
 use Rattle.sim_replies.proofs.ending.Ending.put_number.Goals as goal
 
 few_digits : (n : ℕ) → n < 2 ^ 64 → length (decimal n) ≤ 20
@@ -10,10 +9,7 @@ pub write_digits-self-inside-requires : goal.write_digits-self-inside-requires
 write_digits-self-inside-requires c = search (rules, length-decimal-le 20)
 
 pub invariant_of-self : goal.invariant_of-self
-invariant_of-self c =
-    let digits = IsUtf8-from_ascii _ (IsAscii-decimal c.args.number c.ranges.number.fits) in
-    let is_utf8 = IsUtf8-append _ _ digits (IsUtf8-had _ c.self.invariant.1) in
-    (omega (arith, c.write_digits-self-inside.ensures.start, c.self.invariant.0), ∣ rw c.write_digits-self-inside.ensures.written is_utf8 ∣₁)
+invariant_of-self c = omega (arith, c.write_digits-self-inside.ensures.start, c.self.invariant)
 
 pub returns-clause-room : goal.returns-clause-room
 returns-clause-room c =
