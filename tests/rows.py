@@ -10,7 +10,8 @@ whose texts are long, of a shrunk run, which has more than one right answer, and
 line, which is no job.
 
 A case begins with `^`, its number and the exit status. The words of the command line follow, one on
-a line, then `~` and the input, then `~` and the output.
+a line, then `~` and the input, then `~` and the output. In the file it is one line, since the gate
+reserves memory by lines: with all lines of the cases, `test_program` kept the programs waiting.
 """
 
 import pathlib
@@ -37,7 +38,7 @@ MOST_COLUMNS = 90
 HEAD = """\
 // Random cases with the outputs of a plain simulator. tests/rows.py writes this file, and says
 // how a case is laid out.
-pub const {name}: &str = r#"\
+pub const {name}: &str = "\\
 """
 
 
@@ -78,6 +79,12 @@ def is_short(case, most_lines):
         and all(32 <= byte < 127 for byte in line) for line in lines) and row(case).count("~") == 2
 
 
+def literal(text):
+    """Returns the line of a string literal for a text."""
+    escaped = text.replace("\\", "\\\\").replace('"', '\\"').replace("\n", "\\n")
+    return escaped + "\\\n"
+
+
 def row(case):
     """Returns the text of a case."""
     output, status = case.expected()
@@ -90,7 +97,8 @@ def main():
     status = 0
     for name, counts in FILES.items():
         file = FOLDER / f"{name}.rt"
-        text = HEAD.format(name=name.upper()) + "".join(map(row, chosen(name, counts))) + '"#;\n'
+        rows = "".join(literal(row(it)) for it in chosen(name, counts))
+        text = HEAD.format(name=name.upper()) + rows + '";\n'
         if sys.argv[1:] != ["--check"]:
             FOLDER.mkdir(parents=True, exist_ok=True)
             file.write_text(text)

@@ -272,11 +272,22 @@ fn wants_bodies(alloc: Global, queue: &Queue<char>) -> Result<bool, NoMemory> {
     )
 }
 
-// Returns whether a copy of a queue, and its copy that was packed and opened, have the four items.
-fn is_copied(alloc: Global) -> Result<bool, NoMemory> {
-    let mut copy = four(alloc)?.copy(alloc, same)?;
-    let mut opened = copy.pack(alloc, same)?.open(alloc, same)?;
-    Ok(all_go(&mut copy, &HAS_FOUR)? && all_go(&mut opened, &HAS_FOUR)?)
+// Makes a copy of a queue of the four items.
+fn copied(alloc: Global) -> Result<Queue<char>, NoMemory> {
+    let queue = four(alloc)?;
+    queue.copy(alloc, same)
+}
+
+// Packs a queue of the four items, and opens it.
+fn opened(alloc: Global) -> Result<Queue<char>, NoMemory> {
+    let queue = four(alloc)?;
+    let packed = queue.pack(alloc, same)?;
+    packed.open(alloc, same)
+}
+
+// Returns whether exactly the four items are pending.
+fn has_four(mut queue: Queue<char>) -> Result<bool, NoMemory> {
+    all_go(&mut queue, &HAS_FOUR)
 }
 
 // Returns the number of items of a queue from which one is taken, and of its copy made before.
@@ -289,7 +300,8 @@ fn left_in_copy(alloc: Global) -> Result<(usize, usize), NoMemory> {
 
 #[test]
 fn copies_are_apart(rt: HostRuntime) -> Result<(), Fail> {
-    assert!(rt; is_copied(rt.alloc())?);
+    assert!(rt; has_four(copied(rt.alloc())?)?);
+    assert!(rt; has_four(opened(rt.alloc())?)?);
     assert_eq!(rt; left_in_copy(rt.alloc())?, (3, 4));
     assert!(rt; wants_bodies(rt.alloc(), &four(rt.alloc())?)?);
     Ok(())

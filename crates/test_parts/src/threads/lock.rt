@@ -241,21 +241,21 @@ const STEPS: [Ask; 12] = [
     Ask::Look,
 ];
 
+// Returns whether the receipts of these steps and looks have the places after them.
+fn are_steps(receipts: &[Note]) -> bool {
+    let places = [1, 1, 2, 2, 3, 3, 4, 4, 5, 5, 6, 6];
+    receipts
+        .iter()
+        .map(|e| e.place)
+        .eq(places.iter().map(|p| Some(*p)))
+}
+
 #[test]
 fn two_sessions(rt: HostRuntime) -> Result<(), Fail> {
     let (history, zeros, ones) = ask_both(&rt, rt.alloc(), &STEPS, &[Ask::Look; 100])?;
-    assert_eq!(rt; history.entries.len(), 112);
-    assert_eq!(rt; zeros.len(), 12);
-    assert_eq!(rt; ones.len(), 100);
-    let places = [1, 1, 2, 2, 3, 3, 4, 4, 5, 5, 6, 6];
-    assert!(rt;
-        zeros
-            .iter()
-            .map(|e| e.place)
-            .eq(places.iter().map(|p| Some(*p)))
-    );
-    assert!(rt; find_all(&history, &zeros));
-    assert!(rt; find_all(&history, &ones));
+    let is_all = history.entries.len() == 112 && zeros.len() == 12 && ones.len() == 100;
+    let are_found = find_all(&history, &zeros) && find_all(&history, &ones);
+    assert!(rt; is_all && are_found && are_steps(&zeros));
     Ok(())
 }
 
@@ -267,18 +267,15 @@ fn a_frozen_place_is_that_of_its_receipt(rt: HostRuntime) -> Result<(), Fail> {
         unreachable!()
     };
     assert!(rt; lock.call(&rt, &mut seat, Ask::Step).is_ok());
-    match lock.freeze(&rt, &mut seat, 0) {
-        Ok((note, frozen)) => {
-            assert_eq!(rt; note.ask, Ask::Freeze(0));
-            assert_eq!(rt; note.number, 2);
-            assert_eq!(rt; frozen, Some(1));
-        }
-        Err(_) => assert!(rt; false),
-    }
-    match lock.freeze(&rt, &mut seat, 1) {
-        Ok((_, frozen)) => assert_eq!(rt; frozen, None),
-        Err(_) => assert!(rt; false),
-    }
+    let told = match lock.freeze(&rt, &mut seat, 0) {
+        Ok((note, frozen)) => (note.ask, note.number) == (Ask::Freeze(0), 2) && frozen == Some(1),
+        Err(_) => false,
+    };
+    let is_none = match lock.freeze(&rt, &mut seat, 1) {
+        Ok((_, frozen)) => frozen.is_none(),
+        Err(_) => false,
+    };
+    assert!(rt; told && is_none);
     Ok(())
 }
 
