@@ -1,5 +1,5 @@
 //! The bytes of a disk after writes, syncs and crashes, and after these are undone.
-ghost use Rattle.std.specs.Prelude.{◌≡◌, ◌+◌, ◌≤◌, length, IfOk, OnOk};
+ghost use Rattle.std.specs.Prelude.{◌≡◌, ◌+◌, ◌≤◌, ◌<◌, length, IfOk, OnOk};
 
 use sim_disk::{Disk, NoMemory, PackedDisks, SpareDisks, WriteFault};
 use std::alloc::Global;
@@ -222,19 +222,17 @@ fn sync_and_back(
     Ok(well)
 }
 
-// Returns whether a disk with two syncs in flight is as expected: after the first and its undo,
-// after both, and after a sync of no writes.
-fn synced(alloc: Global) -> Result<bool, NoMemory> {
-    let mut disk = zeros(alloc)?;
-    let mut spare = SpareDisks::new(alloc);
-    let first = write_and_ask(&mut disk, 0, 1)?;
-    let second = write_and_ask(&mut disk, 1, 2)?;
-    let one = sync_and_back(alloc, &mut disk, &mut spare, first, &[1, 0, 0, 0], 1)?;
-    let none = is(&disk, &[0; 4], 2);
-    disk.sync(alloc, first, &mut spare)?;
-    disk.sync(alloc, second, &mut spare)?;
-    disk.sync(alloc, 0, &mut spare)?;
-    Ok(one && none && is(&disk, &[1, 2, 0, 0], 0))
+// Returns whether a disk of four bytes with two syncs in flight is as expected: after the first and
+// its undo, after both, and after a sync of no writes.
+fn synced(alloc: Global, disk: &mut Disk, spare: &mut SpareDisks) -> Result<bool, NoMemory> {
+    let first = write_and_ask(disk, 0, 1)?;
+    let second = write_and_ask(disk, 1, 2)?;
+    let one = sync_and_back(alloc, disk, spare, first, &[1, 0, 0, 0], 1)?;
+    let none = is(disk, &[0; 4], 2);
+    disk.sync(alloc, first, spare)?;
+    disk.sync(alloc, second, spare)?;
+    disk.sync(alloc, 0, spare)?;
+    Ok(one && none && is(disk, &[1, 2, 0, 0], 0))
 }
 
 // Packs an empty disk and this one, side by side.
@@ -247,18 +245,40 @@ fn beside_an_empty_one(alloc: Global, disk: &Disk) -> Result<PackedDisks, NoMemo
     Ok(packed)
 }
 
-// Returns whether two disks that were packed side by side are unchanged.
-fn are_kept(alloc: Global) -> Result<bool, NoMemory> {
+// Makes a disk of four stable bytes, all 0, with two writes and a sync for each.
+fn two_asked(alloc: Global) -> Result<Disk, NoMemory> {
     let mut disk = zeros(alloc)?;
     write_and_ask(&mut disk, 0, 1)?;
     write_and_ask(&mut disk, 1, 2)?;
+    Ok(disk)
+}
+
+// Returns whether a packed disk is as expected.
+fn keeps(
+    alloc: Global,
+    packed: &PackedDisks,
+    place: usize,
+    stable: &[u8],
+    unsynced: u32,
+) -> Result<bool, NoMemory>
+    requires { place < length packed.now }
+{
+    let disk = packed.get(alloc, place)?;
+    Ok(is(&disk, stable, unsynced))
+}
+
+// Returns whether two disks that were packed side by side are unchanged.
+fn are_kept(alloc: Global) -> Result<bool, NoMemory> {
+    let disk = two_asked(alloc)?;
     let packed = beside_an_empty_one(alloc, &disk)?;
-    Ok(is(&packed.get(alloc, 0)?, &[], 0) && is(&packed.get(alloc, 1)?, &[0; 4], 2))
+    Ok(keeps(alloc, &packed, 0, &[], 0)? && keeps(alloc, &packed, 1, &[0; 4], 2)?)
 }
 
 #[test]
 fn syncs_and_copies(rt: HostRuntime) -> Result<(), Fail> {
-    assert!(rt; synced(rt.alloc())?);
+    let mut disk = zeros(rt.alloc())?;
+    let mut spare = SpareDisks::new(rt.alloc());
+    assert!(rt; synced(rt.alloc(), &mut disk, &mut spare)?);
     assert!(rt; are_kept(rt.alloc())?);
     Ok(())
 }

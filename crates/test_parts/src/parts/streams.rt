@@ -75,32 +75,39 @@ fn walked_back(rt: HostRuntime) {
     assert_eq!(rt; (there, copied, apart), (true, true, true));
 }
 
+// A seed, a stream, a place and the word there.
+const WORDS: [([u8; 32], u16, u32, u32); 15] = [
+    (ZEROS, 0, 15, 2254827186),
+    (ZEROS, 0, 16, 3202811807),
+    (ZEROS, 0, 63, 2115397425),
+    (ZEROS, 0, 64, 1955112677),
+    (ZEROS, 0, 127, 3682866966),
+    (ZEROS, 0, 128, 3575810076),
+    (ZEROS, 0, 1000, 3332873229),
+    (ZEROS, 1, 0, 3604955119),
+    (ZEROS, 1, 64, 4130098730),
+    (ZEROS, 33, 0, 812251106),
+    (ZEROS, 33, 16, 2248843165),
+    (COUNTED, 0, 0, 2100034873),
+    (COUNTED, 1, 15, 167380079),
+    (COUNTED, 2, 1, 400057676),
+    (COUNTED, 33, 1000, 1101781921),
+];
+
+// Returns the word of a stream at a place, which it draws after all before.
+fn word_at(seed: [u8; 32], stream: u16, place: u32) -> Option<u32> {
+    let mut streams = Streams::new(seed);
+    for _ in 0..place {
+        draw(&mut streams, stream);
+    }
+    draw(&mut streams, stream)
+}
+
 #[test]
 fn words_by_place(rt: HostRuntime) {
-    let rows = [
-        (ZEROS, 0, 15, 2254827186),
-        (ZEROS, 0, 16, 3202811807),
-        (ZEROS, 0, 63, 2115397425),
-        (ZEROS, 0, 64, 1955112677),
-        (ZEROS, 0, 127, 3682866966),
-        (ZEROS, 0, 128, 3575810076),
-        (ZEROS, 0, 1000, 3332873229),
-        (ZEROS, 1, 0, 3604955119),
-        (ZEROS, 1, 64, 4130098730),
-        (ZEROS, 33, 0, 812251106),
-        (ZEROS, 33, 16, 2248843165),
-        (COUNTED, 0, 0, 2100034873),
-        (COUNTED, 1, 15, 167380079),
-        (COUNTED, 2, 1, 400057676),
-        (COUNTED, 33, 1000, 1101781921),
-    ];
-    for (seed, stream, place, word) in rows {
-        let mut streams = Streams::new(seed);
-        for _ in 0..place {
-            draw(&mut streams, stream);
-        }
-        let drawn = draw(&mut streams, stream);
-        assert_eq!(rt; drawn, Some(word), "stream {stream}, place {place}");
+    for (seed, stream, place, word) in &WORDS {
+        let is_right = word_at(*seed, *stream, *place) == Some(*word);
+        assert!(rt; is_right, "stream {stream}, place {place}");
     }
 }
 
@@ -115,22 +122,26 @@ fn drawn_again(streams: &mut Streams, words: &[u32], back: usize) -> bool {
             .all(|word| draw(streams, 2) == Some(*word))
 }
 
+// Draws the first words of a stream.
+fn first_words(streams: &mut Streams) -> [u32; 150] {
+    let mut words = [0; 150];
+    for word in &mut words {
+        *word = draw(streams, 2).unwrap_or(0);
+    }
+    words
+}
+
+// How many words to go back, one after the other.
+const BACK: [usize; 9] = [1, 6, 7, 22, 23, 80, 87, 149, 150];
+
 #[test]
 fn walks_over_borders(rt: HostRuntime) {
     let mut streams = Streams::new(COUNTED);
-    let mut words = [0; 150];
-    for word in &mut words {
-        *word = draw(&mut streams, 2).unwrap_or(0);
-    }
-    assert_eq!(rt;
-        (words[0], words[16], words[64]),
-        (3514151508, 1442751401, 3880648186)
-    );
-    for back in [1, 6, 7, 22, 23, 80, 87, 149, 150] {
-        assert!(rt;
-            drawn_again(&mut streams, &words, back),
-            "after {back} words back"
-        );
+    let words = first_words(&mut streams);
+    let known = (words[0], words[16], words[64]);
+    assert!(rt; known == (3514151508, 1442751401, 3880648186));
+    for back in &BACK {
+        assert!(rt; drawn_again(&mut streams, &words, *back));
     }
     assert!(rt; goes(&mut streams, Act::Place(2, 150)));
 }
