@@ -23,6 +23,7 @@
 use crate::scenes::{NEXT, tape_of};
 use sim_book::{Book, Command, Reply};
 use sim_echo::Echo;
+use sim_tape::Frozen;
 use sim_watch::{Comparison, Cond, Op, SharedCond, Term, Value};
 use sim_world::{Event, Fault, Query};
 use std::alloc::{AllocError, Global};
@@ -315,47 +316,81 @@ fn books_go_by_their_rows(rt: HostRuntime) -> Result<(), Fail> {
     Ok(())
 }
 
+// A session, the number of its step back, and the place to which it leads.
+const BACKS: [(u8, u32, u32); 4] = [(0, 2, 5), (1, 1, 4), (0, 3, 3), (1, 2, 2)];
+
+// Returns whether a step back of a session has this number and leads to this place.
+fn goes_back(
+    alloc: Global,
+    book: &mut EchoBook,
+    session: u8,
+    number: u32,
+    place: u32,
+) -> Result<bool, Fail> {
+    let entry = book.turn(alloc, session, Command::Back(0, 1))?;
+    let is_there = matches!(&entry.reply, Reply::Moved { place: now, .. } if *now == place);
+    Ok(is_there && (entry.session, entry.number) == (session, number))
+}
+
 #[test]
 fn sessions_are_numbered_apart(rt: HostRuntime) -> Result<(), Fail> {
     let alloc = rt.alloc();
     let mut book = EchoBook::new(alloc, &TWO_ECHOES.scenario()?, Counts::new())?;
     book.turn(alloc, 0, Command::Run(0, 100))?;
-    for (session, number, place) in [(0, 2, 5), (1, 1, 4), (0, 3, 3), (1, 2, 2)] {
-        let entry = book.turn(alloc, session, Command::Back(0, 1))?;
-        let is_there = matches!(&entry.reply, Reply::Moved { place: now, .. } if *now == place);
-        let is_numbered = (entry.session, entry.number) == (session, number);
-        assert!(rt;
-            is_there && is_numbered,
-            "number {number} of session {session}"
-        );
+    for (session, number, place) in &BACKS {
+        assert!(rt; goes_back(alloc, &mut book, *session, *number, *place)?);
     }
     let (entry, frozen) = book.freeze(alloc, 1, 0)?;
     assert!(rt; entry.number == 3 && frozen.is_some());
-    assert_eq!(rt; book.into_entries().len(), 6);
+    assert!(rt; book.into_entries().len() == 6);
     Ok(())
 }
 
-// The tape that a run came from loses its events before the tapes of the run are made.
-#[test]
-fn a_frozen_run_makes_tapes(rt: HostRuntime) -> Result<(), Fail> {
-    let alloc = rt.alloc();
-    let mut meter = Counts::new();
-    let mut origin = tape_of(alloc, &TWO_ECHOES.scenario()?, 6, &mut meter)?;
+// Returns a frozen run of six steps. The tape that it came from loses its events then.
+fn frozen(alloc: Global, meter: &mut Counts) -> Result<Frozen<Echo<Counts>>, Fail> {
+    let mut origin = tape_of(alloc, &TWO_ECHOES.scenario()?, 6, meter)?;
     let run = origin.freeze(alloc)?;
-    run.events().share(alloc)?;
     if origin.place() != origin.len() {
         return Err(Fail::from("not at the end"));
     }
     origin.truncate(0);
-    for (place, work, clock) in [(3, (3, 2, 0), 10), (4, (0, 2, 0), 20), (6, (2, 2, 0), 40)] {
-        if run.events().len() < place {
-            return Err(Fail::from("past the end"));
-        }
-        let before = meter.counted();
-        let tape = run.tape(alloc, place, &mut meter)?;
-        let is_there = tape.warm() && tape.place() == place && tape.len() == 6;
-        assert!(rt; is_there && tape.clock() == clock, "at {place}");
-        assert_eq!(rt; meter.since(before), work, "to {place}");
+    Ok(run)
+}
+
+// A place, the turns, copies and undos for a tape there, and the clock.
+const TAPES: [(u32, (u64, u64, u64), u64); 3] = [
+    (3, (3, 2, 0), 10),
+    (4, (0, 2, 0), 20),
+    (6, (2, 2, 0), 40),
+];
+
+// Returns whether a tape of a run of six steps has this place and this clock, and is made with this
+// work.
+fn makes_tape(
+    alloc: Global,
+    run: &Frozen<Echo<Counts>>,
+    place: u32,
+    work: (u64, u64, u64),
+    clock: u64,
+    meter: &mut Counts,
+) -> Result<bool, Fail> {
+    if run.events().len() < place {
+        return Ok(false);
+    }
+    let before = meter.counted();
+    let tape = run.tape(alloc, place, meter)?;
+    let is_there = tape.warm() && tape.place() == place && tape.len() == 6;
+    Ok(is_there && tape.clock() == clock && meter.since(before) == work)
+}
+
+#[test]
+fn a_frozen_run_makes_tapes(rt: HostRuntime) -> Result<(), Fail> {
+    let alloc = rt.alloc();
+    let mut meter = Counts::new();
+    let run = frozen(alloc, &mut meter)?;
+    run.events().share(alloc)?;
+    for (place, work, clock) in &TAPES {
+        assert!(rt; makes_tape(alloc, &run, *place, *work, *clock, &mut meter)?);
     }
     Ok(())
 }

@@ -1,14 +1,13 @@
 //! Worked searches and sweeps of a run of six steps, also refused ones.
 ghost use Rattle.std.specs.Prelude.{◌≤◌};
 
-use crate::scenes::{next_at_most, tallies, tape_of};
+use crate::scenes::{NEXT, tallies, tape_of};
 use sim_echo::Echo;
 use sim_search::{Gate, OpenGate, SearchFault, search, sweep};
 use sim_tally::Tally;
 use sim_tape::Frozen;
-use sim_watch::{Cond, Term};
+use sim_watch::{Comparison, Cond, Op, Term, Value};
 use std::alloc::Global;
-use std::process::Abort;
 use std::sync::Wait;
 use std::sync::atomic::AtomicU64;
 use std::sync::atomic::Ordering::SeqCst;
@@ -37,70 +36,147 @@ impl Gate for Visits {
     }
 }
 
-// Checks what this many workers find between two places, and that they enter and leave each of the
-// two pieces once, or none if the search is refused.
-fn searches<R: Threads + Wait + Sync + Abort>(
+// The next operation of client 1 is at most 1, or at most 3.
+const AT_MOST_ONE: Term = Term::Cmp(
+    1,
+    NEXT,
+    Comparison {
+        op: Op::LessOrEqual,
+        value: Value::Number(1),
+    },
+);
+
+const AT_MOST_THREE: Term = Term::Cmp(
+    1,
+    NEXT,
+    Comparison {
+        op: Op::LessOrEqual,
+        value: Value::Number(3),
+    },
+);
+
+// A search between two places, with its result and the visits of the pieces.
+#[derive(Clone, Copy)]
+struct Search {
+    lo: u64,
+    hi: u64,
+    term: Term,
+    found: Result<Option<u32>, SearchFault>,
+    visits: u64,
+}
+
+// Pieces are entered and left once each, or not at all if the search is refused.
+const SEARCHES: [Search; 5] = [
+    Search {
+        lo: 0,
+        hi: 6,
+        term: AT_MOST_ONE,
+        found: Ok(Some(4)),
+        visits: ONE_EACH,
+    },
+    Search {
+        lo: 0,
+        hi: 6,
+        term: AT_MOST_THREE,
+        found: Ok(None),
+        visits: ONE_EACH,
+    },
+    Search {
+        lo: 0,
+        hi: 7,
+        term: Term::Up(0),
+        found: Err(SearchFault::BadRange),
+        visits: 0,
+    },
+    Search {
+        lo: 4,
+        hi: 3,
+        term: Term::Up(0),
+        found: Err(SearchFault::BadRange),
+        visits: 0,
+    },
+    Search {
+        lo: 0,
+        hi: 6,
+        term: Term::Up(2),
+        found: Err(SearchFault::BadCondition),
+        visits: 0,
+    },
+];
+
+// Returns whether this many workers find what they should.
+fn finds<R: Threads + Wait + Sync>(
     rt: &R,
     alloc: Global,
     run: &Frozen<Echo<Tally>>,
+    row: &Search,
     workers: u32,
-) -> Result<(), Fail>
+) -> Result<bool, Fail>
     requires { (1 ≤ workers) × (workers ≤ 16) }
 {
-    for (lo, hi, term, want, visits) in [
-        (0, 6, next_at_most(1, 1), Ok(Some(4)), ONE_EACH),
-        (0, 6, next_at_most(1, 3), Ok(None), ONE_EACH),
-        (0, 7, Term::Up(0), Err(SearchFault::BadRange), 0),
-        (4, 3, Term::Up(0), Err(SearchFault::BadRange), 0),
-        (0, 6, Term::Up(2), Err(SearchFault::BadCondition), 0),
-    ] {
-        let cond = Cond::new().and(term)?;
-        let meters = tallies(alloc, workers)?;
-        let gate = Visits {
-            count: AtomicU64::new(0),
-        };
-        let found = search(rt, alloc, run, lo, hi, &cond, meters, &gate);
-        let is_right = found == want && gate.count.load(SeqCst) == visits;
-        assert!(rt; is_right, "{lo} to {hi} by {workers}: {found:?}");
-    }
-    Ok(())
+    let cond = Cond::new().and(row.term)?;
+    let meters = tallies(alloc, workers)?;
+    let gate = Visits {
+        count: AtomicU64::new(0),
+    };
+    let found = search(rt, alloc, run, row.lo, row.hi, &cond, meters, &gate);
+    Ok(found == row.found && gate.count.load(SeqCst) == row.visits)
 }
 
-// Checks what this many workers find among seeds, by the first seed, their count and the number of
-// steps of their runs.
-fn sweeps<R: Threads + Wait + Sync + Abort>(rt: &R, alloc: Global, workers: u32) -> Result<(), Fail>
+// A sweep of seeds, by the first seed, their count and the number of steps of their runs, with its
+// result.
+#[derive(Clone, Copy)]
+struct Sweep(u64, u64, u64, Term, Result<Option<(u64, u32)>, SearchFault>);
+
+const SWEEPS: [Sweep; 7] = [
+    Sweep(0, 3, 6, AT_MOST_ONE, Ok(Some((0, 4)))),
+    Sweep(5, 3_000, 6, AT_MOST_THREE, Ok(None)),
+    Sweep(7, 2, 3, AT_MOST_ONE, Ok(None)),
+    Sweep(u64::MAX, 2, 6, Term::Up(0), Err(SearchFault::BadRange)),
+    Sweep(0, 0, 6, Term::Up(0), Err(SearchFault::BadRange)),
+    Sweep(0, 4_294_967_297, 6, Term::Up(0), Err(SearchFault::BadRange)),
+    Sweep(0, 1, 6, Term::Up(2), Err(SearchFault::BadCondition)),
+];
+
+// Returns whether this many workers find what they should among seeds.
+fn finds_seed<R: Threads + Wait + Sync>(
+    rt: &R,
+    alloc: Global,
+    row: &Sweep,
+    workers: u32,
+) -> Result<bool, Fail>
     requires { (1 ≤ workers) × (workers ≤ 16) }
 {
+    let Sweep(first, count, events, term, want) = *row;
     let scenario = TWO_ECHOES.scenario()?;
-    for (first, count, events, term, want) in [
-        (0, 3, 6, next_at_most(1, 1), Ok(Some((0, 4)))),
-        (5, 3_000, 6, next_at_most(1, 3), Ok(None)),
-        (7, 2, 3, next_at_most(1, 1), Ok(None)),
-        (u64::MAX, 2, 6, Term::Up(0), Err(SearchFault::BadRange)),
-        (0, 0, 6, Term::Up(0), Err(SearchFault::BadRange)),
-        (0, 4_294_967_297, 6, Term::Up(0), Err(SearchFault::BadRange)),
-        (0, 1, 6, Term::Up(2), Err(SearchFault::BadCondition)),
-    ] {
-        let cond = Cond::new().and(term)?;
-        let meters = tallies(alloc, workers)?;
-        let found = sweep::<Echo<Tally>, _, _>(
-            rt, alloc, &scenario, first, count, events, &cond, meters, &OpenGate,
-        );
-        assert!(rt;
-            found == want,
-            "{count} from {first} by {workers}: {found:?}"
-        );
+    let cond = Cond::new().and(term)?;
+    let meters = tallies(alloc, workers)?;
+    let found = sweep::<Echo<Tally>, _, _>(
+        rt, alloc, &scenario, first, count, events, &cond, meters, &OpenGate,
+    );
+    Ok(found == want)
+}
+
+#[test]
+fn searches(rt: HostRuntime) -> Result<(), Fail> {
+    let alloc = rt.alloc();
+    let run = tape_of(alloc, &TWO_ECHOES.scenario()?, 7, &mut Tally::new())?.freeze(alloc)?;
+    for workers in [1, 2, 16] {
+        for row in &SEARCHES {
+            let is_found = finds(&rt, alloc, &run, row, workers)?;
+            assert!(rt; is_found, "{} to {} by {workers}", row.lo, row.hi);
+        }
     }
     Ok(())
 }
 
 #[test]
-fn searches_and_sweeps(rt: HostRuntime) -> Result<(), Fail> {
-    let alloc = rt.alloc();
-    let run = tape_of(alloc, &TWO_ECHOES.scenario()?, 7, &mut Tally::new())?.freeze(alloc)?;
+fn sweeps(rt: HostRuntime) -> Result<(), Fail> {
     for workers in [1, 2, 16] {
-        searches(&rt, alloc, &run, workers)?;
-        sweeps(&rt, alloc, workers)?;
+        for row in &SWEEPS {
+            let is_found = finds_seed(&rt, rt.alloc(), row, workers)?;
+            assert!(rt; is_found, "{} from {} by {workers}", row.1, row.0);
+        }
     }
     Ok(())
 }

@@ -203,12 +203,11 @@ fn a_full_history(rt: HostRuntime) -> Result<(), Fail> {
         2,
         &|_, seat| look_on(&rt, &shared, seat, &kept),
     );
-    assert!(rt; kept.into_inner().as_slice() == [NotTaken::HistoryFull; 2].as_slice());
-    let again = shared.call(&rt, &mut seats[0], Command::Cut(0));
-    assert_eq!(rt; again.err(), Some(NotTaken::HistoryFull));
-    let frozen = shared.freeze(&rt, &mut seats[1], 0);
-    assert_eq!(rt; frozen.err(), Some(NotTaken::HistoryFull));
+    let again = shared.call(&rt, &mut seats[0], Command::Cut(0)).err();
+    let frozen = shared.freeze(&rt, &mut seats[1], 0).err();
     let history = shared.close(seats);
-    assert_eq!(rt; history.entries.len(), MAX_ENTRIES);
+    let full = Some(NotTaken::HistoryFull);
+    assert!(rt; history.entries.len() == MAX_ENTRIES && (again, frozen) == (full, full));
+    assert!(rt; kept.into_inner().as_slice() == [NotTaken::HistoryFull; 2].as_slice());
     Ok(())
 }
