@@ -13,9 +13,9 @@
 //! Echo is the node, since its state is a number and its runs can be worked out by hand.
 //!
 //! What each test catches:
-//! - `rows::searches_and_sweeps`: a search, or a sweep of up to 3,000 seeds, that wants memory for
-//!   no reason; a request that is refused for want of memory in place of its reason; a piece that
-//!   is entered or left twice, or never, or although the search is refused.
+//! - `rows::searches`, `rows::sweeps`: a search, or a sweep of up to 3,000 seeds, that wants memory
+//!   for no reason; a request that is refused for want of memory in place of its reason; a piece
+//!   that is entered or left twice, or never, or although the search is refused.
 //! - `long::a_late_place_of_a_long_run`: a search that gives up past the size of the small runs,
 //!   with one worker or with several.
 //! - `overlap::two_workers_search_at_once`, `overlap::two_workers_sweep_at_once`: a search or a
