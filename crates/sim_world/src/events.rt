@@ -61,7 +61,6 @@ impl<N: Node> Parts<N> {
 
     // Carries out an event. The record gets only its small changes, and the index entries that the
     // event may change, as they were before.
-    #[inline(always)]
     fn event(
         &mut self,
         sc: &Scenario,
@@ -127,7 +126,6 @@ impl<N: Node> Cluster<N> {
     }
 
     // Carries out an event that can happen. `undo` becomes the record by which it is undone.
-    #[inline(always)]
     fn apply(
         &mut self,
         event: Event,
@@ -259,7 +257,6 @@ impl<N: Node> World<N> {
 
     /// Like `apply`, but the record replaces one that is no longer needed, and takes its memory.
     /// After an error the record is unspecified.
-    #[inline(always)]
     pub fn apply_over(
         self,
         event: Event,
