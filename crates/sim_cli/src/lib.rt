@@ -70,7 +70,7 @@ pub use reasons::report_condition;
 pub use scenario::{WasRead, read_scenario};
 pub use script_run::{given_events, played};
 pub use shipped::{AbdSubject, BackupSubject, CommitSubject, EchoSubject, Shipped};
-pub use sim_tally::Tally;
+pub use sim_tally::{FreshMeter, Tally};
 pub use status::{Answered, Status};
 pub use stop::ScriptStop;
 pub use strictly::{PlayingStrictly, answer_lines_strictly, play_strictly};

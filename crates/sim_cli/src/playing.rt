@@ -12,7 +12,7 @@ use crate::subjects::{Subjects, Task};
 use sim_book::Book;
 use sim_lines::Ahead;
 use sim_node::Node;
-use sim_tally::Tally;
+use sim_tally::FreshMeter;
 use std::alloc::Global;
 use std::fmt::Debug;
 use std::io::{Read, Write};
@@ -28,7 +28,7 @@ impl Task for Playing {
 
     ghost does = { λ _ r names old new ended. PlaysScript r names old new ended };
 
-    fn carry_out<N: Node<Meter = Tally> + Send + Sync + Debug, R: Read, W: Write>(
+    fn carry_out<N: Node<Meter: FreshMeter> + Send + Sync + Debug, R: Read, W: Write>(
         &self,
         opened: &Opened,
         reader: &mut R,
@@ -39,7 +39,7 @@ impl Task for Playing {
         N::Msg: Send + Sync + Debug,
         N::Undo: Send + Sync,
     {
-        match Book::<N>::new(self.alloc, &opened.scenario, Tally::new()) {
+        match Book::<N>::new(self.alloc, &opened.scenario, N::Meter::fresh()) {
             Ok(mut book) => answer_lines(
                 self.alloc,
                 &mut book,

@@ -16,7 +16,7 @@ use sim_book::Book;
 use sim_lines::Ahead;
 use sim_node::{NoMemory, Node};
 use sim_script::Names;
-use sim_tally::Tally;
+use sim_tally::FreshMeter;
 use sim_tape::{EventList, Frozen};
 use sim_world::{Event, Scenario};
 use std::alloc::Global;
@@ -24,7 +24,7 @@ use std::io::Read;
 
 /// Carries out a script, and returns all kept events of the first branch. Strictly, fails if a line
 /// of the script is at fault.
-pub fn played<N: Node<Meter = Tally>, R: Read>(
+pub fn played<N: Node<Meter: FreshMeter>, R: Read>(
     alloc: Global,
     scenario: &Scenario,
     names: &Names,
@@ -41,7 +41,7 @@ pub fn played<N: Node<Meter = Tally>, R: Read>(
         (IsFault (rules N.laws N.PROBES scenario.now) strict names.now script) }
     ensures stops { IfErr result StopsScript }
 {
-    let Ok(mut book) = Book::<N>::new(alloc, scenario, Tally::new()) else {
+    let Ok(mut book) = Book::<N>::new(alloc, scenario, N::Meter::fresh()) else {
         return Err(ScriptStop::Ended(Status::MemoryWanted));
     };
     match follow(alloc, &mut book, names, reader, ahead, strict) {
@@ -83,7 +83,7 @@ fn listed(alloc: Global, list: &EventList) -> Result<Vec<Event>, NoMemory>
 /// Returns the events that begin each run of a sweep: those that the script leaves if
 /// `with_script`, and else none. Reads nothing without a script. Strictly, fails if a line of the
 /// script is at fault.
-pub fn given_events<N: Node<Meter = Tally>, R: Read>(
+pub fn given_events<N: Node<Meter: FreshMeter>, R: Read>(
     alloc: Global,
     opened: &Opened,
     with_script: bool,

@@ -21,7 +21,7 @@ use sim_lines::{Ahead, NextLine, Outlet, next_line};
 use sim_node::Node;
 use sim_replies::tell_turn;
 use sim_script::{Ask, Names, ScriptLine, line_of, mistake_of};
-use sim_tally::Tally;
+use sim_tally::FreshMeter;
 use std::alloc::Global;
 use std::fmt::Debug;
 use std::io::{Read, Write};
@@ -184,7 +184,7 @@ impl<'a, H: Eprint> Task for PlayingStrictly<'a, H> {
 
     ghost does = { λ _ r names old new ended. PlaysScriptStrictly r names old new ended };
 
-    fn carry_out<N: Node<Meter = Tally> + Send + Sync + Debug, R: Read, W: Write>(
+    fn carry_out<N: Node<Meter: FreshMeter> + Send + Sync + Debug, R: Read, W: Write>(
         &self,
         opened: &Opened,
         reader: &mut R,
@@ -195,7 +195,7 @@ impl<'a, H: Eprint> Task for PlayingStrictly<'a, H> {
         N::Msg: Send + Sync + Debug,
         N::Undo: Send + Sync,
     {
-        let mut book = match Book::<N>::new(self.alloc, &opened.scenario, Tally::new()) {
+        let mut book = match Book::<N>::new(self.alloc, &opened.scenario, N::Meter::fresh()) {
             Ok(book) => book,
             Err(_) => return Status::MemoryWanted,
         };

@@ -14,7 +14,7 @@ use crate::status::Status;
 use sim_lines::Ahead;
 use sim_node::Node;
 use sim_scenario::Protocols;
-use sim_tally::Tally;
+use sim_tally::FreshMeter;
 use std::alloc::{AllocError, Global};
 use std::fmt::Debug;
 use std::io::{Read, Write};
@@ -34,7 +34,7 @@ pub trait Task {
 
     /// Carries it out over nodes of one type, in a scenario that was read. The reader gives the
     /// script.
-    fn carry_out<N: Node<Meter = Tally> + Send + Sync + Debug, R: Read, W: Write>(
+    fn carry_out<N: Node<Meter: FreshMeter> + Send + Sync + Debug, R: Read, W: Write>(
         &self,
         opened: &Opened,
         reader: &mut R,
@@ -54,7 +54,10 @@ pub trait Task {
 /// probes.
 pub trait Subject {
     /// The nodes, which show their states by `Debug`.
-    type Node: Node<Msg = Self::Msg, Undo = Self::Undo, Meter = Tally> + Send + Sync + Debug;
+    type Node: Node<Msg = Self::Msg, Undo = Self::Undo, Meter: FreshMeter + Send>
+        + Send
+        + Sync
+        + Debug;
 
     /// The messages of the nodes, which show their contents by `Debug`.
     type Msg: Send + Sync + Drop + Debug;

@@ -16,7 +16,7 @@ use sim_lines::Ahead;
 use sim_node::{NoMemory, Node};
 use sim_scan::pieces;
 use sim_search::{OpenGate, search, sweep};
-use sim_tally::Tally;
+use sim_tally::FreshMeter;
 use sim_tape::Frozen;
 use sim_watch::Cond;
 use std::alloc::Global;
@@ -74,12 +74,12 @@ pub struct Quest<'a> {
 }
 
 /// Returns a meter for each worker. Fails only for want of memory.
-pub fn meters(alloc: Global, workers: u64) -> Result<Vec<Tally>, NoMemory>
+pub fn meters<M: FreshMeter>(alloc: Global, workers: u64) -> Result<Vec<M>, NoMemory>
     ensures { IfOk result (λ v. vec_len v ≡ workers) }
 {
     let mut meters = Vec::new(alloc);
     for _worker in 0..workers {
-        meters.push(Tally::new())?;
+        meters.push(M::fresh())?;
     }
     Ok(meters)
 }
@@ -93,7 +93,10 @@ fn pieces_of<N: Node>(frozen: &Frozen<N>, lo: u64, hi: u64) -> u64 {
 }
 
 // Searches for the first place of a run at which the condition fails.
-fn search_run<N: Node<Meter = Tally> + Send + Sync, H: Threads + Wait + Sync + Clock + Eprint>(
+fn search_run<
+    N: Node<Meter: FreshMeter + Send> + Send + Sync,
+    H: Threads + Wait + Sync + Clock + Eprint,
+>(
     rt: &H,
     alloc: Global,
     frozen: &Frozen<N>,
@@ -119,7 +122,10 @@ where
 }
 
 // Searches for the first seed under which the condition fails.
-fn sweep_seeds<N: Node<Meter = Tally> + Send + Sync, H: Threads + Wait + Sync + Clock + Eprint>(
+fn sweep_seeds<
+    N: Node<Meter: FreshMeter + Send> + Send + Sync,
+    H: Threads + Wait + Sync + Clock + Eprint,
+>(
     rt: &H,
     alloc: Global,
     first: u64,
@@ -180,7 +186,7 @@ fn at_stop<H: Eprint>(rt: &H, opened: &Opened, stop: ScriptStop) -> Result<Answe
 /// Hunts over nodes of one type. Writes no answers of the script; a sweep without `script` reads
 /// none.
 pub fn hunt_nodes<
-    N: Node<Meter = Tally> + Send + Sync,
+    N: Node<Meter: FreshMeter + Send> + Send + Sync,
     H: Threads + Wait + Sync + Clock + Eprint,
     R: Read,
 >(

@@ -10,7 +10,7 @@ use crate::reasons::report_seeds;
 use sim_node::{NoMemory, Node};
 use sim_plan::{Plan, report_plan};
 use sim_sweep::{Course, OpenGate, sweep_planned};
-use sim_tally::Tally;
+use sim_tally::FreshMeter;
 use sim_world::Event;
 use std::alloc::Global;
 use std::rt::Clock;
@@ -19,7 +19,10 @@ use std::thread::Threads;
 
 /// Searches for the first seed whose planned run fails the condition. Each run begins with the
 /// given events. Fails only for want of memory.
-pub fn sweep_runs<N: Node<Meter = Tally> + Send + Sync, H: Threads + Wait + Sync + Clock + Eprint>(
+pub fn sweep_runs<
+    N: Node<Meter: FreshMeter + Send> + Send + Sync,
+    H: Threads + Wait + Sync + Clock + Eprint,
+>(
     rt: &H,
     alloc: Global,
     runs: &PlannedRuns,

@@ -12,7 +12,7 @@ use sim_book::Book;
 use sim_log::{Places, Teller};
 use sim_node::{NoMemory, Node};
 use sim_script::Names;
-use sim_tally::Tally;
+use sim_tally::FreshMeter;
 use sim_tape::{Frozen, Tape};
 use sim_world::{Event, World};
 use std::alloc::Global;
@@ -67,7 +67,7 @@ pub fn kept_of<N: Node>(alloc: Global, book: &Book<N>, branch: u32) -> Result<u3
 
 /// Returns the place and the clock (ms) of a branch, or `None` if there is no such branch. Fails
 /// only for want of memory, and only on a cold branch.
-pub fn whereabouts<N: Node<Meter = Tally>>(
+pub fn whereabouts<N: Node<Meter: FreshMeter>>(
     alloc: Global,
     book: &Book<N>,
     branch: u32,
@@ -82,7 +82,7 @@ pub fn whereabouts<N: Node<Meter = Tally>>(
     let Some(run) = frozen_of(alloc, book, branch)? else {
         return Ok(None);
     };
-    let tape = run.tape(alloc, place, &mut Tally::new())?;
+    let tape = run.tape(alloc, place, &mut N::Meter::fresh())?;
     Ok(Some((place, tape.clock())))
 }
 
@@ -119,7 +119,7 @@ fn serials_of<N: Node>(world: &World<N>) -> Serials {
     Serials { first, next }
 }
 
-impl<'a, N: Node<Meter = Tally> + Debug> Run<'a, N>
+impl<'a, N: Node<Meter: FreshMeter> + Debug> Run<'a, N>
 where
     N::Msg: Debug,
 {
@@ -137,7 +137,7 @@ where
         let Some(frozen) = frozen_of(alloc, book, branch)? else {
             return Ok(None);
         };
-        let places = Places::new(alloc, &frozen, &mut Tally::new())?;
+        let places = Places::new(alloc, &frozen, &mut N::Meter::fresh())?;
         Ok(Some(Run {
             alloc,
             names,
@@ -166,7 +166,7 @@ where
     /// of memory.
     pub(crate) fn serials(&self, place: u32) -> Result<Serials, NoMemory> {
         let place = place.min(self.len());
-        let tape = self.frozen.tape(self.alloc, place, &mut Tally::new())?;
+        let tape = self.frozen.tape(self.alloc, place, &mut N::Meter::fresh())?;
         Ok(serials_of(tape.here()))
     }
 
@@ -182,7 +182,7 @@ where
             names: self.names,
             places: &self.places,
         };
-        teller.lines(&self.frozen, false, first, last, &mut Tally::new())
+        teller.lines(&self.frozen, false, first, last, &mut N::Meter::fresh())
     }
 
     /// Appends the lines of the events from `from` to `to`, as far as they exist. Fails only for

@@ -4,7 +4,7 @@ use crate::terms::{fails_of, holds_of};
 use sim_book::Refusal;
 use sim_node::{NoMemory, Node};
 use sim_orders::Sought;
-use sim_tally::Tally;
+use sim_tally::FreshMeter;
 use sim_tape::Frozen;
 use sim_watch::Cond;
 use sim_world::{Event, Fault, World};
@@ -84,13 +84,13 @@ impl Test<'_> {
 
 // Returns the first and the last place before `end` that pass a test. Fails only for want of
 // memory.
-fn span_of<N: Node<Meter = Tally>>(
+fn span_of<N: Node<Meter: FreshMeter>>(
     alloc: Global,
     run: &Frozen<N>,
     end: u32,
     test: Test<'_>,
 ) -> Result<Span, NoMemory> {
-    let mut meter = Tally::new();
+    let mut meter = N::Meter::fresh();
     let mut tape = run.tape(alloc, 0, &mut meter)?;
     let mut span = Span {
         first: None,
@@ -108,7 +108,10 @@ fn span_of<N: Node<Meter = Tally>>(
 }
 
 // Returns the place before the event that queued what happens next from `place` on.
-fn cause_of<N: Node<Meter = Tally> + Debug>(run: &Run<'_, N>, place: u32) -> Result<u32, SeekError>
+fn cause_of<N: Node<Meter: FreshMeter> + Debug>(
+    run: &Run<'_, N>,
+    place: u32,
+) -> Result<u32, SeekError>
 where
     N::Msg: Debug,
 {
@@ -132,7 +135,7 @@ where
 /// Returns the place of a run that `sought` describes, seen from place `here`. Fails with the
 /// reason if there is no such place, or for want of memory. A condition that names a host or a
 /// probe that does not exist neither holds nor fails.
-pub fn seek<N: Node<Meter = Tally> + Debug>(
+pub fn seek<N: Node<Meter: FreshMeter> + Debug>(
     alloc: Global,
     run: &Run<'_, N>,
     here: u32,

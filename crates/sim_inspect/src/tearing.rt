@@ -3,7 +3,7 @@ use crate::run::{Run, pass};
 use sim_disk::Disk;
 use sim_log::Told;
 use sim_node::{NoMemory, Node};
-use sim_tally::Tally;
+use sim_tally::FreshMeter;
 use sim_tape::Frozen;
 use sim_world::{Event, Fault, World};
 use std::alloc::Global;
@@ -41,13 +41,13 @@ fn add_writer(writers: &mut Vec<u32>, event: u32, count: u32) -> Result<(), NoMe
 
 // Returns for each write of a host before a place the event that made it, the oldest write first.
 // Those that are not stable at the place are the last ones. Fails only for want of memory.
-fn writers_of<N: Node<Meter = Tally>>(
+fn writers_of<N: Node<Meter: FreshMeter>>(
     alloc: Global,
     run: &Frozen<N>,
     place: u32,
     host: u16,
 ) -> Result<Vec<u32>, NoMemory> {
-    let mut meter = Tally::new();
+    let mut meter = N::Meter::fresh();
     let mut tape = run.tape(alloc, 0, &mut meter)?;
     let mut writers = Vec::new(alloc);
     for before in 0..place {
@@ -86,7 +86,7 @@ fn tell_write(disk: &Disk, at: usize, kept: u32, said: &mut String) -> Result<bo
     Ok(true)
 }
 
-impl<N: Node<Meter = Tally> + Debug> Run<'_, N>
+impl<N: Node<Meter: FreshMeter> + Debug> Run<'_, N>
 where
     N::Msg: Debug,
 {
@@ -114,7 +114,7 @@ where
             return Ok(());
         };
         let before = place.saturating_sub(1).min(self.len());
-        let mut meter = Tally::new();
+        let mut meter = N::Meter::fresh();
         let tape = self.frozen.tape(self.alloc, before, &mut meter)?;
         let world = tape.here();
         if host >= world.hosts() {

@@ -4,7 +4,7 @@ ghost use Rattle.sim_world.specs.Events.{rules};
 ghost use Rattle.sim_log.specs.Range.{IsRange};
 ghost use Rattle.sim_page.specs.Logs.{IsLogOf};
 
-use sim_cli::Tally;
+use sim_cli::FreshMeter;
 use sim_export::Export;
 use sim_log::{Places, Teller};
 use sim_node::{NoMemory, Node};
@@ -58,7 +58,7 @@ impl LogRange {
 
 /// Returns the log of a run, or a bad range if the run has no such event. Fails only for want of
 /// memory.
-pub(crate) fn log_of<N: Node<Meter = Tally> + Debug>(
+pub(crate) fn log_of<N: Node<Meter: FreshMeter> + Debug>(
     alloc: Global,
     names: &Names,
     run: &Frozen<N>,
@@ -71,7 +71,7 @@ where
     let Some((first, last)) = range.within(run.events().len()) else {
         return Ok(Export::BadRange);
     };
-    let mut meter = Tally::new();
+    let mut meter = N::Meter::fresh();
     let places = Places::new(alloc, run, &mut meter)?;
     let teller = Teller {
         alloc,

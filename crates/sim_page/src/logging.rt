@@ -6,7 +6,7 @@ ghost use Rattle.sim_export.specs.Exports.{WritesFor, Written};
 ghost use Rattle.sim_page.specs.Logs.{log_right};
 
 use crate::log::{LogRange, log_of};
-use sim_cli::{Opened, ScriptStop, Status, Subjects, Tally, Task, open, played, tell_fault};
+use sim_cli::{FreshMeter, Opened, ScriptStop, Status, Subjects, Task, open, played, tell_fault};
 use sim_export::{Export, write_export};
 use sim_lines::Ahead;
 use sim_node::Node;
@@ -29,7 +29,7 @@ impl<'a, H: Eprint> Task for Logging<'a, H> {
     ghost does = { λ task r names old new ended.
         WritesFor (log_right task.range) task.text.now r names old new ended };
 
-    fn carry_out<N: Node<Meter = Tally> + Send + Sync + Debug, R: Read, W: Write>(
+    fn carry_out<N: Node<Meter: FreshMeter> + Send + Sync + Debug, R: Read, W: Write>(
         &self,
         opened: &Opened,
         reader: &mut R,

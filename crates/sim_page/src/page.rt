@@ -5,7 +5,7 @@ ghost use Rattle.std.specs.Prelude.{◌==◌, not, IsTrue};
 use crate::data::{Data, number, string};
 use crate::template::{AFTER, BEFORE};
 use serde_json::Value;
-use sim_cli::{Opened, Tally};
+use sim_cli::{FreshMeter, Opened};
 use sim_export::{InputError, input_of};
 use sim_log::{first_rows, rows_after, rows_before};
 use sim_node::{NoMemory, Node};
@@ -110,13 +110,13 @@ struct Rows<'a, N: Node> {
     watched: Vec<Watched<'a>>,
 }
 
-impl<N: Node<Meter = Tally> + Debug> Rows<'_, N>
+impl<N: Node<Meter: FreshMeter> + Debug> Rows<'_, N>
 where
     N::Msg: Debug,
 {
     // Adds the rows before the first event. There is a host, so there is a first row.
     fn start(&mut self) -> Result<(), NoMemory> {
-        self.tape.make_warm(self.alloc, &mut Tally::new())?;
+        self.tape.make_warm(self.alloc, &mut N::Meter::fresh())?;
         let rows = first_rows(self.alloc, self.tape.here())?;
         if let [first, others @ ..] = rows.as_slice() {
             self.data.value(first)?;
@@ -128,13 +128,13 @@ where
     // Adds the rows of the next event, and walks the tape past it.
     fn event(&mut self, event: Event) -> Result<(), NoMemory> {
         let alloc = self.alloc;
-        self.tape.make_warm(alloc, &mut Tally::new())?;
-        let rows = rows_before(alloc, self.tape.here(), event, &mut Tally::new())?;
+        self.tape.make_warm(alloc, &mut N::Meter::fresh())?;
+        let rows = rows_before(alloc, self.tape.here(), event, &mut N::Meter::fresh())?;
         self.data.more_rows(rows.as_slice())?;
         if self.tape.place() < self.tape.len() {
-            self.tape.forward(alloc, 1, &mut Tally::new())?;
+            self.tape.forward(alloc, 1, &mut N::Meter::fresh())?;
         }
-        self.tape.make_warm(alloc, &mut Tally::new())?;
+        self.tape.make_warm(alloc, &mut N::Meter::fresh())?;
         let rows = rows_after(alloc, event, self.tape.here())?;
         self.data.more_rows(rows.as_slice())?;
         self.note_holding()
@@ -142,7 +142,7 @@ where
 
     // Notes for each condition whether it holds in the tape's world.
     fn note_holding(&mut self) -> Result<(), NoMemory> {
-        self.tape.make_warm(self.alloc, &mut Tally::new())?;
+        self.tape.make_warm(self.alloc, &mut N::Meter::fresh())?;
         let world = self.tape.here();
         for watched in self.watched.iter_mut() {
             let is_held = is_held(&watched.cond, world);
@@ -184,7 +184,7 @@ fn is_held<N: Node>(cond: &Cond, world: &World<N>) -> bool {
 }
 
 /// Returns the page of a run. Fails only for want of memory.
-pub(crate) fn page_of<N: Node<Meter = Tally> + Debug>(
+pub(crate) fn page_of<N: Node<Meter: FreshMeter> + Debug>(
     frame: &Frame<'_>,
     run: &Frozen<N>,
     watched: Vec<Watched<'_>>,
@@ -198,7 +198,7 @@ where
     let mut rows = Rows {
         alloc,
         data,
-        tape: run.tape(alloc, 0, &mut Tally::new())?,
+        tape: run.tape(alloc, 0, &mut N::Meter::fresh())?,
         watched,
     };
     rows.start()?;

@@ -7,7 +7,8 @@ ghost use Rattle.sim_page.specs.Pages.{page_right};
 
 use crate::page::{Frame, Watched, page_of};
 use sim_cli::{
-    Opened, ScriptStop, Status, Subjects, Tally, Task, open, played, report_condition, tell_fault,
+    FreshMeter, Opened, ScriptStop, Status, Subjects, Task, open, played, report_condition,
+    tell_fault,
 };
 use sim_export::{Export, write_export};
 use sim_lines::Ahead;
@@ -42,7 +43,7 @@ impl<'a, H: Eprint> Task for Paging<'a, H> {
     ghost does = { λ task r names old new ended.
         WritesFor (page_right task.asked) task.text.now r names old new ended };
 
-    fn carry_out<N: Node<Meter = Tally> + Send + Sync + Debug, R: Read, W: Write>(
+    fn carry_out<N: Node<Meter: FreshMeter> + Send + Sync + Debug, R: Read, W: Write>(
         &self,
         opened: &Opened,
         reader: &mut R,

@@ -12,7 +12,7 @@ ghost use Rattle.sim_cli.specs.Subjects.{nodes_by};
 ghost use Rattle.sim_export.specs.Exports.{WritesFor, Written};
 ghost use Rattle.sim_repro.specs.SeedRuns.{IsExportOf, seed_run_right};
 
-use sim_cli::{Opened, Status, Subjects, Tally, Task, open};
+use sim_cli::{FreshMeter, Opened, Status, Subjects, Task, open};
 use sim_export::{Export, InputError, input_of, write_export};
 use sim_lines::Ahead;
 use sim_node::{NoMemory, Node};
@@ -38,7 +38,7 @@ pub struct SeedRun {
 }
 
 // Returns the events of a run whose plan is within the limits. Fails only for want of memory.
-fn events_of<N: Node<Meter = Tally>>(
+fn events_of<N: Node<Meter: FreshMeter>>(
     alloc: Global,
     opened: &Opened,
     seed: u64,
@@ -50,11 +50,11 @@ fn events_of<N: Node<Meter = Tally>>(
 {
     let scenario = opened.scenario.numbered(seed);
     let bytes = numbered_seed(opened.seed, seed);
-    run_of::<N>(alloc, &scenario, bytes, &[], plan, &mut Tally::new())
+    run_of::<N>(alloc, &scenario, bytes, &[], plan, &mut N::Meter::fresh())
 }
 
 // Returns the input of a run whose plan is within the limits.
-fn input_with<N: Node<Meter = Tally>>(
+fn input_with<N: Node<Meter: FreshMeter>>(
     alloc: Global,
     opened: &Opened,
     text: &[u8],
@@ -77,7 +77,7 @@ fn input_with<N: Node<Meter = Tally>>(
 }
 
 // Returns what is written of a run in a scenario that was read. Fails only for want of memory.
-fn export_of<N: Node<Meter = Tally>>(
+fn export_of<N: Node<Meter: FreshMeter>>(
     alloc: Global,
     opened: &Opened,
     text: &[u8],
@@ -114,7 +114,7 @@ impl<'a> Task for RunWriting<'a> {
     ghost does = { λ task r names old new ended.
         WritesFor (seed_run_right task.run) task.text.now r names old new ended };
 
-    fn carry_out<N: Node<Meter = Tally> + Send + Sync + Debug, R: Read, W: Write>(
+    fn carry_out<N: Node<Meter: FreshMeter> + Send + Sync + Debug, R: Read, W: Write>(
         &self,
         opened: &Opened,
         _reader: &mut R,

@@ -9,7 +9,7 @@ ghost use Rattle.sim_export.specs.Exports.{IsInput, WritesFor, Written};
 ghost use Rattle.sim_repro.specs.Shrinks.{IsShrinkOf, shrink_right};
 
 use sim_cli::{
-    Opened, ScriptStop, Status, Subjects, Tally, Task, given_events, open, report_condition,
+    FreshMeter, Opened, ScriptStop, Status, Subjects, Task, given_events, open, report_condition,
     tell_fault,
 };
 use sim_export::{Export, InputError, input_of, write_export};
@@ -63,7 +63,7 @@ fn input_with(
 
 // Returns what is written of the run of these events in a scenario that was read. Fails only for
 // want of memory.
-fn export_of<N: Node<Meter = Tally>, P: Listener>(
+fn export_of<N: Node<Meter: FreshMeter>, P: Listener>(
     alloc: Global,
     opened: &Opened,
     text: &[u8],
@@ -79,7 +79,7 @@ fn export_of<N: Node<Meter = Tally>, P: Listener>(
         &opened.scenario,
         events,
         cond,
-        &mut Tally::new(),
+        &mut N::Meter::fresh(),
         listener,
     ) {
         Ok(Some(run)) => run,
@@ -135,7 +135,7 @@ impl<'a, H: Eprint> Task for Shrinking<'a, H> {
     ghost does = { λ task r names old new ended.
         WritesFor (shrink_right task.asked.cond.now) task.text.now r names old new ended };
 
-    fn carry_out<N: Node<Meter = Tally> + Send + Sync + Debug, R: Read, W: Write>(
+    fn carry_out<N: Node<Meter: FreshMeter> + Send + Sync + Debug, R: Read, W: Write>(
         &self,
         opened: &Opened,
         reader: &mut R,

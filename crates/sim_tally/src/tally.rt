@@ -6,6 +6,20 @@ ghost use Rattle.sim_tally.specs.Tally.{work_code, counted};
 use sim_node::Meter;
 use std::marker::Model;
 
+/// A meter of which a program can make new ones.
+///
+/// Code of a program that runs nodes of any type asks for this trait and names no meter: its bound
+/// is `N: Node<Meter: FreshMeter>`, and it makes a meter by `N::Meter::fresh()`. With the bound
+/// `Meter = Tally` the compiler would make the code of worlds and tapes again for each crate.
+///
+/// The trait does not ask for `Send`. Code that gives meters to the threads of workers asks for it
+/// itself, by `Meter: FreshMeter + Send`.
+pub trait FreshMeter: Meter {
+    /// Returns a meter that has counted nothing.
+    fn fresh() -> Self
+        ensures { Self.work result ≡ record { turns = 0; copies = 0; undos = 0 } };
+}
+
 /// A meter of size 0: it counts the calls of nodes without limit for contracts, and does nothing at
 /// run time.
 #[derive(Drop)]
@@ -54,5 +68,11 @@ impl Meter for Tally {
 
     fn undone(&mut self) {
         *self = self.counted(&Call::Undo);
+    }
+}
+
+impl FreshMeter for Tally {
+    fn fresh() -> Tally {
+        Tally::new()
     }
 }

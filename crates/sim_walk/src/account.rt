@@ -7,7 +7,7 @@ ghost use Rattle.sim_log.specs.Lines.{AreLines};
 ghost use Rattle.sim_walk.specs.Accounts.{IsAccount, told_count};
 
 use sim_book::Book;
-use sim_cli::Tally;
+use sim_cli::FreshMeter;
 use sim_inspect::Run;
 use sim_node::{NoMemory, Node};
 use sim_script::Names;
@@ -51,7 +51,7 @@ fn told_count(from: u32, to: u32) -> u32
 }
 
 // Returns the lines of the events of a way.
-fn way_lines<N: Node<Meter = Tally> + Debug>(
+fn way_lines<N: Node<Meter: FreshMeter> + Debug>(
     alloc: Global,
     run: &Run<'_, N>,
     from: u32,
@@ -82,7 +82,7 @@ fn lead_of(alloc: Global, from: u32, to: u32) -> Result<String, NoMemory> {
 
 // Returns the words after the lines of a way: the number of events that they omit, and the line of
 // its last event.
-fn rest_of<N: Node<Meter = Tally> + Debug>(
+fn rest_of<N: Node<Meter: FreshMeter> + Debug>(
     alloc: Global,
     run: &Run<'_, N>,
     from: u32,
@@ -108,7 +108,7 @@ where
 
 /// Returns the account of the way of a branch from one place to another. Fails only for want of
 /// memory.
-pub(crate) fn account_of<N: Node<Meter = Tally> + Debug>(
+pub(crate) fn account_of<N: Node<Meter: FreshMeter> + Debug>(
     alloc: Global,
     names: &Names,
     book: &Book<N>,

@@ -11,7 +11,7 @@ ghost use Rattle.sim_walk.specs.Walks.{TakesTurn, Stays, Walks};
 
 use crate::account::{Account, account_of};
 use sim_book::{Book, Command, Entry, MAX_WATCHES, NotTaken, Refusal, Reply};
-use sim_cli::{Opened, Tally};
+use sim_cli::{FreshMeter, Opened};
 use sim_export::{InputError, input_of};
 use sim_inspect::{Run, SeekError, Sight, kept_of, place_of, seek, tell_failing, whereabouts};
 use sim_node::{NoMemory, Node};
@@ -107,7 +107,7 @@ impl Desk<'_> {
     }
 
     // Returns the account of a turn on a branch, which was at the place `from`.
-    fn account<N: Node<Meter = Tally> + Debug>(
+    fn account<N: Node<Meter: FreshMeter> + Debug>(
         &self,
         book: &Book<N>,
         branch: u32,
@@ -178,7 +178,7 @@ impl Desk<'_> {
     }
 
     // Carries out a command.
-    fn take<N: Node<Meter = Tally> + Debug>(
+    fn take<N: Node<Meter: FreshMeter> + Debug>(
         &self,
         book: &mut Book<N>,
         command: Command,
@@ -212,7 +212,7 @@ impl Desk<'_> {
     }
 
     // Returns the place that `sought` describes, from that of the branch.
-    fn find<N: Node<Meter = Tally> + Debug>(
+    fn find<N: Node<Meter: FreshMeter> + Debug>(
         &self,
         book: &Book<N>,
         branch: u32,
@@ -246,7 +246,7 @@ impl Desk<'_> {
     }
 
     // Goes to a place of a branch that was sought and found.
-    fn go_to<N: Node<Meter = Tally> + Debug>(
+    fn go_to<N: Node<Meter: FreshMeter> + Debug>(
         &self,
         book: &mut Book<N>,
         branch: u32,
@@ -266,7 +266,7 @@ impl Desk<'_> {
     }
 
     // Finds a place, and goes there.
-    fn look_for<N: Node<Meter = Tally> + Debug>(
+    fn look_for<N: Node<Meter: FreshMeter> + Debug>(
         &self,
         book: &mut Book<N>,
         branch: u32,
@@ -286,7 +286,7 @@ impl Desk<'_> {
     }
 
     // Appends the input that leads to a place of a run.
-    fn tell_script<N: Node<Meter = Tally> + Debug>(
+    fn tell_script<N: Node<Meter: FreshMeter> + Debug>(
         &self,
         run: &Run<'_, N>,
         place: u32,
@@ -307,7 +307,7 @@ impl Desk<'_> {
     }
 
     // Appends what is present at the place of a branch.
-    fn tell_sight<N: Node<Meter = Tally> + Debug>(
+    fn tell_sight<N: Node<Meter: FreshMeter> + Debug>(
         &self,
         sight: &Sight<'_, N>,
         shown: &Shown,
@@ -329,7 +329,7 @@ impl Desk<'_> {
     }
 
     // Appends what `shown` asks for about a branch.
-    fn tell_branch<N: Node<Meter = Tally> + Debug>(
+    fn tell_branch<N: Node<Meter: FreshMeter> + Debug>(
         &self,
         book: &Book<N>,
         branch: u32,
@@ -346,7 +346,7 @@ impl Desk<'_> {
                 .tell_refusal(Refusal::UnknownBranch, said);
         };
         let place = place_of(book, branch);
-        let tape = run.frozen.tape(self.alloc, place, &mut Tally::new())?;
+        let tape = run.frozen.tape(self.alloc, place, &mut N::Meter::fresh())?;
         let sight = Sight {
             alloc: self.alloc,
             names,
@@ -362,7 +362,7 @@ impl Desk<'_> {
     }
 
     // Returns the answer to a request to show something of a branch.
-    fn show<N: Node<Meter = Tally> + Debug>(
+    fn show<N: Node<Meter: FreshMeter> + Debug>(
         &self,
         book: &Book<N>,
         branch: u32,
@@ -381,7 +381,7 @@ impl Desk<'_> {
     }
 
     // Returns the answer that names the place of a branch.
-    fn say_branch<N: Node<Meter = Tally>>(
+    fn say_branch<N: Node<Meter: FreshMeter>>(
         &self,
         book: &Book<N>,
         branch: u32,
@@ -401,7 +401,7 @@ impl Desk<'_> {
     }
 
     /// Carries out an order on a book. Fails only for want of memory.
-    pub(crate) fn answer<N: Node<Meter = Tally> + Debug>(
+    pub(crate) fn answer<N: Node<Meter: FreshMeter> + Debug>(
         &self,
         book: &mut Book<N>,
         request: Request,

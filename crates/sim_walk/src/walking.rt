@@ -11,7 +11,7 @@ use crate::account::Account;
 use crate::desk::{Answer, Desk};
 use sim_book::Book;
 use sim_cli::{
-    Answered, Opened, ScriptStop, Status, Subjects, Tally, Task, follow, open, tell_fault,
+    Answered, FreshMeter, Opened, ScriptStop, Status, Subjects, Task, follow, open, tell_fault,
     write_text,
 };
 use sim_inspect::{kept_of, whereabouts};
@@ -61,7 +61,7 @@ fn say<W: Write>(writer: &mut W, text: &[u8]) -> Turned
     }
 }
 
-impl<N: Node<Meter = Tally> + Debug> Walker<'_, N>
+impl<N: Node<Meter: FreshMeter> + Debug> Walker<'_, N>
 where
     N::Msg: Debug,
 {
@@ -233,7 +233,7 @@ fn write_account<W: Write>(account: &Account, writer: &mut W) -> Turned
 }
 
 // Answers the next line, or ends the walk.
-fn walk_line<N: Node<Meter = Tally> + Debug, R: Read, W: Write>(
+fn walk_line<N: Node<Meter: FreshMeter> + Debug, R: Read, W: Write>(
     walk: &mut Walker<'_, N>,
     reader: &mut R,
     ahead: &mut Ahead,
@@ -262,7 +262,7 @@ where
 }
 
 // Answers the lines of commands up to the end of the reader.
-fn walk_lines<N: Node<Meter = Tally> + Debug, R: Read, W: Write>(
+fn walk_lines<N: Node<Meter: FreshMeter> + Debug, R: Read, W: Write>(
     walk: &mut Walker<'_, N>,
     reader: &mut R,
     ahead: &mut Ahead,
@@ -297,9 +297,9 @@ struct Walking<'a, H: Eprint> {
 impl<'a, H: Eprint> Walking<'a, H> {
     // Carries out the script and returns the book that it leaves. Reports the first line at fault,
     // if any, on standard error, and then fails with `BadRequest`.
-    fn book<N: Node<Meter = Tally>>(&self, opened: &Opened) -> Result<Book<N>, Status> {
+    fn book<N: Node<Meter: FreshMeter>>(&self, opened: &Opened) -> Result<Book<N>, Status> {
         let alloc = self.alloc;
-        let Ok(mut book) = Book::<N>::new(alloc, &opened.scenario, Tally::new()) else {
+        let Ok(mut book) = Book::<N>::new(alloc, &opened.scenario, N::Meter::fresh()) else {
             return Err(Status::MemoryWanted);
         };
         let mut script = self.script;
@@ -327,7 +327,7 @@ impl<'a, H: Eprint> Task for Walking<'a, H> {
 
     ghost does = { λ _ _ _ old new _. Grows old.held new.held };
 
-    fn carry_out<N: Node<Meter = Tally> + Send + Sync + Debug, R: Read, W: Write>(
+    fn carry_out<N: Node<Meter: FreshMeter> + Send + Sync + Debug, R: Read, W: Write>(
         &self,
         opened: &Opened,
         reader: &mut R,
