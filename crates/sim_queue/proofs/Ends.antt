@@ -1,11 +1,12 @@
 -- Nodes without keys.
-use Rattle.std.proofs.Common.{◌≡◌, ℕ, zero, suc, ◌+◌, ◌*◌, ◌/◌, ◌^◌, ◌<◌, ◌≤◌, ◌%◌, List, [], ◌∷◌, ◌++◌, refl, sym, ap, ◌∙◌, subst, arith, length, inl, inr, ⊎_elim}
-use Rattle.std.proofs.lemmas.Bool.{cases_lt}
+use Rattle.std.proofs.Common.{◌≡◌, ◌≢◌, ℕ, zero, suc, ◌+◌, ◌*◌, ◌/◌, ◌^◌, ◌<◌, ◌≤◌, ◌%◌, List, [], ◌∷◌, ◌++◌, refl, sym, ap, ◌∙◌, subst, arith, length, inl, inr, ⊎_elim}
+use Rattle.std.proofs.lemmas.Bool.{cases_eq, cases_lt}
+use Rattle.std.proofs.lemmas.List.{length_push}
 use Rattle.std.proofs.lemmas.Nat.{shl-shr, pow_pos}
 use Rattle.std.proofs.Math.Nat.{mul-lt-mul_of_pos_right}
 use Rattle.std.proofs.Math.Pow.{pow_mono}
 use Rattle.sim_queue.specs.declared.lists.Node.{Node}
-use Rattle.sim_queue.specs.inside.Lists.{node, no_node, end_of, list_of, order_of, IsLinked, IsLists, IsSame}
+use Rattle.sim_queue.specs.inside.Lists.{node, no_node, end_of, list_of, order_of, IsLinked, IsLists, IsSame, HasNoKeys}
 use Rattle.sim_queue.proofs.Nodes.{node_past}
 
 -- one more node without a key
@@ -59,16 +60,16 @@ module _ (w : ℕ) (old new : List Node) (same : (i : ℕ) → node new i ≡ no
         };
   }
 
--- the ends alone
+-- the ends, with free places behind them
 end_list : (w i : ℕ) → i < 256 → list_of w (end_of w i) ≡ i
 end_list w i lt = let e : i * 2 ^ w / 2 ^ w ≡ i = shl-shr i w in ap (λ (n : ℕ). n % 256) e ∙ omega arith
 
-module _ (w : ℕ) (nodes : List Node) (size : length nodes ≡ 256) (all : (i : ℕ) → i < 256 → node nodes i ≡ end_of w i) where
+module _ (w : ℕ) (nodes : List Node) (size : 256 ≤ length nodes) (all : (i : ℕ) → i < 256 → node nodes i ≡ end_of w i) (free : (i : ℕ) → 256 ≤ i → 2 ^ 40 ≤ (node nodes i).serial) where
   end_low : (i : ℕ) → IsLinked nodes i → i < 256
   end_low i (inl e) = e.0
   end_low i (inr key) = ⊎_elim
       (λ (lt : i < 256). lt)
-      (λ (ge : 256 ≤ i). let e : (node nodes i).serial ≡ 18446744073709551615 = ap (λ (x : Node). x.serial) (node_past nodes i (omega arith)) in absurd (omega arith))
+      (λ (ge : 256 ≤ i). let e = free i ge in absurd (omega arith))
       (cases_lt i 256)
 
   end_linked : (i : ℕ) → i < 256 → IsLinked nodes i
@@ -80,9 +81,15 @@ module _ (w : ℕ) (nodes : List Node) (size : length nodes ≡ 256) (all : (i :
   end_after : (i : ℕ) → i < 256 → (node nodes i).after ≡ i
   end_after i lt = ap (λ (x : Node). x.after) (all i lt)
 
+  pub no_keys : HasNoKeys nodes
+  no_keys i = ⊎_elim
+      (λ (lt : i < 256). let e : (node nodes i).serial ≡ 18446744073709551615 = ap (λ (x : Node). x.serial) (all i lt) in omega arith)
+      (λ (ge : 256 ≤ i). free i ge)
+      (cases_lt i 256)
+
   pub ends_lists : IsLists w nodes
   ends_lists = record {
-    ends = λ i lt. let e : (node nodes i).serial ≡ 18446744073709551615 = ap (λ (x : Node). x.serial) (all i lt) in omega arith;
+    ends = λ i lt. no_keys i;
     lists = λ i lt within. ap (λ (x : Node). list_of w x) (all i lt) ∙ end_list w i lt;
     behind = λ i linked.
         let lt = end_low i linked in record {
@@ -111,6 +118,26 @@ node_front : (nodes : List Node) (x : Node) (i : ℕ) → i < length nodes → n
 node_front [] x i lt = absurd (omega arith)
 node_front (y ∷ nodes) x zero lt = refl
 node_front (y ∷ nodes) x (suc i) lt = node_front nodes x i (omega arith)
+
+-- no node past the end has a key
+pub past_free : (nodes : List Node) (i : ℕ) → length nodes ≤ i → 2 ^ 40 ≤ (node nodes i).serial
+past_free nodes i past = let e : (node nodes i).serial ≡ 18446744073709551615 = ap (λ (x : Node). x.serial) (node_past nodes i past) in omega arith
+
+-- one more free place
+pub free_more : (nodes new : List Node) (x : Node) → new ≡ nodes ++ x ∷ [] → 2 ^ 40 ≤ x.serial → ((i : ℕ) → 256 ≤ i → 2 ^ 40 ≤ (node nodes i).serial)
+    → (i : ℕ) → 256 ≤ i → 2 ^ 40 ≤ (node new i).serial
+free_more nodes new x is high free i from = subst (λ (xs : List Node). 2 ^ 40 ≤ (node xs i).serial) (sym is) (⊎_elim
+    (λ (lt : i < length nodes). subst (λ (y : Node). 2 ^ 40 ≤ y.serial) (sym (node_front nodes x i lt)) (free i from))
+    (λ (ge : length nodes ≤ i). ⊎_elim
+    (λ (e : i ≡ length nodes). subst (λ (n : ℕ). 2 ^ 40 ≤ (node (nodes ++ x ∷ []) n).serial) (sym e) (subst (λ (y : Node). 2 ^ 40 ≤ y.serial) (sym (node_last nodes x)) high))
+    (λ (ne : i ≢ length nodes). let size : length (nodes ++ x ∷ []) ≡ length nodes + 1 = length_push nodes x in past_free (nodes ++ x ∷ []) i (omega arith))
+    (cases_eq i (length nodes)))
+    (cases_lt i (length nodes)))
+
+-- the ends stay before one more node
+pub ends_kept : (w : ℕ) (nodes new : List Node) (x : Node) → new ≡ nodes ++ x ∷ [] → 256 ≤ length nodes → ((i : ℕ) → i < 256 → node nodes i ≡ end_of w i)
+    → (i : ℕ) → i < 256 → node new i ≡ end_of w i
+ends_kept w nodes new x is made all i lt = ap (λ (xs : List Node). node xs i) is ∙ node_front nodes x i (omega arith) ∙ all i lt
 
 end_fits : (w n : ℕ) → n < 256 → w ≤ 56 → n * 2 ^ w < 18446744073709551616
 end_fits w n lt narrow =

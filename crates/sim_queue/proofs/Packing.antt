@@ -1,7 +1,9 @@
 -- Items that are put back in the order of their serials.
 use Rattle.std.specs.Prelude.{◌≡◌, ℕ, zero, suc, length, ◌+◌, ◌<◌, ◌≤◌, ◌==◌, nat_lt, true, false, cond, List, [], ◌∷◌, ◌++◌, Option, Some, None, is_some}
 use Rattle.std.specs.List.{filter}
-use Rattle.std.proofs.Common.{refl, sym, ap, ◌∙◌, subst, arith}
+use Rattle.std.proofs.Common.{refl, sym, ap, ◌∙◌, subst, arith, take, drop}
+use Rattle.std.proofs.Math.ListN.{get_or}
+use Rattle.std.proofs.lemmas.List.{take_more}
 use Rattle.std.proofs.lemmas.Bool.{ne_eqb, le-ltb, lt-ltb, false≢true}
 use Rattle.sim_queue.specs.declared.Item.{Item}
 use Rattle.sim_queue.specs.Packed.{packed}
@@ -42,17 +44,14 @@ empty_pending n base slots is =
     let next : base + length slots ≡ base + n = ap (λ xs. base + length xs) is ∙ ap (λ (m : ℕ). base + m) (length-replicate n None) in
     λ i. record { items = empty_items n base slots is i; next_serial = next i }
 
--- no element
-pub no_more : {X : Type 0} (xs : List X) → length xs ≡ 0 → xs ≡ []
-no_more [] h = refl
-no_more (x ∷ xs) h = absurd (omega arith)
+-- an element between those before it and those after it
+pub split_at : {X : Type 0} (xs : List X) (i : ℕ) (y : X) → i < length xs → y ≡ get_or xs i y → take i xs ++ y ∷ drop (suc i) xs ≡ xs
+split_at [] i y lt read = absurd (omega arith)
+split_at (x ∷ xs) zero y lt read = ap (λ z. z ∷ xs) read
+split_at (x ∷ xs) (suc i) y lt read = ap (λ ys. x ∷ ys) (split_at xs i y (omega arith) read)
 
-front_all : {X : Type 0} (ys : List X) → ys ++ [] ≡ ys
-front_all [] = refl
-front_all (y ∷ ys) = ap (λ xs. y ∷ xs) (front_all ys)
-
-pub all_taken : {X : Type 0} (ys rest all : List X) → length rest ≡ 0 → ys ++ rest ≡ all → ys ≡ all
-all_taken ys rest all none is = sym (front_all ys) ∙ ap (λ xs. ys ++ xs) (sym (no_more rest none)) ∙ is
+pub taken_more : {X : Type 0} (xs : List X) (i : ℕ) (y : X) → i < length xs → y ≡ get_or xs i y → take i xs ++ y ∷ [] ≡ take (i + 1) xs
+taken_more xs i y inside read = ap (λ z. take i xs ++ z ∷ []) read ∙ sym (take_more xs i y inside)
 
 -- what follows where there is a result
 pub on_ok : {X E P Q : Type 0} (r : Result X E) → (P → Q) → OnOk r P → OnOk r Q
@@ -64,7 +63,7 @@ option_twice f g None = refl
 option_twice f g (Some x) = refl
 
 module _ {B : Type 0} (x : Item B) (zs : List (Item B)) (next : ℕ) where
-  after : (lo : ℕ) (ys : List (Item B)) → Rise lo (ys ++ x ∷ zs) next → lo ≤ x.serial
+  pub after : (lo : ℕ) (ys : List (Item B)) → Rise lo (ys ++ x ∷ zs) next → lo ≤ x.serial
   after lo [] r = r.0
   after lo (y ∷ ys) r = let a : lo ≤ y.serial = r.0 in let b : y.serial + 1 ≤ x.serial = after (y.serial + 1) ys r.1 in omega arith
 

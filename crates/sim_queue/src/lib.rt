@@ -240,9 +240,7 @@ impl<B> Queue<B> {
         requires equal { (x : B) (r : _) → FnReturnsAt F.Fn each x r → IfOk r (λ y. y ≡ x) }
         ensures { IfOk result (λ q. q ≡ self.now) }
     {
-        Ok(Queue {
-            store: self.store.copy(alloc, &each)?,
-        })
+        self.store.pack(alloc, &each)?.open(alloc, each)
     }
 
     /// Returns a packed copy. `each` copies a body.

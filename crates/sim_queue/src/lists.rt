@@ -1,10 +1,11 @@
 //! Keys in 256 lists, each in the order of its keys. A due falls into a day, and days that are
 //! equal modulo 256 share a list.
 ghost use Rattle.std.specs.Prelude.{◌≡◌, ◌≢◌, ℕ, ◌^◌, ◌<◌, ◌≤◌, ◌%◌, OnOk, IfOk, IfSome, IfNone};
-ghost use Rattle.std.specs.Prelude.{length, slice_set, nat_lt};
+ghost use Rattle.std.specs.Prelude.{◌+◌, length, slice_set, nat_lt};
+ghost use Rattle.std.specs.Vec.{vec_capacity};
 ghost use Rattle.sim_queue.specs.inside.Lists.{node, day, list_of, order_of, key_order, end_of};
 ghost use Rattle.sim_queue.specs.inside.Lists.{no_node, HasKey, IsLinked, IsLists, IsFree, IsSame};
-ghost use Rattle.sim_queue.specs.inside.Lists.{IsSpot, KeepsOthers, IsEmptyList};
+ghost use Rattle.sim_queue.specs.inside.Lists.{IsSpot, KeepsOthers, IsEmptyList, HasNoKeys};
 
 use crate::NoMemory;
 use std::alloc::Global;
@@ -14,6 +15,9 @@ pub(crate) const LISTS: u32 = 256;
 
 /// The serial of a node without a key: one that is free, or an end of a list.
 const NO_SERIAL: u64 = u64::MAX;
+
+/// The most free places that lists are made with. Others are made one by one.
+const MOST_FREE: usize = 1 << 20;
 
 /// A key, and the places of the nodes before and after it in its list.
 #[derive(Clone, Copy, Drop)]
@@ -36,6 +40,26 @@ pub(crate) struct Lists {
 }
 
 impl Lists {
+    /// Returns lists without keys, with free places for `count` keys but at most 2^20.
+    pub(crate) fn with_room(alloc: Global, width: u32, count: usize) -> Result<Lists, NoMemory>
+        requires { width ≤ 56 }
+        ensures width { IfOk result (λ l. l.width ≡ width) }
+        ensures lists { IfOk result (λ l. IsLists width l.nodes.items) }
+        ensures none { IfOk result (λ l. HasNoKeys l.nodes.items) }
+        ensures size { IfOk result (λ l. length l.nodes.items ≤ 4294967295) }
+    {
+        let free = count.min(MOST_FREE);
+        let mut nodes = ends(alloc, width, free)?;
+        for place in LISTS..LISTS + free as u32 {
+            nodes.push_reserved(free_node(place + 1));
+        }
+        Ok(Lists {
+            nodes,
+            free: LISTS,
+            width,
+        })
+    }
+
     /// Returns the day of a due.
     #[inline(always)]
     pub(crate) fn day(&self, due: u64) -> u64
@@ -117,7 +141,7 @@ impl Lists {
         ensures width { self.new.width ≡ self.old.width }
     {
         if self.nodes.len() < LISTS as usize {
-            self.nodes = ends(*self.nodes.allocator(), self.width)?;
+            self.nodes = ends(*self.nodes.allocator(), self.width, 64)?;
         }
         Ok(())
     }
@@ -241,13 +265,15 @@ fn free_node(next: u32) -> Node
     }
 }
 
-// Returns the ends of all lists, which have no keys.
-fn ends(alloc: Global, width: u32) -> Result<Vec<Node>, NoMemory>
-    requires { width ≤ 56 }
+// Returns the ends of all lists, which have no keys. The vector has room for `room` more nodes.
+fn ends(alloc: Global, width: u32, room: usize) -> Result<Vec<Node>, NoMemory>
+    requires narrow { width ≤ 56 }
+    requires few { room ≤ 1048576 }
     ensures len { IfOk result (λ made. length made.items ≡ 256) }
+    ensures room { IfOk result (λ made. 256 + room ≤ vec_capacity made) }
     ensures ends { IfOk result (λ made. (i : ℕ) → i < 256 → node made.items i ≡ end_of width i) }
 {
-    let mut made = Vec::with_capacity(alloc, 320)?;
+    let mut made = Vec::with_capacity(alloc, LISTS as usize + room)?;
     for list in 0..LISTS {
         made.push_reserved(Node {
             due: (list as u64) << width,

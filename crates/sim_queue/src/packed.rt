@@ -3,7 +3,6 @@ ghost use Rattle.std.specs.Prelude.{◌≡◌, ◌≤◌, ◌^◌, IfOk};
 ghost use Rattle.std.specs.Fn.{FnReturnsAt};
 ghost use Rattle.sim_queue.specs.Packed.{packed, IsPacked};
 
-use crate::slots::copy_items;
 use crate::store::Store;
 use crate::{Item, NoMemory, Queue};
 use std::alloc::Global;
@@ -58,9 +57,8 @@ impl<B> PackedQueue<B> {
         requires equal { (x : B) (r : _) → FnReturnsAt F.Fn each x r → IfOk r (λ y. y ≡ x) }
         ensures { IfOk result (λ q. q ≡ self.now) }
     {
-        let items = copy_items(alloc, &self.items, self.items.len(), &each)?;
         Ok(Queue {
-            store: Store::of(alloc, items, self.next_serial, self.width)?,
+            store: Store::of(alloc, &self.items, self.next_serial, self.width, &each)?,
         })
     }
 }

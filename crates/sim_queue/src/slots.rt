@@ -61,12 +61,14 @@ impl<B> Slots<B> {
         }
     }
 
-    /// Returns `count` empty slots.
+    /// Returns `count` empty slots. There is room for `items` items, so that filling the slots with
+    /// them rarely takes memory.
     pub(crate) fn empty(
         alloc: Global,
         base: u64,
         count: usize,
         width: u32,
+        items: usize,
     ) -> Result<Slots<B>, NoMemory>
         requires { width ≤ 56 }
         ensures { IfOk result (λ s. s ≡ record { base = base; items = replicate count None }) }
@@ -74,8 +76,8 @@ impl<B> Slots<B> {
         let mut places = Vec::with_capacity(alloc, with_room(count))?;
         places.resize(count, Link::none())?;
         Ok(Slots {
-            wheel: Wheel::new(alloc, width),
-            bodies: Vec::new(alloc),
+            wheel: Wheel::with_room(alloc, width, with_room(items))?,
+            bodies: Vec::with_capacity(alloc, with_room(items))?,
             places,
             base,
             count: 0,
@@ -384,25 +386,6 @@ pub(crate) fn with_room(len: usize) -> usize
     ensures { len ≤ result }
 {
     len.saturating_add(len / 8).saturating_add(8)
-}
-
-/// Returns equal items.
-pub(crate) fn copy_items<B: Drop, F: Fn(&B) -> Result<B, NoMemory>>(
-    alloc: Global,
-    items: &Vec<Item<B>>,
-    capacity: usize,
-    each: &F,
-) -> Result<Vec<Item<B>>, NoMemory>
-    requires room { length items.now.items ≤ capacity }
-    requires callable { F.IsAlwaysCallable each.now }
-    requires equal { (x : B) (r : _) → FnReturnsAt F.Fn each.now x r → IfOk r (λ y. y ≡ x) }
-    ensures { IfOk result (λ copied. copied.items ≡ items.now.items) }
-{
-    let mut copied = Vec::with_capacity(alloc, capacity)?;
-    for item in items {
-        push_copy(&mut copied, item.due, item.serial, &item.body, each)?;
-    }
-    Ok(copied)
 }
 
 // Adds an item with an equal body. The vector has room for it.

@@ -153,24 +153,6 @@ impl<B> Store<B> {
         self.slots.fill(place, due, body)
     }
 
-    /// Returns equal pending items, with bodies that `each` copies.
-    pub(crate) fn copy<F: Fn(&B) -> Result<B, NoMemory>>(
-        &self,
-        alloc: Global,
-        each: &F,
-    ) -> Result<Store<B>, NoMemory>
-    where
-        B: Drop,
-        requires keyed { IsKeyed self.now }
-        requires callable { F.IsAlwaysCallable each.now }
-        requires equal { (x : B) (r : _) → FnReturnsAt F.Fn each.now x r → IfOk r (λ y. y ≡ x) }
-        ensures pending { IfOk result (λ s. pending_in s ≡ pending_in self.now) }
-        ensures keyed { IfOk result (λ s. IsKeyed s) }
-    {
-        let items = self.slots.pack(alloc, each)?;
-        Store::of(alloc, items, self.next_serial(), self.slots.width())
-    }
-
     /// Returns equal pending items without their keys and places, with bodies that `each` copies.
     pub(crate) fn pack<F: Fn(&B) -> Result<B, NoMemory>>(
         &self,
@@ -188,29 +170,61 @@ impl<B> Store<B> {
         Ok(PackedQueue::of(items, self.next_serial(), self.slots.width()))
     }
 
-    /// Returns a store of these items, which are in the order of their serials.
-    pub(crate) fn of(
+    /// Returns a store of equal items, with bodies that `each` copies. The items are in the order
+    /// of their serials.
+    #[inline(never)]
+    pub(crate) fn of<F: Fn(&B) -> Result<B, NoMemory>>(
         alloc: Global,
-        items: Vec<Item<B>>,
+        items: &Vec<Item<B>>,
         next_serial: u64,
         width: u32,
+        each: &F,
     ) -> Result<Store<B>, NoMemory>
     where
         B: Drop,
-        requires items { IsQueue (packed items.items next_serial) }
+        requires items { IsQueue (packed items.now.items next_serial) }
         requires small { next_serial ≤ 2 ^ 40 }
         requires width { width ≤ 56 }
-        ensures pending { IfOk result (λ s. pending_in s ≡ packed items.items next_serial) }
+        requires callable { F.IsAlwaysCallable each.now }
+        requires equal { (x : B) (r : _) → FnReturnsAt F.Fn each.now x r → IfOk r (λ y. y ≡ x) }
+        ensures pending { IfOk result (λ s. pending_in s ≡ packed items.now.items next_serial) }
         ensures keyed { IfOk result (λ s. IsKeyed s) }
     {
-        let base = first_serial(&items, next_serial);
+        let base = first_serial(items, next_serial);
+        let slots = (next_serial - base) as usize;
         let mut store = Store {
-            slots: Slots::empty(alloc, base, (next_serial - base) as usize, width)?,
+            slots: Slots::empty(alloc, base, slots, width, items.len())?,
         };
         for item in items {
-            store.add_back(item)?;
+            store.fill_copy(item, each)?;
         }
         Ok(store)
+    }
+
+    // Puts an equal item into its slot, which is empty.
+    #[inline(always)]
+    fn fill_copy<F: Fn(&B) -> Result<B, NoMemory>>(
+        &mut self,
+        item: &Item<B>,
+        each: &F,
+    ) -> Result<(), NoMemory>
+    where
+        B: Drop,
+        requires keyed { IsKeyed self.old }
+        requires made { item.now.serial < (pending_in self.old).next_serial }
+        requires reached { self.old.slots.base ≤ item.now.serial }
+        requires absent { ¬ (IsPending item.now.serial (pending_in self.old)) }
+        requires callable { F.IsAlwaysCallable each.now }
+        requires equal { (x : B) (r : _) → FnReturnsAt F.Fn each.now x r → IfOk r (λ y. y ≡ x) }
+        ensures ok { OnOk result (pending_in self.new ≡ put_back item.now (pending_in self.old)) }
+        ensures base { self.new.slots.base ≡ self.old.slots.base }
+        ensures keyed { IsKeyed self.new }
+    {
+        let place = (item.serial - self.slots.base()) as usize;
+        match each(&item.body) {
+            Ok(body) => self.slots.fill(place, item.due, body),
+            Err(refused) => Err(refused),
+        }
     }
 
     // Drops the empty slots at the front, if one more slot would take memory.

@@ -53,6 +53,18 @@ impl Wheel {
         }
     }
 
+    /// Returns no keys, with free places for `count` keys but at most 2^20.
+    pub(crate) fn with_room(alloc: Global, width: u32, count: usize) -> Result<Wheel, NoMemory>
+        requires { width ≤ 56 }
+        ensures { IfOk result (λ w. HasNone w) }
+    {
+        Ok(Wheel {
+            lists: Lists::with_room(alloc, width, count)?,
+            marks: Marks::new(),
+            floor: u64::MAX,
+        })
+    }
+
     /// Returns the width of a day.
     pub(crate) fn width(&self) -> u32
         ensures { result ≤ 56 }

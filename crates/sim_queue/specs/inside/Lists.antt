@@ -70,6 +70,10 @@ pub record IsFree (p : ℕ) (nodes : List Node) : Type 0 where
 abbrev pub IsSame : List Node → List Node → Type 0
 IsSame old new = (i : ℕ) → 256 ≤ i → node new i ≡ node old i
 
+-- no node has a key
+abbrev pub HasNoKeys : List Node → Type 0
+HasNoKeys nodes = (i : ℕ) → 2 ^ 40 ≤ (node nodes i).serial
+
 -- a key belongs right after the node b
 pub record IsSpot (width due serial b : ℕ) (nodes : List Node) : Type 0 where
   pub linked : IsLinked nodes b
