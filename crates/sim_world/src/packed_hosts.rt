@@ -138,8 +138,9 @@ impl<N: Node> PackedHosts<N> {
             N.Meter.work meter.new ≡ copied_if (is_some host.node) (N.Meter.work meter.old)) }
     {
         let kept = &self.kept[number];
-        let node = copied_node(alloc, &kept.node, meter)?;
+        // The node comes last, so that it goes straight to where the host is stored.
         let disk = self.disks.get(alloc, number)?;
+        let node = copied_node(alloc, &kept.node, meter)?;
         Ok(Host {
             node,
             disk,
