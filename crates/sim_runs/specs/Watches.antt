@@ -1,11 +1,13 @@
 -- What holds for the watches of a branch, and which of them fails in a world.
-use Rattle.std.specs.Prelude.{◌≡◌, ℕ, ◌≤◌, Bool, false, not, List, Option, Some, None, IfSome}
-use Rattle.std.specs.Prelude.{slice_index_or}
-use Rattle.std.specs.List.{find}
+use Rattle.std.specs.Prelude.{◌≡◌, ℕ, ◌<◌, ◌≤◌, Bool, false, not, List, Option, Some, None}
+use Rattle.std.specs.Prelude.{IfSome, slice_index_or}
+use Rattle.std.specs.List.{find, list_any}
 use Rattle.sim_node.specs.Numbers.{numbers_from}
+use Rattle.sim_queue.specs.Pending.{first}
 use Rattle.sim_world.specs.World.{World}
+use Rattle.sim_world.specs.Acts.{first_host}
 use Rattle.sim_world.specs.Events.{Rules}
-use Rattle.sim_watch.specs.Condition.{Cond, fault_of, holds}
+use Rattle.sim_watch.specs.Condition.{Cond, terms, concerns, fault_of, holds}
 
 -- each was checked against the numbers of hosts and of probes
 abbrev pub AreChecked : ℕ → ℕ → List (Option Cond) → Type 0
@@ -15,6 +17,18 @@ AreChecked hosts probes watches =
 -- no watch has a number from n on
 abbrev pub NoneFrom : ℕ → List (Option Cond) → Type 0
 NoneFrom n watches = (k : ℕ) → n ≤ k → slice_index_or watches k None ≡ None
+
+-- no watch has a term about host h
+abbrev pub NoneConcerns : ℕ → List (Option Cond) → Type 0
+NoneConcerns h watches =
+    (k : ℕ) → IfSome (slice_index_or watches k None)
+    (λ c. list_any (concerns h) (terms c) ≡ false)
+
+-- the next step is of a host below 32 that has no mark
+abbrev pub IsNextUnmarked : {State Msg : Type 0} → List Bool → World State Msg → Type 0
+IsNextUnmarked marks w =
+    (first_host (first w.queue.items) < 32)
+    × (slice_index_or marks (first_host (first w.queue.items)) false ≡ false)
 
 module _ {State Msg : Type 0} (r : Rules State Msg) where
   -- the lowest watch that fails in a world

@@ -1,15 +1,22 @@
-//! Why a run or a rewind stops at a world.
-ghost use Rattle.std.specs.Prelude.{◌≡◌, ℕ, ◌≤◌, nat_le, None, IsTrue, length};
+//! Why a run or a rewind stops at a world, and whether a watch can be why.
+ghost use Rattle.std.specs.Prelude.{◌≡◌, ℕ, ◌<◌, ◌≤◌, ◌⊎◌, nat_le, None, false, ◌||◌, length};
+ghost use Rattle.std.specs.Prelude.{IsTrue, IsFalse, IfSome, IsSomeAnd, slice_index_or};
+ghost use Rattle.std.specs.List.{list_all};
 ghost use Rattle.sim_world.specs.Events.{Rules, rules};
 ghost use Rattle.sim_runs.specs.Runs.{all_done, first_stop, is_idle, run_stop};
 ghost use Rattle.sim_runs.specs.OnTape.{world_on};
-ghost use Rattle.sim_runs.specs.Watches.{AreChecked, NoneFrom, failing_watch};
+ghost use Rattle.sim_runs.specs.Watches.{AreChecked, NoneFrom, NoneConcerns, IsNextUnmarked};
+ghost use Rattle.sim_runs.specs.Watches.{failing_watch};
 
 use crate::{MAX_EVENTS, MAX_WATCHES, Stop};
 use sim_node::Node;
 use sim_tape::Tape;
 use sim_watch::{Cond, holds};
 use sim_world::{Event, World};
+
+// The least number of steps for which a run asks which hosts its watches are about. A shorter run
+// takes less time without.
+const LONG_RUN: u32 = 16;
 
 /// Returns a number above those of all watches.
 pub(crate) fn end_of(watches: &[Option<Cond>; 8]) -> usize
@@ -23,6 +30,93 @@ pub(crate) fn end_of(watches: &[Option<Cond>; 8]) -> usize
         }
     }
     end
+}
+
+// Returns for each host from 0 to 31 whether `a` or `b` does.
+fn either(a: [bool; 32], b: [bool; 32]) -> [bool; 32]
+    ensures { (h : ℕ) → h < 32 →
+        slice_index_or result h false ≡ (slice_index_or a h false || slice_index_or b h false) }
+{
+    let mut either = [false; 32];
+    for host in 0..32 {
+        either[host] = a[host] || b[host];
+    }
+    either
+}
+
+// Returns for each host from 0 to 31 whether a watch has a term about it.
+fn concerned_hosts(watches: &[Option<Cond>; 8]) -> [bool; 32]
+    ensures { (h : ℕ) → h < 32 → slice_index_or result h false ≡ false →
+        NoneConcerns h watches.now }
+{
+    let mut concerned = [false; 32];
+    for number in 0..MAX_WATCHES {
+        if let Some(cond) = &watches[number] {
+            let joined = either(concerned, cond.concerned());
+            concerned = joined;
+        }
+    }
+    concerned
+}
+
+// Returns whether all hosts from 0 to 31 are marked.
+fn are_all(marks: &[bool; 32]) -> bool
+    ensures { result ≡ list_all (λ mark. mark) marks.now }
+{
+    marks.iter().all(|mark| *mark)
+}
+
+/// Returns for each host from 0 to 31 whether a watch has a term about it, for a run of at most
+/// `count` steps. Returns `None` if each step of the run is to be followed by a test of the
+/// watches: they are about all hosts, or the run has fewer than 16 steps.
+pub(crate) fn concerned(watches: &[Option<Cond>; 8], count: u32) -> Option<[bool; 32]>
+    ensures { IfSome result (λ marks.
+        (h : ℕ) → h < 32 → slice_index_or marks h false ≡ false → NoneConcerns h watches.now) }
+{
+    if count < LONG_RUN {
+        return None;
+    }
+    let concerned = concerned_hosts(watches);
+    if are_all(&concerned) {
+        return None;
+    }
+    Some(concerned)
+}
+
+// Returns whether the next step in a world is of a marked host. True also if nothing is pending, or
+// if the host is not below 32.
+fn is_marked<N: Node>(marks: &[bool; 32], world: &World<N>) -> bool
+    ensures { IsFalse result → IsNextUnmarked marks.now world.now.world }
+{
+    match world.first() {
+        None => true,
+        Some((_, _, occurrence)) => occurrence.host >= 32 || marks[occurrence.host as usize],
+    }
+}
+
+/// Returns whether a watch may fail after the next step at the place of a warm tape, where a run
+/// has added `added` steps and none fails. Only a watch with a term about the host of that step
+/// may; `concerned` says which hosts they are about. Before the first step they were not tested.
+pub(crate) fn may_fail<N: Node>(
+    tape: &Tape<N>,
+    concerned: &Option<[bool; 32]>,
+    end: usize,
+    added: u32,
+) -> bool
+    requires warm { IsTrue tape.now.warm }
+    ensures { IsFalse result → (end ≡ 0) ⊎ ((1 ≤ added) × IsSomeAnd concerned.now (λ marks.
+        IsNextUnmarked marks (world_on N.laws N.PROBES tape.now))) }
+{
+    if end == 0 {
+        return false;
+    }
+    if added == 0 {
+        return true;
+    }
+    match concerned {
+        None => true,
+        Some(marks) => is_marked(marks, tape.here()),
+    }
 }
 
 /// Returns the lowest watch that fails in `world`. All watches have numbers below `end`.
@@ -98,27 +192,32 @@ pub(crate) fn failing_here<N: Node>(
     failing(watches, end, tape.here())
 }
 
-/// Returns the reason why a run stops at the place of a warm tape, if it does.
+/// Returns the reason why a run stops at the place of a warm tape, if it does. `looks` says whether
+/// to test the watches; if not, none fails there.
 pub(crate) fn stop<N: Node>(
     tape: &Tape<N>,
     watches: &[Option<Cond>; 8],
     end: usize,
     asked: bool,
+    looks: bool,
 ) -> Option<Stop>
     requires warm { IsTrue tape.now.warm }
     requires place { tape.now.place ≡ length tape.now.events }
     requires few { end ≤ 8 }
     requires none { NoneFrom end watches.now }
     requires checked { AreChecked tape.now.scenario.setup.hosts N.PROBES watches.now }
+    requires unchanged { IsFalse looks →
+        failing_watch (rules N.laws N.PROBES tape.now.scenario) watches.now
+        (world_on N.laws N.PROBES tape.now) ≡ None }
     ensures { result ≡ run_stop (rules N.laws N.PROBES tape.now.scenario) asked watches.now
         (length tape.now.events)
         (world_on N.laws N.PROBES tape.now) }
 {
     let world = tape.here();
-    let failing = if end == 0 {
-        None
-    } else {
+    let failing = if looks {
         failing(watches, end, world)
+    } else {
+        None
     };
     first_stop(failing, asked, tape.place(), world)
 }

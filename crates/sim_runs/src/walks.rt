@@ -13,8 +13,9 @@ use sim_watch::Cond;
 use sim_world::Event;
 use std::alloc::Global;
 
-// Adds at most `count` steps, until a run has to stop. After want of memory some may have been
-// added.
+// Adds at most `count` steps, until a run has to stop. Tests the watches after the first, and then
+// after each step that can make one fail. After want of memory some may have been added.
+#[inline(always)]
 fn add_steps<N: Node>(
     alloc: Global,
     tape: &mut Tape<N>,
@@ -43,10 +44,12 @@ fn add_steps<N: Node>(
         (N.Meter.work meter.old) (N.Meter.work meter.new)) }
     ensures err { OnErr result (HasGrown tape.old tape.new) }
 {
+    let concerned = stops::concerned(watches, count);
     for added in 0..count {
+        let looks = stops::may_fail(tape, &concerned, end, added);
         tape.add(alloc, Event::Step, meter)?;
         let asked = added + 1 == count;
-        if let Some(why) = stops::stop(tape, watches, end, asked) {
+        if let Some(why) = stops::stop(tape, watches, end, asked, looks) {
             return Ok(why);
         }
     }
@@ -80,8 +83,12 @@ pub fn run<N: Node>(
     ensures err { OnErr result (KeepsRun tape.old tape.new) }
 {
     let start = tape.len();
-    let end = stops::end_of(watches);
-    match add_steps(alloc, tape, watches, end, meter, count) {
+    // Without watches the loop is compiled on its own, and tests none.
+    let added = match stops::end_of(watches) {
+        0 => add_steps(alloc, tape, watches, 0, meter, count),
+        end => add_steps(alloc, tape, watches, end, meter, count),
+    };
+    match added {
         Ok(why) => Ok(why),
         Err(want) => {
             tape.truncate(start);

@@ -5,6 +5,7 @@ use Rattle.sim_tape.specs.Tape.{Tape, with_world}
 use Rattle.sim_runs.specs.Tapes.{lengthened}
 use Rattle.sim_runs.specs.Runs.{Addition, steps}
 use Rattle.sim_runs.proofs.Running.{running_none, running_more, stopped_is, not_past, lengthened_more, reach_more, steps_length, adds_none, adds_on, adds_so}
+use Rattle.sim_runs.proofs.Skipping.{none_untested}
 use Rattle.sim_runs.proofs.walks.add_steps.Goals as goal
 
 pub loop-added-init : goal.loop-added-init
@@ -20,6 +21,11 @@ loop-added-preserved g c =
       adds_on g.N.Node.laws g.N.Node.PROBES c.loop-added.added c.args.tape.now c.loop-added.tape c.add.new.self (steps c.loop-added.added) event.Step (W c.args.meter.now) (W c.loop-added.meter) (W c.add.new.meter)
           c.loop-added.invariant.0.new (steps_length c.loop-added.added) c.in_ok-add.ensures.ok c.loop-added.invariant.1 (c.in_ok-add.ensures.work warm),
     )
+
+pub stop-requires-clause-unchanged : goal.stop-requires-clause-unchanged
+stop-requires-clause-unchanged g c = λ untested.
+    none_untested g.N.Node.laws g.N.Node.PROBES c.args.count c.args.watches.now c.args.tape.now c.loop-added.tape c.add.new.self c.loop-added.added c.args.end c.concerned-concerned.result c.requires.none
+    c.concerned-concerned.ensures c.loop-added.invariant.0 c.in_ok-add.ensures.ok (c.may_fail-looks.ensures untested)
 
 pub returns-in-Some-clause-stop : goal.returns-in-Some-clause-stop
 returns-in-Some-clause-stop g c =
