@@ -1,6 +1,6 @@
 -- Lemmas on the worlds along a list of events, and on the records that lead back.
 use Rattle.std.proofs.Common.{◌≡◌, ◌≢◌, ℕ, suc, ◌+◌, ◌-◌, ◌<◌, ◌≤◌, Bool, true, false, cond, List, [], ◌∷◌, ◌++◌, length, take, drop, get_or, min, refl, sym, ap, subst, ◌∙◌, ⊎_elim, Option, Some, None, arith, length-append, length-drop, length-take}
-use Rattle.std.specs.Prelude.{slice_get}
+use Rattle.std.specs.Prelude.{slice_get, IfSome}
 use Rattle.std.specs.Option.{IsSome, is_some, unwrap_or}
 use Rattle.std.specs.List.{count_by}
 use Rattle.std.proofs.lemmas.Bool.{cases_eq, false≢true}
@@ -14,7 +14,7 @@ use Rattle.sim_node.specs.Work.{Work}
 use Rattle.sim_events.specs.declared.Event.{Event}
 use Rattle.sim_events.specs.declared.Event.TheVariants as event
 use Rattle.sim_events.specs.Scenario.{Scenario}
-use Rattle.sim_world.specs.World.{World}
+use Rattle.sim_world.specs.World.{World, host_at}
 use Rattle.sim_world.specs.Acts.{acts, turns_of, turned_if, is_bounce}
 use Rattle.sim_world.specs.Records.{EventRecord as Kept, InHand, LeadsBack, back, AnswersFor}
 use Rattle.sim_world.specs.Undone.{is_reaction, taken_back}
@@ -23,7 +23,7 @@ use Rattle.sim_world.specs.Events.{Rules, rules, start, next, run, run_from, the
 use Rattle.sim_history.specs.declared.entry.Entry.{Entry}
 use Rattle.sim_history.specs.Log.{events_of}
 use Rattle.sim_history.proofs.Entries.{event_at}
-use Rattle.sim_moves.specs.Places.{world_at, acts_at, acting, IsAt, before, Answers, AreRecords}
+use Rattle.sim_moves.specs.Places.{world_at, ChangesOnly, acts_at, acting, IsAt, before, Answers, AreRecords}
 use Rattle.sim_moves.specs.Works.{undone_by, OnlyTurns}
 
 pub in_hand : {State Msg : Type 0} (v w : InHand State Msg) → v.world ≡ w.world → v.scenario ≡ w.scenario → v.age ≡ w.age → v ≡ w
@@ -59,11 +59,20 @@ module _ {State Msg : Type 0} (r : Rules State Msg) where
       begins (run r (take i es)) (drop i es)
       (subst IsSome (ap (run r) (sym (take-append-drop i es)) ∙ run_from-append (Some (start r)) (take i es) (drop i es)) h)
 
-  run-more : (es : List Event) (i : ℕ) (d : Event) (w : World State Msg) → i < length es → run r (take i es) ≡ Some w → run r (take (i + 1) es) ≡ next r w (get_or es i d)
+  pub run-more : (es : List Event) (i : ℕ) (d : Event) (w : World State Msg) → i < length es → run r (take i es) ≡ Some w → run r (take (i + 1) es) ≡ next r w (get_or es i d)
   run-more es i d w lt is = ap (run r) (take_more es i d lt) ∙ run-snoc (take i es) (get_or es i d) w is
 
   pub world_at-is : (es : List Event) (p : ℕ) (w : InHand State Msg) → IsAt r es p w → world_at r p es ≡ w.world
   world_at-is es p w h = ap (λ o. unwrap_or o (start r)) h.here
+
+  -- where no host changes but one, none other does between the two places
+  pub changes_only : (es : List Event) (p : ℕ) (w v : InHand State Msg) (o : Option ℕ) → IsAt r es p w → IsAt r es (p + 1) v → IfSome o (λ h. h < 32)
+      → IfSome o (λ h. (k : ℕ) → k ≢ h → host_at k v.world ≡ host_at k w.world) → IfSome o (λ h. ChangesOnly r h p es)
+  changes_only es p w v None here there small others = tt
+  changes_only es p w v (Some h) here there small others = (
+    small,
+    λ k apart. (ap (λ (x : World State Msg). host_at k x) (world_at-is es (p + 1) v there) ∙ others k apart ∙ sym (ap (λ (x : World State Msg). host_at k x) (world_at-is es p w here))),
+  )
 
   -- there is one world at a place
   pub at-same : (es : List Event) (p : ℕ) (v w : InHand State Msg) → IsAt r es p v → IsAt r es p w → v ≡ w

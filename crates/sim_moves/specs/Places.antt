@@ -1,13 +1,13 @@
 -- The worlds along a list of events, and the records by which events are undone.
-use Rattle.std.specs.Prelude.{◌≡◌, ℕ, zero, suc, ◌+◌, ◌-◌, ◌*◌, ◌≤◌, if◌then◌else◌, List, length}
-use Rattle.std.specs.Prelude.{take, Some, slice_get, slice_index_or}
+use Rattle.std.specs.Prelude.{◌≡◌, ◌≢◌, ℕ, zero, suc, ◌+◌, ◌-◌, ◌*◌, ◌<◌, ◌≤◌, if◌then◌else◌, List}
+use Rattle.std.specs.Prelude.{length, take, Some, slice_get, slice_index_or}
 use Rattle.std.specs.List.{count_by}
 use Rattle.std.specs.Option.{unwrap_or}
 use Rattle.sim_node.specs.declared.Setup.{Setup}
 use Rattle.sim_node.specs.Node.{NodeRecords}
 use Rattle.sim_events.specs.declared.Event.{Event}
 use Rattle.sim_events.specs.declared.Event.TheVariants as event
-use Rattle.sim_world.specs.World.{World}
+use Rattle.sim_world.specs.World.{World, host_at}
 use Rattle.sim_world.specs.Acts.{acts}
 use Rattle.sim_world.specs.Events.{Rules, run, start}
 use Rattle.sim_world.specs.Records.{EventRecord as Kept, InHand, LeadsBack, back}
@@ -19,6 +19,12 @@ module _ {State Msg : Type 0} (r : Rules State Msg) where
   -- the world after the first p events; each of them can happen
   abbrev pub world_at : ℕ → List Event → World State Msg
   world_at p events = unwrap_or (run r (take p events)) (start r)
+
+  -- from the place p to the next one no host changes but h, which is below 32
+  abbrev pub ChangesOnly : ℕ → ℕ → List Event → Type 0
+  ChangesOnly h p events =
+      (h < 32) × ((k : ℕ) → k ≢ h
+      → host_at k (world_at (p + 1) events) ≡ host_at k (world_at p events))
 
   -- 1 where the event at the place p acts on its world, else 0
   abbrev pub acts_at : ℕ → List Event → ℕ

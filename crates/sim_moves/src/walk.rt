@@ -1,9 +1,10 @@
 //! A world that walks along the events of a log, forward and back.
-ghost use Rattle.std.specs.Prelude.{◌≡◌, ℕ, ◌+◌, ◌-◌, ◌*◌, ◌<◌, ◌≤◌, [], ◌∷◌, ◌++◌, if◌then◌else◌};
-ghost use Rattle.std.specs.Prelude.{length, min, is_some, true, false, IfOk, OnOk, OnErr, IsSome};
-ghost use Rattle.std.specs.Prelude.{Some, None, IsTrue, MatchOption};
+ghost use Rattle.std.specs.Prelude.{◌≡◌, ◌≢◌, ℕ, ◌+◌, ◌-◌, ◌*◌, ◌<◌, ◌≤◌, [], ◌∷◌, ◌++◌};
+ghost use Rattle.std.specs.Prelude.{if◌then◌else◌, length, min, is_some, true, false, IfOk, OnOk};
+ghost use Rattle.std.specs.Prelude.{OnErr, IsSome, IfSome, Some, None, IsTrue, MatchOption};
 ghost use Rattle.std.specs.Arc.{arc_value};
 ghost use Rattle.std.specs.List.{count_by};
+ghost use Rattle.sim_world.specs.World.{host_at};
 ghost use Rattle.sim_world.specs.Acts.{acts, running};
 ghost use Rattle.sim_world.specs.Clock.{clock_after};
 ghost use Rattle.sim_world.specs.Events.{rules, run, next, refusal_of};
@@ -14,7 +15,7 @@ ghost use Rattle.sim_history.specs.Log.{events_of};
 ghost use Rattle.sim_history.specs.Segments.{stretch};
 ghost use Rattle.sim_moves.specs.Walk.{IsRun, IsWalkIn, IsWalkAfter, AreRecordsIn, IsAtIn};
 ghost use Rattle.sim_moves.specs.Walk.{IsAfter, rules_in, world_at_end, world_after};
-ghost use Rattle.sim_moves.specs.Places.{acting};
+ghost use Rattle.sim_moves.specs.Places.{acting, ChangesOnly};
 ghost use Rattle.sim_moves.specs.Works.{undone_by, OnlyTurns, Plays};
 
 use crate::NoMemory;
@@ -70,8 +71,8 @@ fn put<N: Node>(place: &mut Option<World<N>>, world: World<N>)
     }
 }
 
-// Returns the world after an event that can happen, without a record. The records in the ring are
-// useless then.
+// Returns the world after an event that can happen, without a record, and the host of a step: no
+// other host changes. The records in the ring are useless then.
 #[inline(always)]
 fn passed<N: Node>(
     alloc: Global,
@@ -79,22 +80,28 @@ fn passed<N: Node>(
     world: World<N>,
     event: Event,
     meter: &mut N::Meter,
-) -> Result<World<N>, NoMemory>
+) -> Result<(World<N>, Option<u16>), NoMemory>
     requires can { IsSome (next (rules N.laws N.PROBES world.scenario) world.world event) }
     requires young { world.age < 65536 }
-    ensures next { IfOk result (λ w.
-        next (rules N.laws N.PROBES world.scenario) world.world event ≡ Some w.world) }
-    ensures scenario { IfOk result (λ w. w.scenario ≡ world.scenario) }
-    ensures age { IfOk result (λ w. w.age ≡ world.age + 1) }
+    ensures next { IfOk result (λ x.
+        next (rules N.laws N.PROBES world.scenario) world.world event ≡ Some x.0.world) }
+    ensures scenario { IfOk result (λ x. x.0.scenario ≡ world.scenario) }
+    ensures age { IfOk result (λ x. x.0.age ≡ world.age + 1) }
+    ensures there { IfOk result (λ x. IfSome x.1 (λ h. h < 32)) }
+    ensures others { IfOk result (λ x. IfSome x.1 (λ h.
+        (k : ℕ) → k ≢ h → host_at k x.0.world ≡ host_at k world.world)) }
     ensures work { OnOk result (OnlyTurns 1 (N.Meter.work meter.old) (N.Meter.work meter.new)) }
     ensures capacity { ring.new.capacity ≡ ring.old.capacity }
 {
     match event {
         Event::Step => {
-            let (after, _) = world.step_for_good(meter)?;
-            Ok(after)
+            let (after, host) = world.step_for_good(meter)?;
+            Ok((after, Some(host)))
         }
-        Event::Advance(_) | Event::Fault(_) => ring.apply(alloc, world, event, meter),
+        Event::Advance(_) | Event::Fault(_) => {
+            let after = ring.apply(alloc, world, event, meter)?;
+            Ok((after, None))
+        }
     }
 }
 
@@ -329,15 +336,15 @@ impl<N: Node> Walk<N> {
         }
     }
 
-    /// Walks on by one event and drops all records, its own too. Fails only for want of memory;
-    /// there is no world then.
+    /// Walks on by one event and drops all records, its own too. Returns the host of a step: no
+    /// other host changes. Fails only for want of memory; there is no world then.
     pub fn pass(
         &mut self,
         alloc: Global,
         log: &Log,
         place: usize,
         meter: &mut N::Meter,
-    ) -> Result<(), NoMemory>
+    ) -> Result<Option<u16>, NoMemory>
         requires runs { IsRun (rules_in N.laws N.PROBES log.now) log.now.entries }
         requires walk { IsWalkIn N.told N.records N.laws N.PROBES log.now place self.old.world
             self.old.ring.items }
@@ -346,6 +353,8 @@ impl<N: Node> Walk<N> {
         ensures ok { OnOk result (IsWalkIn N.told N.records N.laws N.PROBES log.now (place + 1)
             self.new.world []) }
         ensures warm { OnOk result (IsSome self.new.world) }
+        ensures only { IfOk result (λ host. IfSome host (λ h.
+            ChangesOnly (rules_in N.laws N.PROBES log.now) h place (events_of log.now.entries))) }
         ensures work { OnOk result (OnlyTurns 1 (N.Meter.work meter.old) (N.Meter.work meter.new)) }
         ensures ring { self.new.ring ≡ buffer [] self.old.ring.capacity }
         ensures err { OnErr result (self.new.world ≡ None) }
@@ -356,9 +365,9 @@ impl<N: Node> Walk<N> {
         let event = log.entry(place).event;
         let passed = passed(alloc, &mut self.ring, world, event, meter);
         self.ring.clear();
-        let after = passed?;
+        let (after, host) = passed?;
         self.world = Some(after);
-        Ok(())
+        Ok(host)
     }
 
     /// Walks back over the events of a range, whose records must be there. Fails only for want of

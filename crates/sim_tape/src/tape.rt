@@ -2,13 +2,16 @@
 ghost use Rattle.std.specs.Prelude.{◌≡◌, ℕ, ◌+◌, ◌-◌, ◌*◌, ◌/◌, ◌%◌, ◌==◌, ◌<◌, ◌≤◌, ◌≢◌, [], ◌∷◌};
 ghost use Rattle.std.specs.Prelude.{◌++◌, if◌then◌else◌};
 ghost use Rattle.std.specs.Prelude.{true, false, length, take, map, min, IfOk, IfErr, OnOk, OnErr};
-ghost use Rattle.std.specs.Prelude.{IsOk, IsSome, Some, None, IsTrue, MatchOption};
+ghost use Rattle.std.specs.Prelude.{IsOk, IsSome, IfSome, Some, None, IsTrue, MatchOption, slice_get};
 ghost use Rattle.std.specs.Vec.{vec_len, vec_capacity};
 ghost use Rattle.std.specs.Bool.{OnTrue};
 ghost use Rattle.std.specs.Arc.{arc_value};
+ghost use Rattle.sim_queue.specs.Pending.{first};
+ghost use Rattle.sim_world.specs.Acts.{first_host};
 ghost use Rattle.sim_world.specs.Clock.{clock_after};
 ghost use Rattle.sim_world.specs.Events.{rules, run, refusal_of, IsRunnable};
 ghost use Rattle.sim_history.specs.Log.{events_of};
+ghost use Rattle.sim_moves.specs.Places.{ChangesOnly};
 ghost use Rattle.sim_moves.specs.Walk.{IsRun};
 ghost use Rattle.sim_moves.specs.Works.{OnlyTurns, Plays};
 ghost use Rattle.sim_tape.specs.Tape.{opened, at, with_world, IsMoved, KeepsRun, first_events};
@@ -203,6 +206,30 @@ impl<N: Node> Tape<N> {
         }
     }
 
+    /// Returns the event that follows the place, or `None` at the end.
+    pub fn next_event(&self) -> Option<Event>
+        ensures { result ≡ slice_get self.now.events self.now.place }
+    {
+        if self.log.len() <= self.place as usize {
+            return None;
+        }
+        Some(self.log.entry(self.place as usize).event)
+    }
+
+    /// Returns the host of the event that follows the place, if that is a step: it changes no other
+    /// host. The tape must be warm.
+    pub fn next_host(&self) -> Option<u16>
+        requires { IsTrue self.now.warm }
+        ensures { IfSome result (λ h.
+            ChangesOnly (rules_of N.laws N.PROBES self.now) h self.now.place self.now.events) }
+    {
+        self.laws();
+        match self.next_event()? {
+            Event::Step => first_host(self.here()),
+            Event::Advance(_) | Event::Fault(_) => None,
+        }
+    }
+
     /// Drops the events past the place, and their checkpoints.
     pub fn cut(&mut self)
         ensures { self.new ≡ first_events self.old.place self.old }
@@ -361,20 +388,24 @@ impl<N: Node> Tape<N> {
     }
 
     /// Goes forward by one event and drops all records, its own too: faster than `forward`, and the
-    /// reach is 0 then. Fails only for want of memory; the tape is cold then.
-    pub fn pass(&mut self, alloc: Global, meter: &mut N::Meter) -> Result<(), NoMemory>
+    /// reach is 0 then. Returns the host of a step: no other host changes. Fails only for want of
+    /// memory; the tape is cold then.
+    pub fn pass(&mut self, alloc: Global, meter: &mut N::Meter) -> Result<Option<u16>, NoMemory>
         requires warm { IsTrue self.old.warm }
         requires more { self.old.place < length self.old.events }
         ensures ok { OnOk result (IsMoved (self.old.place + 1) self.old self.new) }
+        ensures only { IfOk result (λ host. IfSome host (λ h.
+            ChangesOnly (rules_of N.laws N.PROBES self.old) h self.old.place self.old.events)) }
         ensures reach { self.new.reach ≡ 0 }
         ensures work { OnOk result (OnlyTurns 1 (N.Meter.work meter.old) (N.Meter.work meter.new)) }
         ensures err { OnErr result (KeepsRun self.old self.new) }
         ensures cold { OnErr result (self.new.warm ≡ false) }
     {
-        self.walk
+        let host = self
+            .walk
             .pass(alloc, &self.log, self.place as usize, meter)?;
         self.place += 1;
-        Ok(())
+        Ok(host)
     }
 
     /// Adds an event that can happen, at the end. The clock never goes back. Fails only for want of
@@ -589,6 +620,15 @@ impl<N: Node> Tape<N> {
         let list = self.log.events(alloc)?;
         Ok(Frozen::of(log, list, checkpoints))
     }
+}
+
+// Returns the host of the first pending occurrence in a world: no other host changes by a step.
+fn first_host<N: Node>(world: &World<N>) -> Option<u16>
+    ensures { IfSome result (λ h. (h < 32) × (h ≡ first_host (first world.now.world.queue.items))) }
+{
+    let (_, _, occurrence) = world.first()?;
+    let host = occurrence.host;
+    if host < 32 { Some(host) } else { None }
 }
 
 // Makes room for one more event and, if it ends an interval, for one more world. Returns whether it

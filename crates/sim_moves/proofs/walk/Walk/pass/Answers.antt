@@ -2,7 +2,7 @@ use Rattle.std.proofs.Common.{◌+◌, sym, ◌∙◌, arith}
 use Rattle.sim_world.specs.Events.{rules}
 use Rattle.sim_history.specs.Log.{events_of}
 use Rattle.sim_history.proofs.Entries.{events-length}
-use Rattle.sim_moves.proofs.Placing.{can_play, passed_at, no_records}
+use Rattle.sim_moves.proofs.Placing.{can_play, passed_at, changes_only, no_records}
 use Rattle.sim_moves.proofs.Walking.{walk_here}
 use Rattle.sim_moves.proofs.walk.Walk.pass.Goals as goal
 
@@ -29,3 +29,14 @@ returns-clause-ok g c =
       here = passed_at g.N.Node.told g.N.Node.records g.N.Node.laws g.N.Node.PROBES log.scenario log.entries c.args.place c.entry-event.result w c.in_ok-after.after c.entry-event.ensures here v.next v.scenario v.age;
       answers = no_records g.N.Node.told g.N.Node.records r (events_of log.entries) (c.args.place + 1);
     }
+
+pub returns-clause-only : goal.returns-clause-only
+returns-clause-only g c =
+    let log = c.args.log.now in
+    let old = c.args.self.now in
+    let r = rules g.N.Node.laws g.N.Node.PROBES log.scenario in
+    let w = c.in-Some.world in
+    let v = c.in_ok-after.ensures in
+    let here = walk_here g.N.Node.told g.N.Node.records r (events_of log.entries) c.args.place old.world old.ring.items w c.requires.walk (sym c.take.ensures.value ∙ c.in-Some.is) in
+    let there = passed_at g.N.Node.told g.N.Node.records g.N.Node.laws g.N.Node.PROBES log.scenario log.entries c.args.place c.entry-event.result w c.in_ok-after.after c.entry-event.ensures here v.next v.scenario v.age in
+    changes_only r (events_of log.entries) c.args.place w c.in_ok-after.after c.in_ok-after.host here there v.there v.others
