@@ -1,6 +1,8 @@
 -- A scan goes on by one place, and stops.
-use Rattle.std.proofs.Common.{◌≡◌, ℕ, ◌+◌, ◌-◌, ◌*◌, ◌/◌, ◌%◌, ◌<◌, ◌≤◌, true, false, not, Bool, List, Option, Some, None, length, take, get_or, replicate, refl, sym, ap, ◌∙◌, subst, arith, inl, inr}
-use Rattle.std.specs.Option.{IsSome}
+use Rattle.std.proofs.Common.{◌≡◌, ◌≢◌, ℕ, ◌+◌, ◌-◌, ◌*◌, ◌/◌, ◌%◌, ◌<◌, ◌≤◌, true, false, not, Bool, List, Option, Some, None, length, take, get_or, replicate, refl, sym, ap, ◌∙◌, subst, arith, inl, inr}
+use Rattle.std.specs.Prelude.{IfSome, IsSomeAnd}
+use Rattle.std.specs.Option.{IsSome, unwrap_or}
+use Rattle.std.specs.List.{list_any}
 use Rattle.std.proofs.Math.Nat.{eq-or-lt_of_le}
 use Rattle.std.proofs.lemmas.Bool.{cases_order}
 use Rattle.std.proofs.lemmas.List.{length-replicate, take-take, take_more, get_or-replicate}
@@ -11,32 +13,29 @@ use Rattle.sim_events.specs.declared.Event.TheVariants as event
 use Rattle.sim_events.specs.declared.Refusal.{Refusal}
 use Rattle.sim_world.specs.Acts.{turned_by, turned_if}
 use Rattle.sim_events.specs.Scenario.{Scenario}
-use Rattle.sim_world.specs.World.{World}
+use Rattle.sim_world.specs.World.{World, host_at}
 use Rattle.sim_world.specs.Records.{InHand}
 use Rattle.sim_world.specs.Events.{Rules, rules, run, start, next, after, refusal_of, unless_refused}
 use Rattle.sim_history.proofs.Joined.{quotient}
-use Rattle.sim_moves.specs.Places.{IsAt}
+use Rattle.sim_moves.specs.Places.{IsAt, ChangesOnly}
 use Rattle.sim_moves.specs.Works.{OnlyTurns, Plays}
 use Rattle.sim_moves.proofs.Placing.{run-snoc, run-front, at-next}
 use Rattle.sim_tape.specs.Tape.{Tape, with_world, at}
-use Rattle.sim_watch.specs.Condition.{Cond, holds, fault_of}
+use Rattle.sim_watch.specs.Condition.{Cond, terms, concerns, holds, fault_of}
+use Rattle.sim_watch.proofs.Concerned.{holds_same}
 use Rattle.sim_scan.specs.Search.{fails_of, fails_at, first_failing}
 use Rattle.sim_scan.specs.Scanning.{IsScanning, IsStepping}
 use Rattle.sim_watch.proofs.Firsts.{least_is, least_none}
 
-module _ {State Msg : Type 0} (node : NodeLaws State Msg) (probes : ℕ) (c : Cond) where
-  -- a tape that was made at the piece's first place
-  pub scanning_none : (s : Scenario) (events : List Event) (lo : ℕ) (t : Tape) → t ≡ record { scenario = s; events = events; place = lo; warm = true; reach = 0 }
-      → IsScanning node probes c s events lo lo t
-  scanning_none s events lo t is = record {
-    tape = is ∙ ap (λ (n : ℕ). record { scenario = s; events = events; place = lo; warm = true; reach = n }) (sym (ap (λ (x : Tape). x.reach) is));
-    before = λ j a b. absurd (omega arith);
-  }
+none_some : {X : Type 0} (o : Option X) → o ≡ None → IsSome o → ⊥
+none_some None e h = absurd cc
+none_some (Some x) e h = absurd cc
 
+module _ {State Msg : Type 0} (node : NodeLaws State Msg) (probes : ℕ) (c : Cond) where
   -- what is found of the tape's place is said of the run
-  pub found_at : (s : Scenario) (events : List Event) (lo p : ℕ) (t : Tape) (b : Bool) → IsScanning node probes c s events lo p t
+  pub found_at : (s : Scenario) (events : List Event) (p : ℕ) (t : Tape) (b : Bool) → t ≡ record { scenario = s; events = events; place = p; warm = true; reach = t.reach }
       → b ≡ fails_at (rules node probes t.scenario) c t.events t.place → fails_at (rules node probes s) c events p ≡ b
-  found_at s events lo p t b h e = sym (e ∙ ap (λ (x : Tape). fails_at (rules node probes x.scenario) c x.events x.place) h.tape)
+  found_at s events p t b is e = sym (e ∙ ap (λ (x : Tape). fails_at (rules node probes x.scenario) c x.events x.place) is)
 
   before_more : (r : Rules State Msg) (events : List Event) (lo p : ℕ) → ((j : ℕ) → lo ≤ j → j < p → fails_at r c events j ≡ false) → fails_at r c events p ≡ false
       → (j : ℕ) → lo ≤ j → j < p + 1 → fails_at r c events j ≡ false
@@ -47,13 +46,45 @@ module _ {State Msg : Type 0} (node : NodeLaws State Msg) (probes : ℕ) (c : Co
         | inr less ↦ h j a less
       ]
 
-  -- one place more
-  pub scanning_more : (s : Scenario) (events : List Event) (lo p : ℕ) (t u : Tape) → IsScanning node probes c s events lo p t → u ≡ with_world true u.reach (at (t.place + 1) t)
-      → fails_at (rules node probes s) c events p ≡ false → IsScanning node probes c s events lo (p + 1) u
-  scanning_more s events lo p t u h is none = record {
-    tape = is ∙ ap (λ (x : Tape). with_world true u.reach (at (x.place + 1) x)) h.tape;
-    before = before_more (rules node probes s) events lo p h.before none;
+  -- a warm tape at the first place, where the condition does not fail
+  pub scanning_none : (t : Tape) (p : ℕ) (b : Bool) → p ≡ t.place → t.warm ≡ true → b ≡ fails_at (rules node probes t.scenario) c t.events t.place → b ≡ false
+      → IsScanning node probes c t.scenario t.events t.place p t
+  scanning_none t p b is warm here none = record {
+    tape = λ i. record { scenario = t.scenario; events = t.events; place = sym is i; warm = warm i; reach = t.reach };
+    none = λ j from to. (let same : j ≡ t.place = omega (arith, is, from, to) in ap (fails_at (rules node probes t.scenario) c t.events) same ∙ sym here ∙ none);
   }
+
+  -- one place more
+  pub tape_on : (s : Scenario) (events : List Event) (lo p : ℕ) (t u : Tape) → IsScanning node probes c s events lo p t → u ≡ with_world true u.reach (at (t.place + 1) t)
+      → u ≡ record { scenario = s; events = events; place = p + 1; warm = true; reach = u.reach }
+  tape_on s events lo p t u h is = is ∙ ap (λ (x : Tape). with_world true u.reach (at (x.place + 1) x)) h.tape
+
+  pub scanning_more : (s : Scenario) (events : List Event) (lo p : ℕ) (t u : Tape) → IsScanning node probes c s events lo p t → u ≡ with_world true u.reach (at (t.place + 1) t)
+      → fails_at (rules node probes s) c events (p + 1) ≡ false → IsScanning node probes c s events lo (p + 1) u
+  scanning_more s events lo p t u h is none = record {
+    tape = tape_on s events lo p t u h is;
+    none = λ j from to. before_more (rules node probes s) events lo (p + 1) (λ i a b. h.none i a (omega (arith, b))) none j from (omega (arith, to));
+  }
+
+  -- an event of a host that the condition is not about does not make it fail
+  fails_not : (r : Rules State Msg) (h : ℕ) (o q : Option (World State Msg)) → (IsSome q → IsSome o)
+      → ((k : ℕ) → k ≢ h → host_at k (unwrap_or q (start r)) ≡ host_at k (unwrap_or o (start r))) → list_any (concerns h) (terms c) ≡ false
+      → fails_of r c o ≡ false → fails_of r c q ≡ false
+  fails_not r h o None front others out none = refl
+  fails_not r h None (Some v) front others out none = (let some = front refl in absurd cc)
+  fails_not r h (Some w) (Some v) front others out none = ap not (holds_same r.node h w v others c out) ∙ none
+
+  run_before : (r : Rules State Msg) (es : List Event) (p : ℕ) → IsSome (run r (take (p + 1) es)) → IsSome (run r (take p es))
+  run_before r es p some = subst (λ (xs : List Event). IsSome (run r xs)) (take-take p (p + 1) es (omega arith)) (run-front r p (take (p + 1) es) some)
+
+  pub still_none : (s : Scenario) (events : List Event) (lo p : ℕ) (t : Tape) (marks : List Bool) (host : Option ℕ) → IsScanning node probes c s events lo p t → lo ≤ p
+      → ((k : ℕ) → k < 32 → get_or marks k false ≡ list_any (concerns k) (terms c)) → IfSome host (λ h. ChangesOnly (rules node probes t.scenario) h t.place t.events)
+      → IsSomeAnd host (λ h. get_or marks h false ≡ false) → fails_at (rules node probes s) c events (p + 1) ≡ false
+  still_none s events lo p t marks None scanning from about only out = absurd out
+  still_none s events lo p t marks (Some h) scanning from about only out =
+      let r : Rules State Msg = rules node probes s in
+      let here : ChangesOnly r h p events = subst (λ (x : Tape). ChangesOnly (rules node probes x.scenario) h x.place x.events) scanning.tape only in
+      fails_not r h (run r (take p events)) (run r (take (p + 1) events)) (run_before r events p) here.1 (sym (about h here.0) ∙ out) (scanning.none p from (omega arith))
 
   -- the first failing place is found, or there is none
   pub found_is : (r : Rules State Msg) (events : List Event) (lo hi p : ℕ) → lo ≤ p → p ≤ hi → ((j : ℕ) → lo ≤ j → j < p → fails_at r c events j ≡ false) → fails_at r c events p ≡ true
@@ -71,15 +102,22 @@ module _ {State Msg : Type 0} (node : NodeLaws State Msg) (probes : ℕ) (c : Co
 pub checked_at : (probes : ℕ) (c : Cond) (s : Scenario) (t : Tape) → t.scenario ≡ s → fault_of s.setup.hosts probes c ≡ None → fault_of t.scenario.setup.hosts probes c ≡ None
 checked_at probes c s t same e = ap (λ (x : Scenario). fault_of x.setup.hosts probes c) same ∙ e
 
--- the work of one place more
-pub plays_more : (m n k : ℕ) (a b d : Work) → Plays m k a b → OnlyTurns 1 b d → n ≡ m + 1 → Plays n k a d
-plays_more m n k a b d h p is =
+-- the work of a walk from a checkpoint, and of some turns more
+pub plays_on : (m n l k : ℕ) (a b d : Work) → Plays m k a b → OnlyTurns n b d → m + n ≤ l → Plays l k a d
+plays_on m n l k a b d h p le =
     let x = h.turns in
     let y = p.turns in
-    record { turns = omega (arith, x, y, is); copies = p.copies ∙ h.copies; undos = p.undos ∙ h.undos }
+    record { turns = omega (arith, x, y, le); copies = p.copies ∙ h.copies; undos = p.undos ∙ h.undos }
 
-pub plays_within : (m n k : ℕ) (a b : Work) → m ≤ n → Plays m k a b → Plays n k a b
-plays_within m n k a b le h = let x = h.turns in record { turns = omega (arith, x, le); copies = h.copies; undos = h.undos }
+-- no turns, and one turn more
+pub turned_none : (n : ℕ) (a : Work) → OnlyTurns n a a
+turned_none n a = record { turns = omega arith; copies = refl; undos = refl }
+
+pub turned_more : (m n : ℕ) (a b d : Work) → OnlyTurns m a b → OnlyTurns 1 b d → m + 1 ≤ n → OnlyTurns n a d
+turned_more m n a b d h p le =
+    let x = h.turns in
+    let y = p.turns in
+    record { turns = omega (arith, x, y, le); copies = p.copies ∙ h.copies; undos = p.undos ∙ h.undos }
 
 -- each host is booted at the start of a run
 pub turns_begun : (n : ℕ) (a b : Work) → b ≡ turned_by n a → OnlyTurns (n + 0) a b
@@ -137,10 +175,6 @@ module _ {State Msg : Type 0} (node : NodeLaws State Msg) (probes : ℕ) (c : Co
   no_world : (r : Rules State Msg) (o : Option (World State Msg)) → (IsSome o → ⊥) → fails_of r c o ≡ false
   no_world r None h = refl
   no_world r (Some w) h = absurd (h refl)
-
-  none_some : (o : Option (World State Msg)) → o ≡ None → IsSome o → ⊥
-  none_some None e h = absurd cc
-  none_some (Some w) e h = absurd cc
 
   -- past a world where nothing is pending no place fails
   past_idle : (s : Scenario) (n p : ℕ) (w : InHand State Msg) (why : Refusal) → p < n → IsStepping node probes c s n p w

@@ -12,7 +12,7 @@ use Rattle.sim_watch.specs.Condition.{Cond}
 use Rattle.sim_scan.specs.Search.{fails_at}
 
 module _ {State Msg : Type 0} (node : NodeLaws State Msg) (probes : ℕ) where
-  -- The tape is at a place of a run, and from the place lo to there the condition did not fail.
+  -- The tape is at a place of a run, and from the place lo to this one the condition does not fail.
   pub record IsScanning (c : Cond) (s : Scenario) (events : List Event) (lo place : ℕ)
       (t : Tape) : Type 0 where
     pub tape : t ≡ record {
@@ -22,7 +22,7 @@ module _ {State Msg : Type 0} (node : NodeLaws State Msg) (probes : ℕ) where
       warm = true;
       reach = t.reach;
     }
-    pub before : (j : ℕ) → lo ≤ j → j < place → fails_at (rules node probes s) c events j ≡ false
+    pub none : (j : ℕ) → lo ≤ j → j ≤ place → fails_at (rules node probes s) c events j ≡ false
 
   -- The world is that after `place` steps of at most n, and the condition did not fail before.
   pub record IsStepping (c : Cond) (s : Scenario) (n place : ℕ)

@@ -10,8 +10,9 @@
 //!
 //! - A piece begins at a checkpoint, so the walk of a piece and the walk from its checkpoint are
 //!   one.
-//! - A sweep walks a world and not a tape, with steps that keep no record. A step changes one host
-//!   alone, so the condition is tested only after a step of a concerned host.
+//! - A sweep walks a world and not a tape, with steps that keep no record.
+//! - A step changes one host alone. So the condition is tested only after a step of a host that it
+//!   is about, and after an advance or a fault.
 #![tactic(auto)]
 
 mod cutting;

@@ -1,6 +1,7 @@
 //! Scans of a run for the first place at which a condition fails.
-ghost use Rattle.std.specs.Prelude.{◌≡◌, ℕ, ◌+◌, ◌/◌, ◌%◌, ◌≤◌, IsTrue, IfOk, OnOk, length, not};
-ghost use Rattle.std.specs.Prelude.{replicate};
+ghost use Rattle.std.specs.Prelude.{◌≡◌, ℕ, ◌+◌, ◌-◌, ◌/◌, ◌%◌, ◌<◌, ◌≤◌, IsTrue, IsFalse, IfOk};
+ghost use Rattle.std.specs.Prelude.{OnOk, IfSome, IsSomeAnd, length, not, false, replicate};
+ghost use Rattle.std.specs.Prelude.{slice_index_or};
 ghost use Rattle.std.specs.Option.{unwrap_or};
 ghost use Rattle.sim_world.specs.Events.{rules, IsRunnable};
 ghost use Rattle.sim_moves.specs.Works.{OnlyTurns, Plays};
@@ -23,6 +24,51 @@ fn fails_here<N: Node>(tape: &Tape<N>, cond: &Cond) -> bool
         cond.now tape.now.events tape.now.place }
 {
     !holds(cond, tape.here())
+}
+
+// Returns whether the event before a place may have changed whether a condition holds: it was no
+// step, or the step was of one of the marked hosts.
+fn may_differ(marks: &[bool; 32], host: Option<u16>) -> bool
+    requires { IfSome host (λ h. h < 32) }
+    ensures { IsFalse result → IsSomeAnd host (λ h. slice_index_or marks.now h false ≡ false) }
+{
+    match host {
+        None => true,
+        Some(host) => marks[host as usize],
+    }
+}
+
+// Walks a warm tape on to the first place at which a checked condition fails, and returns it, or
+// to the place `hi`. The condition is tested only where it may have changed.
+fn scan_on<N: Node>(
+    alloc: Global,
+    tape: &mut Tape<N>,
+    hi: u32,
+    cond: &Cond,
+    meter: &mut N::Meter,
+) -> Result<Option<u32>, NoMemory>
+    requires warm { IsTrue tape.old.warm }
+    requires order { tape.old.place ≤ hi }
+    requires end { hi ≤ length tape.old.events }
+    requires checked { fault_of tape.old.scenario.setup.hosts N.PROBES cond.now ≡ None }
+    ensures place { IfOk result (λ found.
+        found ≡ first_failing (rules N.laws N.PROBES tape.old.scenario)
+        cond.now tape.old.events tape.old.place hi) }
+    ensures work { OnOk result (OnlyTurns (hi - tape.old.place)
+        (N.Meter.work meter.old) (N.Meter.work meter.new)) }
+{
+    let lo = tape.place();
+    if fails_here(tape, cond) {
+        return Ok(Some(lo));
+    }
+    let marks = cond.concerned();
+    for place in lo..hi {
+        let host = tape.pass(alloc, meter)?;
+        if may_differ(&marks, host) && fails_here(tape, cond) {
+            return Ok(Some(place + 1));
+        }
+    }
+    Ok(None)
 }
 
 /// Returns the least place of a piece of a frozen run at which a checked condition fails. The piece
@@ -81,25 +127,9 @@ pub fn scan_after<N: Node>(
 {
     frozen.laws();
     let mut tape = frozen.tape_after(alloc, last.take(), piece.lo, meter)?;
-    for place in piece.lo..piece.hi {
-        if fails_here(&tape, cond) {
-            *last = Some(tape);
-            return Ok(Finding {
-                piece,
-                place: Some(place),
-            });
-        }
-        tape.pass(alloc, meter)?;
-    }
-    if fails_here(&tape, cond) {
-        *last = Some(tape);
-        return Ok(Finding {
-            piece,
-            place: Some(piece.hi),
-        });
-    }
+    let place = scan_on(alloc, &mut tape, piece.hi, cond, meter)?;
     *last = Some(tape);
-    Ok(Finding { piece, place: None })
+    Ok(Finding { piece, place })
 }
 
 /// Returns the least place of a run of at most `events` steps at which a checked condition fails.
