@@ -1,7 +1,7 @@
 -- A step of a host that no watch is about makes no watch fail.
-use Rattle.std.proofs.Common.{◌≡◌, ◌≢◌, ℕ, zero, suc, ◌+◌, ◌<◌, ◌≤◌, ◌==◌, Bool, true, false, not, List, [], ◌∷◌, ◌++◌, Option, Some, None, length, get_or, refl, sym, ap, ◌∙◌, ◌⊎◌, inl, inr, arith, append_assoc, nat_le, subst}
+use Rattle.std.proofs.Common.{◌≡◌, ◌≢◌, ℕ, zero, suc, ◌+◌, ◌-◌, ◌<◌, ◌≤◌, ◌==◌, Bool, true, false, not, List, [], ◌∷◌, ◌++◌, Option, Some, None, length, get_or, refl, sym, ap, ◌∙◌, ◌⊎◌, inl, inr, arith, append_assoc, nat_le, subst}
 use Rattle.std.specs.Prelude.{if◌then◌else◌, IfSome, IsSomeAnd}
-use Rattle.std.specs.Option.{unwrap_or}
+use Rattle.std.specs.Option.{is_some, unwrap_or}
 use Rattle.std.specs.List.{find, list_any}
 use Rattle.std.proofs.Math.Nat.{eq-or-lt_of_le}
 use Rattle.sim_node.specs.Node.{NodeLaws}
@@ -13,15 +13,18 @@ use Rattle.sim_world.specs.World.{World, host_at}
 use Rattle.sim_world.specs.Acts.{first_host}
 use Rattle.sim_world.specs.Events.{Rules, rules, run, run_from, then_next, start, stepped, refusal_of, unless_refused}
 use Rattle.sim_world.proofs.OneHost.{host_after_step}
-use Rattle.sim_tape.specs.Tape.{Tape, with_world, with_event}
+use Rattle.sim_moves.specs.Places.{world_at, ChangesOnly}
+use Rattle.sim_tape.specs.Tape.{Tape, with_world, with_event, at}
 use Rattle.sim_tape.specs.Places.{world_of}
 use Rattle.sim_watch.specs.Condition.{Cond, terms, concerns}
 use Rattle.sim_watch.proofs.Concerned.{holds_same}
 use Rattle.sim_watch.proofs.Firsts.{find_nowhere}
 use Rattle.sim_runs.specs.Branch.{Branch, branch_with}
 use Rattle.sim_runs.specs.Watches.{NoneFrom, NoneConcerns, IsNextUnmarked, watch_fails, failing_watch}
-use Rattle.sim_runs.specs.Runs.{first_stop, steps, all_done, after_steps, is_idle, most_events}
-use Rattle.sim_runs.specs.Running.{IsRunning}
+use Rattle.sim_runs.specs.declared.rewinds.Found.{Found}
+use Rattle.sim_runs.specs.Runs.{failing_at, first_stop, steps, all_done, after_steps, is_idle, most_events}
+use Rattle.sim_runs.specs.Running.{IsRunning, IsRewinding, IsLooking, IsLast, NoneFails}
+use Rattle.sim_runs.proofs.Rewinding.{moved_back, moved_on}
 use Rattle.sim_runs.proofs.Stopping.{none_fails}
 use Rattle.sim_runs.proofs.Running.{steps_more, world_after, lengthened_more}
 
@@ -44,18 +47,26 @@ none_passes test k (suc n) j e a b =
       | inr less ↦ none_passes test (k + 1) n j p.1 (omega arith) (omega arith)
     ]
 
+pub not_found : (o : Option Found) → is_some o ≡ false → o ≡ None
+not_found None e = refl
+not_found (Some f) e = absurd cc
+
 module _ {State Msg : Type 0} (r : Rules State Msg) where
   fails_same : (h : ℕ) (w v : World State Msg) → ((k : ℕ) → k ≢ h → host_at k v ≡ host_at k w) → (o : Option Cond) → IfSome o (λ c. list_any (concerns h) (terms c) ≡ false)
       → watch_fails r v o ≡ watch_fails r w o
   fails_same h w v others None out = refl
   fails_same h w v others (Some c) out = ap not (holds_same r.node h w v others c out)
 
+  -- where only a host changes that no watch is about
+  none_changed : (watches : List (Option Cond)) (h : ℕ) (w v : World State Msg) → ((k : ℕ) → k ≢ h → host_at k v ≡ host_at k w) → NoneConcerns h watches
+      → failing_watch r watches w ≡ None → failing_watch r watches v ≡ None
+  none_changed watches h w v others out none =
+      find_nowhere (λ k. watch_fails r v (get_or watches k None)) 8
+      (λ j lt. fails_same h w v others (get_or watches j None) (out j) ∙ none_passes (λ k. watch_fails r w (get_or watches k None)) 0 8 j none (omega arith) (omega arith))
+
   none_after_step : (watches : List (Option Cond)) (w : World State Msg) → NoneConcerns (first_host (first w.queue.items)) watches → failing_watch r watches w ≡ None
       → failing_watch r watches (stepped r w) ≡ None
-  none_after_step watches w out none =
-      find_nowhere (λ k. watch_fails r (stepped r w) (get_or watches k None)) 8
-      (λ j lt. fails_same (first_host (first w.queue.items)) w (stepped r w) (λ k apart. host_after_step r k w apart) (get_or watches j None) (out j)
-      ∙ none_passes (λ k. watch_fails r w (get_or watches k None)) 0 8 j none (omega arith) (omega arith))
+  none_after_step watches w out none = none_changed watches (first_host (first w.queue.items)) w (stepped r w) (λ k apart. host_after_step r k w apart) out none
 
   -- the same for the world that a run leads to, if it does
   none_after_next : (watches : List (Option Cond)) (o : Option (World State Msg)) → refusal_of r event.Step (unwrap_or o (start r)) ≡ None
@@ -105,3 +116,46 @@ module _ {State Msg : Type 0} (node : NodeLaws State Msg) (probes : ℕ) where
   none_untested n ws t u v k end None none about h more (inr other) = absurd other.1
   none_untested n ws t u v k end (Some ms) none about h more (inr other) =
       none_newly n ws t u v k other.0 h more (about (first_host (first (world_of (rules node probes u.scenario) u).queue.items)) other.1.0 other.1.1)
+
+  -- nor at the place before an event, if none fails after it, or the other way round
+  none_between : (ws : List (Option Cond)) (t : Tape) (h p q : ℕ) → p + 1 ≡ q → ChangesOnly (rules node probes t.scenario) h p t.events → NoneConcerns h ws
+      → (failing_at (rules node probes t.scenario) (branch_with ws t) p ≡ None → failing_at (rules node probes t.scenario) (branch_with ws t) q ≡ None)
+      × (failing_at (rules node probes t.scenario) (branch_with ws t) q ≡ None → failing_at (rules node probes t.scenario) (branch_with ws t) p ≡ None)
+  none_between ws t h p q next only out =
+      let r : Rules State Msg = rules node probes t.scenario in
+      let here : World State Msg = world_at r p t.events in
+      let there : World State Msg = world_at r q t.events in
+      let others : (k : ℕ) → k ≢ h → host_at k there ≡ host_at k here = subst (λ (n : ℕ). (k : ℕ) → k ≢ h → host_at k (world_at r n t.events) ≡ host_at k here) next only.1 in (
+        λ none. none_changed r ws h here there others out none,
+        λ none. none_changed r ws h there here (λ k apart. sym (others k apart)) out none,
+      )
+
+  pub none_before : (ws : List (Option Cond)) (t u v : Tape) (k : ℕ) (marks : Option (List Bool)) (host : Option ℕ) → IsRewinding node probes ws t k u → 1 ≤ k → k + 1 ≤ t.place
+      → v ≡ with_world true v.reach (at (u.place - 1) u)
+      → IfSome marks (λ ms. (h : ℕ) → h < 32 → get_or ms h false ≡ false → NoneConcerns h ws) → IfSome host (λ h. ChangesOnly (rules node probes v.scenario) h v.place v.events)
+      → IsSomeAnd marks (λ ms. IsSomeAnd host (λ h. (h < 32) × (get_or ms h false ≡ false)))
+      → failing_watch (rules node probes v.scenario) ws (world_of (rules node probes v.scenario) v) ≡ None
+  none_before ws t u v k None host h some le gone about only out = absurd out
+  none_before ws t u v k (Some ms) None h some le gone about only out = absurd out
+  none_before ws t u v k (Some ms) (Some x) h some le gone about only out =
+      let q : ℕ = t.place - (k + 1) in
+      let is = moved_back t u v k h.new gone in
+      let here : ChangesOnly (rules node probes t.scenario) x q t.events = subst (λ (y : Tape). ChangesOnly (rules node probes y.scenario) x y.place y.events) is only in
+      let after = h.none (t.place - k) (omega arith) (omega (arith, some, le)) in
+      subst (λ (y : Tape). failing_watch (rules node probes y.scenario) ws (world_of (rules node probes y.scenario) y) ≡ None) (sym is)
+      ((none_between ws t x q (t.place - k) (omega (arith, le)) here (about x out.0 out.1)).1 after)
+
+  pub none_on : (ws : List (Option Cond)) (t u v : Tape) (k : ℕ) (marks : Option (List Bool)) (host : Option ℕ) (last : Option Found) → IsLooking node probes ws t k last u → last ≡ None
+      → v ≡ with_world true v.reach (at (u.place + 1) u)
+      → IfSome marks (λ ms. (h : ℕ) → h < 32 → get_or ms h false ≡ false → NoneConcerns h ws) → IfSome host (λ h. ChangesOnly (rules node probes u.scenario) h u.place u.events)
+      → IsSomeAnd marks (λ ms. IsSomeAnd host (λ h. (h < 32) × (get_or ms h false ≡ false)))
+      → failing_watch (rules node probes v.scenario) ws (world_of (rules node probes v.scenario) v) ≡ None
+  none_on ws t u v k None host last h none gone about only out = absurd out
+  none_on ws t u v k (Some ms) None last h none gone about only out = absurd out
+  none_on ws t u v k (Some ms) (Some x) last h none gone about only out =
+      let p : ℕ = t.place + k in
+      let is = moved_on t u v k h.new gone in
+      let here : ChangesOnly (rules node probes t.scenario) x p t.events = subst (λ (y : Tape). ChangesOnly (rules node probes y.scenario) x y.place y.events) h.new only in
+      let before : NoneFails node probes ws t t.place (t.place + k + 1) = subst (IsLast node probes ws t t.place (t.place + k + 1)) none h.found in
+      subst (λ (y : Tape). failing_watch (rules node probes y.scenario) ws (world_of (rules node probes y.scenario) y) ≡ None) (sym is)
+      ((none_between ws t x p (t.place + (k + 1)) (omega arith) here (about x out.0 out.1)).0 (before p (omega arith) (omega arith)))

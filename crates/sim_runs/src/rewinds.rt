@@ -1,6 +1,6 @@
 //! A rewind: back until a watch fails.
 ghost use Rattle.std.specs.Prelude.{◌≡◌, ℕ, ◌+◌, ◌-◌, ◌/◌, ◌%◌, ◌<◌, ◌≤◌};
-ghost use Rattle.std.specs.Prelude.{IsTrue, OnOk, OnErr, IfOk, length};
+ghost use Rattle.std.specs.Prelude.{IsTrue, IsFalse, OnOk, OnErr, IfOk, None, length};
 ghost use Rattle.sim_world.specs.Events.{rules};
 ghost use Rattle.sim_tape.specs.Tape.{IsMoved, KeepsRun};
 ghost use Rattle.sim_runs.specs.OnTape.{IsElsewhere, world_on, rewind_on};
@@ -25,15 +25,27 @@ struct Found {
 }
 
 // Returns the place of a warm tape and the lowest watch that fails there, or `None` if none fails.
-fn found_here<N: Node>(tape: &Tape<N>, watches: &[Option<Cond>; 8], end: usize) -> Option<Found>
+// `looks` says whether to test the watches; if not, none fails there.
+fn found_here<N: Node>(
+    tape: &Tape<N>,
+    watches: &[Option<Cond>; 8],
+    end: usize,
+    looks: bool,
+) -> Option<Found>
     requires warm { IsTrue tape.now.warm }
     requires few { end ≤ 8 }
     requires none { NoneFrom end watches.now }
     requires checked { AreChecked tape.now.scenario.setup.hosts N.PROBES watches.now }
+    requires unchanged { IsFalse looks →
+        failing_watch (rules N.laws N.PROBES tape.now.scenario) watches.now
+        (world_on N.laws N.PROBES tape.now) ≡ None }
     ensures { result ≡ found_at tape.now.place
         (failing_watch (rules N.laws N.PROBES tape.now.scenario) watches.now
         (world_on N.laws N.PROBES tape.now)) }
 {
+    if !looks {
+        return None;
+    }
     match stops::failing_here(tape, watches, end) {
         None => None,
         Some(watch) => Some(Found {
@@ -44,6 +56,7 @@ fn found_here<N: Node>(tape: &Tape<N>, watches: &[Option<Cond>; 8], end: usize) 
 }
 
 // Goes back by at most `count` events, one at a time and within the reach, until a watch fails.
+// Tests the watches before the last event, and then only before events that may change them.
 fn look_near<N: Node>(
     alloc: Global,
     tape: &mut Tape<N>,
@@ -69,17 +82,19 @@ fn look_near<N: Node>(
         (N.Meter.work meter.old) (N.Meter.work meter.new)) }
     ensures err { OnErr result (IsElsewhere tape.old tape.new) }
 {
-    for _ in 0..count {
+    let concerned = stops::concerned(watches, count);
+    for done in 0..count {
         tape.back(alloc, 1, meter)?;
-        if let Some(found) = found_here(tape, watches, end) {
+        let looks = done == 0 || stops::may_differ(&concerned, tape.next_host());
+        if let Some(found) = found_here(tape, watches, end, looks) {
             return Ok(Some(found));
         }
     }
     Ok(None)
 }
 
-// Goes forward by `count` events without keeping records, and tests the watches at each place, the
-// first included. Returns the last failure.
+// Goes forward by `count` events without keeping records, and tests the watches at the first place
+// and at each where one may fail. Returns the last failure.
 fn last_failing<N: Node>(
     alloc: Global,
     tape: &mut Tape<N>,
@@ -102,10 +117,12 @@ fn last_failing<N: Node>(
     ensures work { OnOk result (OnlyTurns count (N.Meter.work meter.old) (N.Meter.work meter.new)) }
     ensures err { OnErr result (IsElsewhere tape.old tape.new) }
 {
-    let mut last = found_here(tape, watches, end);
+    let concerned = stops::concerned(watches, count);
+    let mut last = found_here(tape, watches, end, true);
     for _ in 0..count {
-        tape.pass(alloc, meter)?;
-        if let Some(found) = found_here(tape, watches, end) {
+        let host = tape.pass(alloc, meter)?;
+        let looks = last.is_some() || stops::may_differ(&concerned, host);
+        if let Some(found) = found_here(tape, watches, end, looks) {
             last = Some(found);
         }
     }

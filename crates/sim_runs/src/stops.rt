@@ -14,9 +14,9 @@ use sim_tape::Tape;
 use sim_watch::{Cond, holds};
 use sim_world::{Event, World};
 
-// The least number of steps for which a run asks which hosts its watches are about. A shorter run
-// takes less time without.
-const LONG_RUN: u32 = 16;
+// The least number of events for which a run or a rewind asks which hosts its watches are about. A
+// shorter one takes less time without.
+const LONG_WALK: u32 = 16;
 
 /// Returns a number above those of all watches.
 pub(crate) fn end_of(watches: &[Option<Cond>; 8]) -> usize
@@ -66,14 +66,14 @@ fn are_all(marks: &[bool; 32]) -> bool
     marks.iter().all(|mark| *mark)
 }
 
-/// Returns for each host from 0 to 31 whether a watch has a term about it, for a run of at most
-/// `count` steps. Returns `None` if each step of the run is to be followed by a test of the
-/// watches: they are about all hosts, or the run has fewer than 16 steps.
+/// Returns for each host from 0 to 31 whether a watch has a term about it, for a walk over at most
+/// `count` events. Returns `None` if the watches are to be tested at each place of the walk: they
+/// are about all hosts, or the walk has fewer than 16 events.
 pub(crate) fn concerned(watches: &[Option<Cond>; 8], count: u32) -> Option<[bool; 32]>
     ensures { IfSome result (λ marks.
         (h : ℕ) → h < 32 → slice_index_or marks h false ≡ false → NoneConcerns h watches.now) }
 {
-    if count < LONG_RUN {
+    if count < LONG_WALK {
         return None;
     }
     let concerned = concerned_hosts(watches);
@@ -91,6 +91,19 @@ fn is_marked<N: Node>(marks: &[bool; 32], world: &World<N>) -> bool
     match world.first() {
         None => true,
         Some((_, _, occurrence)) => occurrence.host >= 32 || marks[occurrence.host as usize],
+    }
+}
+
+/// Returns whether the watches may fail on one side of an event and not on the other: it is no
+/// step, or a watch is about its host.
+pub(crate) fn may_differ(concerned: &Option<[bool; 32]>, host: Option<u16>) -> bool
+    requires { IfSome host (λ h. h < 32) }
+    ensures { IsFalse result → IsSomeAnd concerned.now (λ marks. IsSomeAnd host (λ h.
+        (h < 32) × (slice_index_or marks h false ≡ false))) }
+{
+    match (concerned, host) {
+        (Some(marks), Some(host)) => marks[host as usize],
+        (None, _) | (_, None) => true,
     }
 }
 

@@ -4,9 +4,9 @@ use Rattle.sim_runs.specs.Running.{IsRewinding}
 use Rattle.sim_runs.specs.Works.{TakesBack}
 use Rattle.sim_runs.proofs.rewinds.look_near.Given as goal
 
-abbrev pub invariant-loop : goal.invariant-loop
-invariant-loop g l =
+abbrev pub invariant-loop-done : goal.invariant-loop-done
+invariant-loop-done g l =
     let t = l.initial.tape in
     let W = g.N.Meter.Meter.work in
-    IsRewinding g.N.Node.laws g.N.Node.PROBES l.watches t l.counter l.tape
-    × TakesBack (rules g.N.Node.laws g.N.Node.PROBES t.scenario) l.counter (t.place - l.counter) t (W l.initial.meter) (W l.meter)
+    IsRewinding g.N.Node.laws g.N.Node.PROBES l.watches t l.done l.tape
+    × TakesBack (rules g.N.Node.laws g.N.Node.PROBES t.scenario) l.done (t.place - l.done) t (W l.initial.meter) (W l.meter)
