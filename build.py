@@ -3,10 +3,15 @@
 
     ./build.py                         crates/simback
     ./build.py simback example_play    these programs
+    ./build.py --cpu x86-64-v3         crates/simback, for processors with AVX2 and BMI2
 
 The programs are then crates/NAME/out/NAME. What is proved is kept in the folders out/, so a later
 run proves only what has changed. At a crate that is not proved, this prints what its check said and
 ends with its status. Each crate has a line at its end with its seconds on the clock.
+
+The option --cpu changes what a program is compiled for, not what is proved. A program for x86-64-v3
+takes 3 to 8 percent fewer instructions, and ends at once by an illegal instruction on a processor
+that is older. Without the option a program is for x86-64-v2, which processors have had since 2009.
 
 Libraries that do not stand on each other are proved side by side, first those with the longest
 chain of others above them. rt works on one crate of a checkout at a time, so each lane has a copy
@@ -14,6 +19,7 @@ of the crates in a folder of temporary files. rt itself takes what it proved in 
 another.
 """
 
+import argparse
 import concurrent.futures
 import os
 import pathlib
@@ -25,6 +31,10 @@ import threading
 import time
 
 ROOT = pathlib.Path(__file__).resolve().parent
+
+# What a program can be compiled for, and which flags of /proc/cpuinfo a processor then needs. The
+# first is what rt compiles for by itself.
+FLAGS_OF = {"x86-64-v2": (), "x86-64-v3": ("avx2", "bmi1", "bmi2", "f16c", "fma", "abm", "movbe")}
 
 # The memory that the check of an upper crate takes, in bytes.
 MEMORY_OF_A_CHECK = 4 << 30
@@ -149,27 +159,51 @@ def prove_all(libraries, cited):
         sys.exit(failure)
 
 
-def build(program):
+def build(program, cpu):
     """Proves and builds a program over proved libraries. Ends this program if that fails."""
     start = time.monotonic()
-    ended = subprocess.run(["rt", "run", "--jobs", "1", "--", "help"],
-                           cwd=ROOT / "crates" / program, stdin=subprocess.DEVNULL)
+    words = ["rt", "run", "--jobs", "1", *([f"--cpu={cpu}"] if FLAGS_OF[cpu] else []), "--", "help"]
+    ended = subprocess.run(words, cwd=ROOT / "crates" / program, stdin=subprocess.DEVNULL)
     if ended.returncode:
         sys.exit(ended.returncode)
     print(f"== {program}: {time.monotonic() - start:.0f} s", flush=True)
 
 
-def main(programs):
-    cited = cited_crates()
-    for program in programs:
+def lacking(cpu):
+    """Returns which of the flags that this needs the processor of this machine does not have."""
+    needed = FLAGS_OF[cpu]
+    text = pathlib.Path("/proc/cpuinfo").read_text() if needed else ""
+    flags = next((line.split() for line in text.splitlines() if line.startswith("flags")), [])
+    return [flag for flag in needed if flag not in flags]
+
+
+def request():
+    """Returns the words of the command line."""
+    parser = argparse.ArgumentParser(
+        description="Proves and builds programs of crates/, with the libraries below them.")
+    parser.add_argument("programs", nargs="*", default=["simback"], metavar="NAME",
+                        help="a program of crates/, by default simback")
+    parser.add_argument("--cpu", choices=list(FLAGS_OF), default="x86-64-v2",
+                        help="what the programs are compiled for, by default x86-64-v2")
+    return parser.parse_args()
+
+
+def main():
+    asked, cited = request(), cited_crates()
+    if lacks := lacking(asked.cpu):
+        print(f"build.py: this processor has no {', '.join(lacks)}, which {asked.cpu} needs",
+              file=sys.stderr)
+        sys.exit(2)
+    for program in asked.programs:
         if not (ROOT / "crates" / program / "src" / "main.rt").is_file() or program not in cited:
             print(f"build.py: there is no program crates/{program}", file=sys.stderr)
             sys.exit(2)
-    below = dict.fromkeys(it for program in programs for it in libraries_below(program, cited))
+    below = dict.fromkeys(it for program in asked.programs
+                          for it in libraries_below(program, cited))
     prove_all(list(below), cited)
-    for program in programs:
-        build(program)
+    for program in asked.programs:
+        build(program, asked.cpu)
 
 
 if __name__ == "__main__":
-    main(sys.argv[1:] or ["simback"])
+    main()
