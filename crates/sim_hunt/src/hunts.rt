@@ -21,66 +21,6 @@ use std::rt::Clock;
 use std::sync::Wait;
 use std::thread::Threads;
 
-// Hunts over the nodes of the scenario's protocol, one of the first four.
-fn hunt_first_four<L: Searchable, H: Threads + Wait + Sync + Clock + Eprint, R: Read>(
-    rt: &H,
-    alloc: Global,
-    quest: &Quest<'_>,
-    reader: &mut R,
-    ahead: &mut Ahead,
-) -> Result<Answer, Status>
-    requires team { IsTeam quest.now.hunt.now.team.workers }
-    requires known { quest.now.opened.now.protocol < length L.listed }
-    requires place { quest.now.opened.now.protocol < 4 }
-    ensures answer { (script : List ℕ) →
-        prepend_known ahead.old.bytes (R.remaining reader.old) ≡ Some script →
-        IfOk result (λ a. a ≡ found_on (L.nodes quest.now.opened.now.protocol
-        quest.now.opened.now.scenario).rules
-        quest.now.opened.now.names quest.now.hunt.now.area script quest.now.cond) }
-    ensures stops { IfErr result Stops }
-{
-    let place = quest.opened.protocol;
-    if place == 0 {
-        hunt_nodes::<<L::Subject0 as Subject>::Node, H, R>(rt, alloc, quest, reader, ahead)
-    } else if place == 1 {
-        hunt_nodes::<<L::Subject1 as Subject>::Node, H, R>(rt, alloc, quest, reader, ahead)
-    } else if place == 2 {
-        hunt_nodes::<<L::Subject2 as Subject>::Node, H, R>(rt, alloc, quest, reader, ahead)
-    } else {
-        hunt_nodes::<<L::Subject3 as Subject>::Node, H, R>(rt, alloc, quest, reader, ahead)
-    }
-}
-
-// Hunts over the nodes of the scenario's protocol, one of the next four.
-fn hunt_next_four<L: Searchable, H: Threads + Wait + Sync + Clock + Eprint, R: Read>(
-    rt: &H,
-    alloc: Global,
-    quest: &Quest<'_>,
-    reader: &mut R,
-    ahead: &mut Ahead,
-) -> Result<Answer, Status>
-    requires team { IsTeam quest.now.hunt.now.team.workers }
-    requires known { quest.now.opened.now.protocol < length L.listed }
-    requires place { (4 ≤ quest.now.opened.now.protocol) × (quest.now.opened.now.protocol < 8) }
-    ensures answer { (script : List ℕ) →
-        prepend_known ahead.old.bytes (R.remaining reader.old) ≡ Some script →
-        IfOk result (λ a. a ≡ found_on (L.nodes quest.now.opened.now.protocol
-        quest.now.opened.now.scenario).rules
-        quest.now.opened.now.names quest.now.hunt.now.area script quest.now.cond) }
-    ensures stops { IfErr result Stops }
-{
-    let place = quest.opened.protocol;
-    if place == 4 {
-        hunt_nodes::<<L::Subject4 as Subject>::Node, H, R>(rt, alloc, quest, reader, ahead)
-    } else if place == 5 {
-        hunt_nodes::<<L::Subject5 as Subject>::Node, H, R>(rt, alloc, quest, reader, ahead)
-    } else if place == 6 {
-        hunt_nodes::<<L::Subject6 as Subject>::Node, H, R>(rt, alloc, quest, reader, ahead)
-    } else {
-        hunt_nodes::<<L::Subject7 as Subject>::Node, H, R>(rt, alloc, quest, reader, ahead)
-    }
-}
-
 // Hunts over the nodes of the scenario's protocol.
 fn hunt_protocol<L: Searchable, H: Threads + Wait + Sync + Clock + Eprint, R: Read>(
     rt: &H,
@@ -99,10 +39,23 @@ fn hunt_protocol<L: Searchable, H: Threads + Wait + Sync + Clock + Eprint, R: Re
         quest.now.opened.now.names quest.now.hunt.now.area script quest.now.cond) }
     ensures stops { IfErr result Stops }
 {
-    if quest.opened.protocol < 4 {
-        hunt_first_four::<L, H, R>(rt, alloc, quest, reader, ahead)
+    let place = quest.opened.protocol;
+    if place == 0 {
+        hunt_nodes::<<L::Subject0 as Subject>::Node, H, R>(rt, alloc, quest, reader, ahead)
+    } else if place == 1 {
+        hunt_nodes::<<L::Subject1 as Subject>::Node, H, R>(rt, alloc, quest, reader, ahead)
+    } else if place == 2 {
+        hunt_nodes::<<L::Subject2 as Subject>::Node, H, R>(rt, alloc, quest, reader, ahead)
+    } else if place == 3 {
+        hunt_nodes::<<L::Subject3 as Subject>::Node, H, R>(rt, alloc, quest, reader, ahead)
+    } else if place == 4 {
+        hunt_nodes::<<L::Subject4 as Subject>::Node, H, R>(rt, alloc, quest, reader, ahead)
+    } else if place == 5 {
+        hunt_nodes::<<L::Subject5 as Subject>::Node, H, R>(rt, alloc, quest, reader, ahead)
+    } else if place == 6 {
+        hunt_nodes::<<L::Subject6 as Subject>::Node, H, R>(rt, alloc, quest, reader, ahead)
     } else {
-        hunt_next_four::<L, H, R>(rt, alloc, quest, reader, ahead)
+        hunt_nodes::<<L::Subject7 as Subject>::Node, H, R>(rt, alloc, quest, reader, ahead)
     }
 }
 

@@ -3,7 +3,7 @@ ghost use Rattle.std.specs.Prelude.{◌≤◌, length};
 ghost use Rattle.sim_job.specs.CommandLine.{HasFewWorkers};
 
 use crate::performing::perform;
-use sim_cli::Status;
+use sim_cli::{Status, Subjects};
 use sim_hunt::Searchable;
 use sim_job::{Job, LineError, Request, request};
 use sim_walk::{Style, walk};
@@ -123,7 +123,7 @@ where
 }
 
 // Walks over the file of this name, by commands on the standard input.
-fn walk_file<L: Searchable, R: Files + Input + Print + Eprint + AllocGlobal>(
+fn walk_file<L: Subjects, R: Files + Input + Print + Eprint + AllocGlobal>(
     rt: &R,
     name: &str,
 ) -> Status
@@ -146,26 +146,12 @@ where
     ended
 }
 
-// Carries out the request of the words, and returns the exit status.
-fn run_words<
-    L: Searchable,
-    R: Threads + Wait + Sync + Clock + Files + Input + Print + Eprint + AllocGlobal,
->(rt: &R, words: &[String]) -> u8
-where
-    R::Reader: IsTerminal,
-    requires few { length L.listed ≤ 8 }
-{
-    let asked = match request(rt.alloc(), words) {
-        Ok(asked) => asked,
-        Err(fault) => return tell(rt, &fault),
-    };
-    let Request { job, file } = asked;
-    let ended = match (job, file) {
-        (Job::Walk, Some(name)) => walk_file::<L, R>(rt, name),
-        (job, Some(name)) => run_file::<L, R>(rt, &job, name),
-        (job, None) => run_input::<L, R>(rt, &job),
-    };
-    ended.number()
+// Returns the exit status where the words of the command line cannot be read.
+fn status_of(fault: &io::Error) -> u8 {
+    match fault.kind() {
+        io::ErrorKind::OutOfMemory => Status::MemoryWanted.number(),
+        _ => Status::BadRequest.number(),
+    }
 }
 
 /// Carries out the request of the command line, for a list of at most eight protocols, over the
@@ -180,11 +166,18 @@ where
     R::Reader: IsTerminal,
     requires few { length L.listed ≤ 8 }
 {
-    match words(rt) {
-        Ok(words) => run_words::<L, R>(rt, &words),
-        Err(fault) => match fault.kind() {
-            io::ErrorKind::OutOfMemory => Status::MemoryWanted.number(),
-            _ => Status::BadRequest.number(),
-        },
-    }
+    let words = match words(rt) {
+        Ok(words) => words,
+        Err(fault) => return status_of(&fault),
+    };
+    let Request { job, file } = match request(rt.alloc(), &words) {
+        Ok(asked) => asked,
+        Err(fault) => return tell(rt, &fault),
+    };
+    let ended = match (job, file) {
+        (Job::Walk, Some(name)) => walk_file::<L, R>(rt, name),
+        (job, Some(name)) => run_file::<L, R>(rt, &job, name),
+        (job, None) => run_input::<L, R>(rt, &job),
+    };
+    ended.number()
 }
