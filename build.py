@@ -15,8 +15,8 @@ that is older. Without the option a program is for x86-64-v2, which processors h
 
 Libraries that do not stand on each other are proved side by side, first those with the longest
 chain of others above them. rt works on one crate of a checkout at a time, so each lane has a copy
-of the crates in a folder of temporary files. rt itself takes what it proved in one copy over to
-another.
+of the crates in a folder of temporary files. A lane is lent what this checkout keeps, and brings
+back what it proved as soon as a crate ends.
 """
 
 import argparse
@@ -38,6 +38,9 @@ FLAGS_OF = {"x86-64-v2": (), "x86-64-v3": ("avx2", "bmi1", "bmi2", "f16c", "fma"
 
 # The memory that the check of an upper crate takes, in bytes.
 MEMORY_OF_A_CHECK = 4 << 30
+
+# What rt keeps of a crate in its folder out/: the proofs of its functions, and the built library.
+PARTS_KEPT = ("incremental", "rlib")
 
 # The work of a crate, in lines, from which on its check gets all processors but one. The largest
 # crates stand on each other, and all others wait for them.
@@ -78,39 +81,61 @@ def lanes_to_use():
     return max(1, min(len(os.sched_getaffinity(0)), memory // MEMORY_OF_A_CHECK))
 
 
+def link_or_copy(source, target):
+    """Gives a file a second name, or a copy where two names cannot share it."""
+    try:
+        os.link(source, target)
+    except OSError:
+        shutil.copy2(source, target)
+
+
+def stamp_in(rlib):
+    """Returns the sum of all that a built library was made from, as rt wrote it, or None."""
+    stamp = rlib / "stamp"
+    return stamp.read_text() if stamp.is_file() else None
+
+
 class Lanes:
     """Copies of the crates, each for one command of rt at a time."""
 
     def __init__(self, room, count):
         self.free = [pathlib.Path(room) / str(number) for number in range(count)]
-        self.every, self.lock = list(self.free), threading.Lock()
+        self.lock = threading.Lock()
         for lane in self.free:
             leave_out = shutil.ignore_patterns("out", "must-fail")
             shutil.copytree(ROOT / "crates", lane / "crates", ignore=leave_out)
             shutil.copy(ROOT / "crates.txt", lane)
             (lane / ".git").mkdir()
 
-    def prove(self, crate, jobs):
+    def prove(self, crate, below, jobs):
         """Proves a library in a free lane. Returns rt's status, what it said, and its seconds."""
         with self.lock:
             lane = self.free.pop()
         start = time.monotonic()
+        for name in below:
+            self.hand_over(ROOT, lane, name, "rlib")
+        for part in PARTS_KEPT:
+            self.hand_over(ROOT, lane, crate, part)
         words = ["rt", "lib", "--jobs", str(jobs)]
         ended = subprocess.run(words, cwd=lane / "crates" / crate, stdin=subprocess.DEVNULL,
                                stdout=subprocess.PIPE, stderr=subprocess.STDOUT, text=True)
+        for part in PARTS_KEPT:
+            self.hand_over(lane, ROOT, crate, part)
         with self.lock:
             self.free.append(lane)
         return ended.returncode, ended.stdout, time.monotonic() - start
 
-    def bring(self, crate):
-        """Moves what the lanes kept of a crate to this checkout, unless it has some already."""
-        out = ROOT / "crates" / crate / "out"
-        for lane in self.every:
-            for part in ("incremental", "rlib"):
-                kept = lane / "crates" / crate / "out" / part
-                if kept.is_dir() and not (out / part).is_dir():
-                    out.mkdir(exist_ok=True)
-                    shutil.move(kept, out / part)
+    def hand_over(self, giver, taker, crate, part):
+        """Has one copy of the crates take over what another keeps of a crate, if it has that."""
+        source, target = (it / "crates" / crate / "out" / part for it in (giver, taker))
+        if not source.is_dir() or part == "rlib" and stamp_in(source) == stamp_in(target):
+            return
+        # A copy that is cut off has another name, so nobody takes it for a whole one.
+        whole = target.with_name(f"{part}.new")
+        for old in (whole, target):
+            shutil.rmtree(old, ignore_errors=True)
+        shutil.copytree(source, whole, copy_function=link_or_copy)
+        whole.rename(target)
 
 
 def longest_chains(libraries, cited):
@@ -142,7 +167,8 @@ def prove_all(libraries, cited):
                 jobs = jobs_for(crate, len(ready), idle, count)
                 if idle < jobs:
                     break
-                running[pool.submit(lanes.prove, crate, jobs)] = crate, jobs
+                below = libraries_below(crate, cited)
+                running[pool.submit(lanes.prove, crate, below, jobs)] = crate, jobs
                 left.remove(crate)
                 idle -= jobs
             done, _ = concurrent.futures.wait(
@@ -153,8 +179,6 @@ def prove_all(libraries, cited):
                 print(f"{said}== {crate}" if status else f"== {crate}: {seconds:.0f} s", flush=True)
                 failure = failure or status
                 proved |= {crate} if not status else set()
-        for crate in libraries:
-            lanes.bring(crate)
     if failure:
         sys.exit(failure)
 
