@@ -1,8 +1,8 @@
 //! The commands of a walk: what a line asks for, the help for each, and what a mistake says.
 //!
 //! [`order_of`] reads a line as a [`Request`]: an [`Order`] and its branch. An order is a command
-//! of the book, a place to find ([`Sought`]), something to show ([`Shown`]), or a word about the
-//! walk itself. docs/WALK.md lists the commands.
+//! of the book, a place to find, something to show ([`Shown`]), or a word about the walk itself.
+//! docs/WALK.md lists the commands.
 //!
 //! - `order`: a line becomes an order. The words after a command of the walk's own are read as
 //!   those of a line of a script with the same form: a host as after `crash`, a number as after
@@ -19,6 +19,6 @@ mod order;
 mod saying;
 mod topic;
 
-pub use order::{Order, OrderError, Request, Shown, Sought, order_of};
+pub use order::{Order, OrderError, Request, Shown, order_of};
 pub use saying::{Known, tell_not_taken};
 pub use topic::{Kind, Topic, tell_help};

@@ -2,24 +2,9 @@
 use crate::topic::{Kind, Topic, topic_of};
 use sim_book::Command;
 use sim_script::{Expected, LineMistake, Names, ScriptLine, line_of, mistake_of};
-use sim_watch::SharedCond;
+use sim_watch::{SharedCond, Sought};
 use sim_world::Fault;
 use std::alloc::{AllocError, Global};
-
-/// A place to find among the kept events of a branch.
-#[derive(Drop)]
-pub enum Sought {
-    /// The first place at which the clock is at this time or later (ms).
-    At(u32),
-    /// The place before the event that queued what happens next.
-    Cause,
-    /// The place before the last event of this host that comes before the branch's place.
-    Last(u16),
-    /// The first place at which a condition fails.
-    First(SharedCond),
-    /// The last place before this one at which a condition holds.
-    Held(SharedCond),
-}
 
 /// What to show of a branch at its place.
 #[derive(Drop)]
