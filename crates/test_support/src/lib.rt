@@ -8,6 +8,7 @@
 //!   (`there_and_back`), so no test that plays proves this again.
 //! - [`applied`] and [`ran`] take events without rows.
 //! - [`Counts`] is a meter that counts at run time, which the program's own does not.
+//! - [`walks`] and [`jobs`] have the rows of `test_program`: inputs, and what is written for them.
 //!
 //! A run there and back is one recursion: an event, the rest of the run, the undo. So no stack of
 //! records needs an invariant.
@@ -19,7 +20,9 @@
 mod act;
 mod counts;
 mod course;
+pub mod jobs;
 mod setting;
+pub mod walks;
 
 pub use act::{Act, plays};
 pub use counts::Counts;
