@@ -5,7 +5,7 @@ use Rattle.sim_events.specs.declared.Event.TheVariants as event
 use Rattle.sim_events.specs.declared.Fault.TheVariants as fault
 use Rattle.sim_world.specs.World.{World, runs}
 use Rattle.sim_world.specs.Events.{Rules}
-use Rattle.sim_world.specs.Account.{tears}
+use Rattle.sim_account.specs.Account.{tears}
 
 module _ {State Msg : Type 0} where
   -- the host, if it exists and runs

@@ -1,11 +1,12 @@
 //! What an event does, in words.
 use crate::places::Places;
 use crate::told::{LinkFault, Told};
+use sim_account::{Fate, Reaction};
 use sim_disk::Disk;
 use sim_links::LinkState;
 use sim_node::{Effect, Input, Node};
 use sim_script::Names;
-use sim_world::{Event, Fate, Fault, Occurrence, Reaction};
+use sim_world::{Event, Fault, Occurrence};
 use std::fmt;
 
 /// Shows an event in words: what happened, and which effects it had. docs/LOG.md has every form.

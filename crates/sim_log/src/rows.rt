@@ -1,9 +1,10 @@
 //! What an event changes, as rows of JSON.
 use crate::told::{LinkFault, Told};
 use serde_json::{Number, Value};
+use sim_account::{Fate, ToldEffect};
 use sim_links::LinkState;
 use sim_node::{Effect, NoMemory, Node};
-use sim_world::{Event, Fate, Fault, ToldEffect, World};
+use sim_world::{Event, Fault, World};
 use std::alloc::Global;
 use std::fmt;
 

@@ -1,13 +1,14 @@
 //! What an event does, gathered in the world before it.
 ghost use Rattle.std.specs.Prelude.{◌≡◌, ◌<◌, IfOk, IfSome};
-ghost use Rattle.sim_world.specs.Account.{next_reaction};
-ghost use Rattle.sim_world.specs.Events.{rules};
 ghost use Rattle.sim_events.specs.declared.Event.TheVariants as events;
+ghost use Rattle.sim_world.specs.Events.{rules};
+ghost use Rattle.sim_account.specs.Account.{next_reaction};
 ghost use Rattle.sim_log.specs.Told.{crashed_by, tears_of};
 
+use sim_account::{Reaction, next_reaction, tears};
 use sim_links::Change;
 use sim_node::{Input, NoMemory, Node};
-use sim_world::{Event, Fault, Reaction, World};
+use sim_world::{Event, Fault, World};
 use std::alloc::Global;
 
 /// What an event will do, gathered in the world before it.
@@ -43,12 +44,12 @@ impl<'a, N: Node> Told<'a, N> {
             (crashed_by event world.now.world) world.now.world) }
     {
         let reaction = match event {
-            Event::Step if world.age() < 65_536 => world.next_reaction(alloc, meter)?,
+            Event::Step if world.age() < 65_536 => next_reaction(alloc, world, meter)?,
             _ => None,
         };
         let crashed = crashed_host(world, event);
         let (tears, lost) = match crashed {
-            Some(host) => (world.tears(alloc, host)?, lost_by(alloc, world, host)?),
+            Some(host) => (tears(alloc, world, host)?, lost_by(alloc, world, host)?),
             None => (Vec::new(alloc), Vec::new(alloc)),
         };
         Ok(Told {

@@ -16,7 +16,7 @@ use Rattle.sim_world.specs.Acts.{acts_by}
 use Rattle.sim_world.specs.Events.{Rules, begun, happened, stepped, stepped_by}
 use Rattle.sim_world.specs.inside.Giving.{CanGive}
 use Rattle.sim_world.specs.inside.Index.{IsIndex, flight_without, timers_without}
-use Rattle.sim_world.specs.inside.Room.{HasRoom, IsReady, IsReadyFor}
+use Rattle.sim_world.specs.Room.{HasRoom, IsReady, IsReadyFor}
 use Rattle.sim_world.proofs.FirstTakenOut.{room_begun, index_took}
 use Rattle.sim_world.proofs.PartChanges.{of_some}
 use Rattle.sim_world.proofs.Rises.{first-in}

@@ -9,8 +9,8 @@ use Rattle.sim_queue.proofs.First.{IsIn}
 use Rattle.sim_world.specs.declared.index.Index.{Index}
 use Rattle.sim_pending.specs.Occurrence.{Body, Occurrence, is_timer_of, is_message}
 use Rattle.sim_world.specs.World.{World}
-use Rattle.sim_world.specs.inside.Index.{IsIndex, IsCounted, timers_of, listed, flight_without, timers_without}
-use Rattle.sim_world.specs.inside.Room.{HasRoom}
+use Rattle.sim_world.specs.inside.Index.{IsIndex, timers_of, listed, flight_without, timers_without}
+use Rattle.sim_world.specs.Room.{HasRoom}
 use Rattle.sim_world.proofs.Rises.{in_rise, without_absent, sum_by-without, rise_filter}
 use Rattle.sim_world.proofs.SerialsLeft.{serials, take_only, filter_without}
 use Rattle.sim_world.proofs.Indexes.{index-same, index-timer}
@@ -81,16 +81,6 @@ module _ {State Msg : Type 0} (old new : Index) (c : ℕ) (w : World State Msg) 
   -- how many messages are left
   left_messages : count_by is_message (without_serial x.serial w.queue.items) + cond (is_message x) 1 0 ≡ count_by is_message w.queue.items
   left_messages = sum_by-without (λ y. cond (is_message y) 1 0) x 0 w.queue.items w.queue.next_serial rise i
-
-  pub counted_took : IsIndex old w → IsCounted x.body.body old.in_flight
-  counted_took idx = go x.body.body refl
-    where
-      go : (body : Body Msg) → x.body.body ≡ body → IsCounted body old.in_flight
-      go Body.Start is = tt
-      go Body.Timer is = tt
-      go (Body.Message sender msg) is =
-          let n = counted_one (is_message x) (ap (λ z. elim z [ Body.Message s m ↦ true | _ ↦ false ]) is) in let l = left_messages in let f = idx.in_flight in omega arith
-      go (Body.Sync count) is = tt
 
   -- how many messages are in flight then
   pub flight_took : IsIndex old w → count_by is_message (without_serial x.serial w.queue.items) ≡ flight_without x.body.body old.in_flight

@@ -1,4 +1,3 @@
-pub mod Accounts
 pub mod Applied
 pub mod Arrivals
 pub mod Bodies
@@ -18,7 +17,6 @@ pub mod FirstTakenOut
 pub mod Holds
 pub mod HostSteps
 pub mod Indexes
-pub mod Ledgers
 pub mod Looking
 pub mod LostIndex
 pub mod OneHost
@@ -41,7 +39,6 @@ pub mod Stable
 pub mod StartIsSound
 pub mod StartParts
 pub mod Steps
-pub mod Tears
 pub mod Trails
 pub mod Undoing
 pub mod Usual

@@ -4,7 +4,7 @@ pub mod Acts
 pub mod Clock
 pub mod Memory
 pub mod Looks
-pub mod Account
+pub mod Room
 pub mod Records
 pub mod Undone
 pub mod inside

@@ -1,10 +1,8 @@
 -- Definitions for the private functions alone: no crate above cites these files.
 pub mod Index
-pub mod Ledger
 pub mod Sound
 pub mod Held
 pub mod Packed
-pub mod Room
 pub mod Giving
 pub mod Trail
 pub mod Rest

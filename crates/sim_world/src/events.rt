@@ -13,7 +13,7 @@ ghost use Rattle.sim_world.specs.Clock.{clock_after};
 ghost use Rattle.sim_world.specs.Memory.{is_for_stopped};
 ghost use Rattle.sim_world.specs.inside.Index.{IsIndex, beside_of, stopped_host, changing_host};
 ghost use Rattle.sim_world.specs.Records.{LeadsBack, AnswersFor, back};
-ghost use Rattle.sim_world.specs.inside.Room.{IsReady};
+ghost use Rattle.sim_world.specs.Room.{IsReady};
 ghost use Rattle.sim_world.specs.inside.Sound.{IsLawfulEvent};
 ghost use Rattle.sim_world.specs.Undone.{is_reaction, taken_back};
 ghost use Rattle.sim_world.specs.inside.Trail.{IsTrail, Extends, taken_changes};

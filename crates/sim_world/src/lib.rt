@@ -42,17 +42,18 @@
 //! # Where to begin
 //!
 //! Read `specs/World.antt` (what a world is) and `specs/Events.antt` (what each event makes of it):
-//! these two are the simulator. `specs/Records.antt` says what a record is and when it leads back.
-//! Callers also need `Clock`, `Acts`, `Memory`, `Looks` and `Undone`. The files in `specs/inside/`
-//! serve the private functions: bounds, the index, the parts of a trail. Events and scenarios are
-//! in `sim_events`; occurrences, and the latency and the loss of a message, in `sim_pending`.
+//! these two are the simulator. `specs/Records.antt` says what a record is and when it leads back,
+//! `specs/Room.antt` the bounds that [`World::laws`] states. Callers also need `Clock`, `Acts`,
+//! `Memory`, `Looks` and `Undone`. The files in `specs/inside/` serve the private functions: the
+//! invariant, the index, the parts of a trail. Events and scenarios are in `sim_events`;
+//! occurrences, and the latency and the loss of a message, in `sim_pending`. What a step will do,
+//! told before it, is in `sim_account`.
 //!
 //! No wrong body stands here, since the prover would need the whole crate again for each: those for
 //! an undo, for the words of a message and for copies stand in `sim_streams`, `sim_pending`,
 //! `sim_disk` and `sim_tape`.
 #![tactic(auto)]
 
-mod account;
 mod changes;
 mod cluster;
 mod contents;
@@ -76,7 +77,6 @@ mod undo;
 mod views;
 mod world;
 
-pub use account::{Fate, Reaction, ToldEffect};
 pub use packed::PackedWorld;
 pub use sim_events::{
     BadLimits, Coming, Event, Fault, Kind, MAX_ADVANCE, MAX_INTERVAL, MAX_TICK, MAX_WINDOW, Query,

@@ -10,7 +10,7 @@ use Rattle.sim_events.specs.Scenario.{Scenario}
 use Rattle.sim_world.specs.World.{World, Seeded, host_at, place, drawn, with_node}
 use Rattle.sim_world.specs.Events.{Rules, reaction}
 use Rattle.sim_world.specs.inside.Index.{IsIndex}
-use Rattle.sim_world.specs.inside.Room.{HasRoom}
+use Rattle.sim_world.specs.Room.{HasRoom}
 
 module _ {State Msg : Type 0} where
   -- a property of the node of a host, if it has one

@@ -5,7 +5,7 @@ use Rattle.sim_world.specs.Events.{rules, after, refusal_of}
 use Rattle.sim_world.specs.inside.Held.{IsHeld}
 use Rattle.sim_world.specs.inside.Index.{changing_host}
 use Rattle.sim_world.specs.Records.{LeadsBack, AnswersFor}
-use Rattle.sim_world.specs.inside.Room.{IsReady}
+use Rattle.sim_world.specs.Room.{IsReady}
 use Rattle.sim_world.specs.inside.Sound.{IsLawfulEvent}
 use Rattle.sim_world.proofs.Readies.{ready_of}
 use Rattle.sim_world.proofs.Applied.{changing_there, applied_answers, applied_sound, applied_clock, applied_on, applied_leads}
@@ -26,9 +26,8 @@ pub event-requires-clause-ready : goal.event-requires-clause-ready
 event-requires-clause-ready g c =
     let i = c.self.inside in
     let held = subst (λ k. IsHeld g.N.Node.told k) (sym c.self.view_is) c.requires.held in
-    let young = subst (λ k. k.age < 65536) (sym c.self.view_is) c.requires.young in
     subst (λ s. IsReady g.N.Node.told s.setup i.parts.world) (sym c.deref.ensures)
-    (ready_of g.N.Node.told i.scenario.value i.age i.parts.world held.sound young)
+    (ready_of g.N.Node.told i.scenario.value i.age i.parts.world held.sound)
 
 pub returns-clause-held : goal.returns-clause-held
 returns-clause-held g c =

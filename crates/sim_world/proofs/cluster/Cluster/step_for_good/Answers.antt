@@ -5,7 +5,7 @@ use Rattle.sim_world.specs.Acts.{first_host, acts, turned_if}
 use Rattle.sim_world.specs.Clock.{clock_after}
 use Rattle.sim_world.specs.Events.{rules, stepped, next, refusal_of}
 use Rattle.sim_world.specs.inside.Held.{IsHeld}
-use Rattle.sim_world.specs.inside.Room.{IsReady}
+use Rattle.sim_world.specs.Room.{IsReady}
 use Rattle.sim_world.specs.inside.Sound.{IsLawfulStep}
 use Rattle.sim_world.proofs.Readies.{ready_of}
 use Rattle.sim_world.proofs.Applied.{changing_there, applied_next, applied_sound, applied_clock, applied_on}
@@ -15,9 +15,8 @@ pub step_for_good-requires-clause-ready : goal.step_for_good-requires-clause-rea
 step_for_good-requires-clause-ready g c =
     let i = c.self.inside in
     let held = subst (λ k. IsHeld g.N.Node.told k) (sym c.self.view_is) c.requires.held in
-    let young = subst (λ k. k.age < 65536) (sym c.self.view_is) c.requires.young in
     subst (λ s. IsReady g.N.Node.told s.setup i.parts.world) (sym c.deref.ensures)
-    (ready_of g.N.Node.told i.scenario.value i.age i.parts.world held.sound young)
+    (ready_of g.N.Node.told i.scenario.value i.age i.parts.world held.sound)
 
 pub returns-clause-held : goal.returns-clause-held
 returns-clause-held g c =

@@ -1,44 +1,34 @@
 -- What a ledger says of a world stays true as the effects of a reaction are carried out.
-use Rattle.std.specs.Prelude.{◌≡◌, ◌≢◌, ℕ, zero, suc, ◌+◌, ◌-◌, ◌*◌, ◌^◌, ◌%◌, ◌<◌, ◌≤◌, ◌==◌, nat_le, Bool, true, false, not, cond, List, [], ◌∷◌, ◌++◌, length, drop, Option, Some, slice_index, slice_index_or, slice_set}
+use Rattle.std.specs.Prelude.{◌≡◌, ◌≢◌, ℕ, zero, suc, ◌+◌, ◌-◌, ◌^◌, ◌<◌, ◌≤◌, ◌==◌, nat_le, Bool, true, false, not, cond, List, [], ◌∷◌, ◌++◌, length, drop, Some, slice_index, slice_index_or, slice_set}
 use Rattle.std.specs.List.{filter, count_by}
 use Rattle.std.proofs.Common.{refl, sym, ap, ◌∙◌, subst, arith}
 use Rattle.std.proofs.lemmas.Bool.{eq-eqb, ne_eqb}
 use Rattle.std.proofs.lemmas.List.{length-set, length_push, length-drop, get_or-set_same}
 use Rattle.std.proofs.lemmas.List.Sums.{sum_by_push}
-use Rattle.sim_streams.specs.Word.{network, stream_of}
+use Rattle.sim_streams.specs.Word.{stream_of}
 use Rattle.sim_queue.specs.declared.Item.{Item}
-use Rattle.sim_queue.specs.Pending.{first}
+use Rattle.sim_queue.specs.Pending.{IsQueue, first}
 use Rattle.sim_links.specs.declared.LinkState.TheVariants as state
 use Rattle.sim_links.specs.declared.LinkState.{LinkState}
 use Rattle.sim_links.specs.Link.{Link, link, with_link, with_held, direction, open_link}
-use Rattle.sim_links.specs.Ways.{way}
 use Rattle.sim_disk.specs.Disk as disk
-use Rattle.sim_world.specs.declared.host.Host.{Host}
-use Rattle.sim_world.specs.declared.account.Fate.{Fate}
-use Rattle.sim_world.specs.declared.account.Fate.TheVariants as fate
-use Rattle.sim_world.specs.declared.account.Ledger.{Ledger}
-use Rattle.sim_world.specs.declared.index.Index.{Index}
 use Rattle.sim_pending.specs.Occurrence.{Body, Occurrence, is_message, is_timer_of}
-use Rattle.sim_world.specs.World.{World, stopped, host_at, place, drawn, with_host, with_node, with_disk, queued, made_stable, without, in_flight, held_messages, is_full, held_back, timed, wrote}
-use Rattle.sim_pending.specs.Fate.{is_lost, latency}
+use Rattle.sim_pending.specs.Fate.{latency}
+use Rattle.sim_world.specs.declared.host.Host.{Host}
+use Rattle.sim_world.specs.World.{World, stopped, host_at, place, drawn, with_host, with_node, with_disk, queued, made_stable, in_flight, held_messages, is_full, held_back, timed, wrote}
 use Rattle.sim_world.specs.Events.{Rules, sent, sent_open, sent_over, asked, begun}
-use Rattle.sim_world.specs.Account.{open_fate, fate_over, sent_fate}
-use Rattle.sim_world.specs.inside.Index.{IsCounted, IsIndex, flight_without}
-use Rattle.sim_world.specs.inside.Ledger.{AreAsked, Follows, HasRoomFor, ledger_of}
-use Rattle.sim_world.specs.inside.Room.{HasRoom, IsCovered}
-use Rattle.sim_world.proofs.Counts.{each-set, sum_by-filter_same}
-use Rattle.sim_world.proofs.FirstTakenOut.{flight_took}
+use Rattle.sim_world.specs.Room.{HasRoom, IsCovered}
+use Rattle.sim_account.specs.declared.fate.Fate.{Fate}
+use Rattle.sim_account.specs.declared.fate.Fate.TheVariants as fate
+use Rattle.sim_account.specs.declared.ledger.Ledger.{Ledger}
+use Rattle.sim_account.specs.Account.{open_fate, fate_over, sent_fate}
+use Rattle.sim_account.specs.inside.Ledger.{Follows, HasRoomFor, ledger_of}
+use Rattle.sim_world.proofs.Counts.{count_by-filter_le, each-set, sum_by-filter_same}
 use Rattle.sim_world.proofs.Indexes.{timer_counts_none, counted}
 use Rattle.sim_world.proofs.PartChanges.{cond_true, cond_false}
-use Rattle.sim_world.proofs.Rises.{first-in}
+use Rattle.sim_world.proofs.Rises.{first-in, sum_by-without}
 use Rattle.sim_world.proofs.Sends.{sent_full, sent_here, sent_there}
 use Rattle.sim_world.proofs.SoundEffects.{held-with_link}
-
--- a number that is written stands at its place
-index_set : (xs : List ℕ) (i n : ℕ) → i < length xs → slice_index (slice_set xs i n) i ≡ n
-index_set [] i n lt = absurd (omega arith)
-index_set (x ∷ xs) zero n lt = refl
-index_set (x ∷ xs) (suc i) n lt = index_set xs i n (omega arith)
 
 module _ {State Msg : Type 0} (h : ℕ) (base : World State Msg) (l : Ledger) (w : World State Msg) (f : Follows l h base w) where
   pub follows_queued : (due to : ℕ) (m : Msg) → Follows (record l { serial = l.serial + 1; messages = l.messages + 1 }) h base (queued due to (Body.Message h m) w)
@@ -57,23 +47,6 @@ module _ {State Msg : Type 0} (h : ℕ) (base : World State Msg) (l : Ledger) (w
         places = f.places;
         host = f.host;
       }
-
-  pub follows_drawn : Follows (record l { words = l.words + 2 }) h base (drawn 2 network w)
-  follows_drawn = record {
-    clock = f.clock;
-    words = (let e : place network w ≡ place network base + l.words = f.words in
-        let long : length w.places ≡ 34 = f.places in
-        let here : place network (drawn 2 network w) ≡ place network w + 2 = index_set w.places network (place network w + 2) (omega arith) in
-        omega arith);
-    serial = f.serial;
-    messages = f.messages;
-    unasked = f.unasked;
-    covered = f.covered;
-    states = f.states;
-    links = f.links;
-    places = length-set w.places network (place network w + 2) ∙ f.places;
-    host = f.host;
-  }
 
   pub follows_held : (to : ℕ) (m : Msg) → direction h to < 1024 → Follows (record l { messages = l.messages + 1 }) h base (held_back h to m w)
   unfolding held_back
@@ -322,24 +295,47 @@ module _ {State Msg : Type 0} (h : ℕ) (base : World State Msg) (l : Ledger) (w
       let left : length (drop count d.writes) ≡ length d.writes - count = length-drop count d.writes in
       follows_disk h base l w f l.unasked (disk.synced count d) (omega arith) (omega arith)
 
+-- two ledgers with the same numbers
+abbrev numbers : ℕ → ℕ → ℕ → ℕ → ℕ → Ledger
+numbers clock words serial messages unasked = record { clock = clock; words = words; serial = serial; messages = messages; unasked = unasked }
+
+pub same_numbers : (clock words : ℕ) {s t m n a b : ℕ} → s ≡ t → m ≡ n → a ≡ b → numbers clock words s m a ≡ numbers clock words t n b
+same_numbers clock words {s} {t} {m} {n} {a} {b} serial messages unasked =
+    ap (λ k. numbers clock words k m a) serial ∙ ap (λ k. numbers clock words t k a) messages ∙ ap (numbers clock words t n) unasked
+
 -- The ledger at the beginning of the reaction to the first occurrence.
-module _ {State Msg : Type 0} (index : Index) (w : World State Msg) (x : Item (Occurrence Msg)) (s : State) where
-  pub follows_first : first w.queue.items ≡ Some x → IsIndex index w → HasRoom 40 w → x.body.host < length w.hosts → AreAsked w → IsCovered x.body w
-      → Follows (ledger_of index x.due x.body w) x.body.host w
+module _ {State Msg : Type 0} (w : World State Msg) (x : Item (Occurrence Msg)) where
+  -- the first occurrence is counted until it is taken out
+  pub messages_then : first w.queue.items ≡ Some x → IsQueue w.queue → in_flight (begun x w) + cond (is_message x) 1 0 ≡ in_flight w
+  messages_then first_is queue = sum_by-without (λ y. cond (is_message y) 1 0) x 0 w.queue.items w.queue.next_serial queue (first-in w.queue.items x first_is)
+
+  -- there is room for the effects of a reaction
+  pub room_first : HasRoom 40 w → x.due < 2 ^ 40 → in_flight w + held_messages w ≤ 4096 → HasRoomFor 40 (ledger_of x w)
+  room_first room due few =
+      let less : in_flight (begun x w) ≤ in_flight w = count_by-filter_le is_message (λ y. not (y.serial == x.serial)) w.queue.items in
+      let writes : length (host_at x.body.host w).disk.writes + 40 ≤ 2 ^ 24 = room.writes x.body.host in
+      record {
+        clock = due;
+        words = omega arith;
+        serial = room.serials;
+        messages = omega arith;
+        unasked = omega arith;
+      }
+
+  pub follows_first : (s : State) → HasRoom 40 w → x.body.host < length w.hosts → (host_at x.body.host w).disk.asked ≤ length (host_at x.body.host w).disk.writes
+      → IsCovered x.body w
+      → Follows (ledger_of x w) x.body.host w
       (with_node x.body.host (Some s) (drawn 1 (stream_of x.body.host) (made_stable x.body.host x.body.body (begun x w))))
-  follows_first first_is idx room lt asked covered =
+  follows_first s room lt asked covered =
       let h : ℕ = x.body.host in
-      let l : Ledger = ledger_of index x.due x.body w in
-      let flight : in_flight (begun x w) ≡ flight_without x.body.body index.in_flight =
-      flight_took index index x.due w x room.queue (first-in w.queue.items x first_is) idx in
-      let held : held_messages w ≡ index.held = sym idx.held in
+      let l : Ledger = ledger_of x w in
       let here : Follows l h w (begun x w) = record {
         clock = refl;
         words = omega arith;
         serial = refl;
-        messages = omega arith;
+        messages = refl;
         unasked = refl;
-        covered = asked h;
+        covered = asked;
         states = λ a b. refl;
         links = room.links;
         places = room.places;
@@ -348,26 +344,3 @@ module _ {State Msg : Type 0} (index : Index) (w : World State Msg) (x : Item (O
       let v : World State Msg = made_stable h x.body.body (begun x w) in
       let stable : Follows l h w v = follows_stable h w l (begun x w) here x.body.body covered in
       follows_node h w l (drawn 1 (stream_of h) v) (follows_own_word h w l v stable) s
-
-module _ {State Msg : Type 0} (index : Index) (w : World State Msg) (x : Item (Occurrence Msg)) where
-  -- there is room for the effects of a reaction
-  pub room_first : IsIndex index w → HasRoom 40 w → x.due < 2 ^ 40 → IsCounted x.body.body index.in_flight
-      → HasRoomFor 40 w (ledger_of index x.due x.body w)
-  room_first idx room due counted =
-      let few : index.in_flight + index.held ≤ 4096 = idx.few in
-      let less : flight_without x.body.body index.in_flight ≤ index.in_flight = fewer x.body.body in
-      let writes : length (host_at x.body.host w).disk.writes + 40 ≤ 2 ^ 24 = room.writes x.body.host in
-      let words : place network w + 2 * 40 ≤ 2 ^ 40 = room.words in
-      record {
-        clock = due;
-        words = omega arith;
-        serial = room.serials;
-        messages = omega arith;
-        unasked = omega arith;
-      }
-    where
-      fewer : (body : Body Msg) → flight_without body index.in_flight ≤ index.in_flight
-      fewer Body.Start = omega arith
-      fewer Body.Timer = omega arith
-      fewer (Body.Message sender msg) = omega arith
-      fewer (Body.Sync count) = omega arith

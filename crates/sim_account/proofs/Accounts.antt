@@ -1,7 +1,6 @@
 -- What is told of the next step is what the step does.
-use Rattle.std.specs.Prelude.{◌≡◌, ◌≢◌, ◌⊎◌, ℕ, ◌+◌, ◌<◌, ◌==◌, nat_le, Bool, true, false, cond, List, [], ◌∷◌, length, Option, Some, None, IsSome, is_some, Result, Ok, Err, IfOk}
-use Rattle.std.proofs.Common.{refl, sym, ap, ◌∙◌, inl, inr}
-use Rattle.std.proofs.lemmas.Bool.{cond_both, eqb-false}
+use Rattle.std.specs.Prelude.{◌≡◌, ℕ, ◌+◌, ◌==◌, nat_le, Bool, true, false, cond, List, [], ◌∷◌, length, Option, Some, None, IsSome, is_some, Result, Ok, Err, IfOk}
+use Rattle.std.proofs.Common.{refl, sym, ap, ◌∙◌}
 use Rattle.sim_streams.specs.Word.{network, stream_of}
 use Rattle.sim_queue.specs.declared.Item.{Item}
 use Rattle.sim_queue.specs.Pending.{first}
@@ -13,14 +12,12 @@ use Rattle.sim_disk.specs.Disk as disk
 use Rattle.sim_node.specs.Effects.{Effect}
 use Rattle.sim_events.specs.declared.Event.TheVariants as event
 use Rattle.sim_events.specs.declared.Refusal.TheVariants as refusal
-use Rattle.sim_world.specs.declared.account.Fate.{Fate}
-use Rattle.sim_world.specs.declared.account.Fate.TheVariants as fate
 use Rattle.sim_pending.specs.Occurrence.{Body, Occurrence, input_of}
-use Rattle.sim_world.specs.World.{World, host_at, place, drawn, with_node, with_disk, queued, is_full, wrote, timed, made_stable}
 use Rattle.sim_pending.specs.Fate.{is_lost, latency}
+use Rattle.sim_world.specs.World.{World, host_at, place, drawn, with_node, with_disk, queued, is_full, wrote, timed, made_stable}
 use Rattle.sim_world.specs.Events.{Rules, next_word, sent, sent_open, sent_over, asked, effect, effects, reaction, begun, happened_to, stepped, stepped_by, next, unless_refused}
-use Rattle.sim_world.specs.Account.{Reaction, ToldEffect, open_fate, fate_over, sent_fate, fate_of, all_told, told_of, reaction_to, reaction_by, next_reaction, paid, carried, all_carried, after_reaction, after_told_by, after_told}
-use Rattle.sim_world.specs.inside.Ledger.{Follows}
+use Rattle.sim_account.specs.declared.fate.Fate.TheVariants as fate
+use Rattle.sim_account.specs.Account.{Reaction, ToldEffect, open_fate, fate_over, sent_fate, fate_of, all_told, reaction_to, reaction_by, next_reaction, paid, carried, all_carried, after_reaction, after_told_by, after_told}
 use Rattle.sim_world.proofs.PartChanges.{cond_true, cond_false}
 use Rattle.sim_world.proofs.Stable.{stable_place, stable_reaction}
 

@@ -1,15 +1,15 @@
 use Rattle.std.proofs.Common.{rules as std_rules, ◌≡◌, ◌≤◌, suc, ◌+◌, [], ◌∷◌, ◌++◌, length, min, subst, sym, ap, ◌∙◌, arith, append_assoc, append-nil}
 use Rattle.sim_node.specs.Seen.{seen}
 use Rattle.sim_world.specs.Events.{rules, effect}
-use Rattle.sim_world.specs.Account.{all_told}
-use Rattle.sim_world.specs.inside.Ledger.{Follows, HasRoomFor}
-use Rattle.sim_world.proofs.parts.Parts.told.Goals as goal
+use Rattle.sim_account.specs.Account.{all_told}
+use Rattle.sim_account.specs.inside.Ledger.{HasRoomFor}
+use Rattle.sim_account.proofs.fates.told.Goals as goal
 
 pub loop-effect-preserved : goal.loop-effect-preserved
 loop-effect-preserved g c =
-    let r = rules g.N.Node.laws g.N.Node.PROBES c.args.sc.now in
-    let h = c.args.h in
-    let base = c.args.self.now.world in
+    let r = rules g.N.Node.laws g.N.Node.PROBES c.args.world.now.scenario in
+    let h = c.args.host in
+    let base = c.args.world.now.world in
     let inv = c.loop-effect.invariant in
     let e = seen c.in-Some.effect in
     let rest = c.take_first.new.self.list in
@@ -19,7 +19,7 @@ loop-effect-preserved g c =
     let more : min (length c.loop-effect.effects.list) 40 ≡ min (length rest) 40 + 1 = omega arith in
     record {
       hosts = sym (ap (λ x. x.hosts) c.in-Some.ensures.some) ∙ inv.hosts;
-      room = c.fate-fate.ensures.room (min (length rest) 40) (subst (λ n. HasRoomFor n base c.loop-effect.ledger) more inv.room);
+      room = c.fate-fate.ensures.room (min (length rest) 40) (subst (λ n. HasRoomFor n c.loop-effect.ledger) more inv.room);
       told = λ v f.
           let t = inv.told v f in
           let p = c.fate-fate.ensures.told t.0 t.1 in
@@ -51,7 +51,7 @@ fate-fate-requires-clause-room g c =
 
 pub returns : goal.returns
 returns g c = λ w f.
-    let r = rules g.N.Node.laws g.N.Node.PROBES c.args.sc.now in
+    let r = rules g.N.Node.laws g.N.Node.PROBES c.args.world.now.scenario in
     let t = c.loop-effect.invariant.told w f in
     let none = c.in_default.ensures.none.0 in
-    sym (append-nil c.loop-effect.told.items) ∙ ap (λ es. c.loop-effect.told.items ++ all_told r c.args.h es t.0) (sym none) ∙ t.2
+    sym (append-nil c.loop-effect.told.items) ∙ ap (λ es. c.loop-effect.told.items ++ all_told r c.args.host es t.0) (sym none) ∙ t.2

@@ -1,16 +1,16 @@
-use Rattle.std.proofs.Common.{◌≡◌, ◌+◌, ◌≤◌, [], ◌∷◌, ◌++◌, List, length, map, drop, Some, slice_get, sym, ap, ◌∙◌, arith}
+use Rattle.std.proofs.Common.{◌+◌, ◌≤◌, [], ◌∷◌, ◌++◌, length, map, drop, sym, ap, ◌∙◌, arith}
 use Rattle.sim_streams.specs.Word.{torn}
 use Rattle.sim_disk.specs.Disk as disk
 use Rattle.sim_node.specs.Numbers.{numbers_from}
 use Rattle.sim_world.specs.World.{place}
 use Rattle.sim_world.specs.Events.{rules}
-use Rattle.sim_world.proofs.Tears.{tears_from, tears_are, tears_more, tears_none}
-use Rattle.sim_world.proofs.world.World.tears.Goals as goal
+use Rattle.sim_account.proofs.Kept.{tears_from, tears_are, tears_more, tears_none}
+use Rattle.sim_account.proofs.crash.tears.Goals as goal
 
 pub loop-place-preserved : goal.loop-place-preserved
 loop-place-preserved g c =
-    let words = (rules g.N.Node.laws g.N.Node.PROBES c.args.self.now.scenario).words torn in
-    let first = place torn c.args.self.now.world in
+    let words = (rules g.N.Node.laws g.N.Node.PROBES c.args.world.now.scenario).words torn in
+    let first = place torn c.args.world.now.world in
     let i = c.loop-place.place in
     let writes = c.disk-disk.result.now.writes in
     let kept = c.loop-place.kept.items in
@@ -24,8 +24,8 @@ loop-place-preserved g c =
 
 pub returns : goal.returns
 returns g c =
-    let words = (rules g.N.Node.laws g.N.Node.PROBES c.args.self.now.scenario).words torn in
-    let first = place torn c.args.self.now.world in
+    let words = (rules g.N.Node.laws g.N.Node.PROBES c.args.world.now.scenario).words torn in
+    let first = place torn c.args.world.now.world in
     let writes = c.disk-disk.result.now.writes in
     let past : length writes ≤ c.loop-place.place = omega (arith, c.loop-place-test.false, c.unsynced-place-end.ensures.count) in
     sym (tears_none words (first + c.loop-place.place) c.loop-place.place writes c.loop-place.kept.items past)

@@ -12,16 +12,13 @@ use Rattle.sim_links.specs.Ways.{way}
 use Rattle.sim_disk.specs.Disk as disk
 use Rattle.sim_node.specs.Effects.{Effect}
 use Rattle.sim_node.specs.Work.{Work, turned, copied}
-use Rattle.sim_world.specs.declared.account.Fate.{Fate}
-use Rattle.sim_world.specs.declared.account.Fate.TheVariants as fate
-use Rattle.sim_pending.specs.Occurrence.{Body, Occurrence, input_of}
-use Rattle.sim_world.specs.World.{World, host_at, place, drawn}
-use Rattle.sim_pending.specs.Occurrence.{is_timer_of}
-use Rattle.sim_world.specs.World.{with_host, with_node, with_disk, queued, without}
-use Rattle.sim_world.specs.World.{is_full, held_back, made_stable}
+use Rattle.sim_pending.specs.Occurrence.{Body, Occurrence, input_of, is_timer_of}
 use Rattle.sim_pending.specs.Fate.{is_lost, latency}
-use Rattle.sim_world.specs.Events.{Rules, next_word, words_from, effect, reaction}
-use Rattle.sim_world.specs.Events.{begun}
+use Rattle.sim_world.specs.World.{World, host_at, place, drawn, with_host, with_node, with_disk}
+use Rattle.sim_world.specs.World.{queued, without, is_full, held_back, made_stable}
+use Rattle.sim_world.specs.Events.{Rules, next_word, words_from, effect, reaction, begun}
+use Rattle.sim_account.specs.declared.fate.Fate.{Fate}
+use Rattle.sim_account.specs.declared.fate.Fate.TheVariants as fate
 
 -- an effect, and its fate
 pub record ToldEffect (Msg : Type 0) : Type 0 where

@@ -1,0 +1,3 @@
+pub mod Accounts
+pub mod Kept
+pub mod Ledgers

@@ -1,0 +1,2 @@
+-- Definitions for the private functions alone: no crate above cites this file.
+pub mod Ledger
