@@ -21,6 +21,7 @@ back what it proved as soon as a crate ends.
 
 import argparse
 import concurrent.futures
+import functools
 import os
 import pathlib
 import shutil
@@ -42,10 +43,6 @@ MEMORY_OF_A_CHECK = 4 << 30
 # What rt keeps of a crate in its folder out/: the proofs of its functions, and the built library.
 PARTS_KEPT = ("incremental", "rlib")
 
-# The work of a crate, in lines, from which on its check gets all processors but one. The largest
-# crates stand on each other, and all others wait for them.
-LARGE = 3400
-
 
 def cited_crates():
     """Returns the crates that each crate of crates.txt cites itself, without those of the kit."""
@@ -65,6 +62,7 @@ def libraries_below(crate, cited):
     return list(found)
 
 
+@functools.cache
 def work_of(crate):
     """Returns about how long the check of a crate takes, in lines of code."""
     folder = ROOT / "crates" / crate
@@ -147,9 +145,15 @@ def longest_chains(libraries, cited):
     return chain
 
 
-def jobs_for(crate, ready, idle, count):
-    """Returns the number of jobs for the check of a crate, beside `ready` crates that can begin."""
-    return max(1, count - 1) if work_of(crate) > LARGE else max(1, idle // ready)
+def jobs_for(share, others, idle, count):
+    """Returns the number of jobs for the check of a crate, which are at most the idle processors.
+
+    `share` is how much of the work that is left is the crate and the longest chain of those above
+    it: as large a share of all processors keeps the end of that chain from being late. `others`
+    crates can begin beside it, and share with it what would idle otherwise.
+    """
+    wanted = min(count - 1, round(count * share))
+    return min(idle, max(1, wanted, idle // (1 + others)))
 
 
 def prove_all(libraries, cited):
@@ -163,10 +167,13 @@ def prove_all(libraries, cited):
         while running or (left and not failure):
             ready = [it for it in left if not failure and proved.issuperset(cited[it])]
             idle = count - sum(jobs for _, jobs in running.values())
-            for crate in ready[:idle]:
-                jobs = jobs_for(crate, len(ready), idle, count)
-                if idle < jobs:
+            # What is running is taken to be half done.
+            rest = sum(map(work_of, left)) + sum(work_of(it) for it, _ in running.values()) / 2
+            for number, crate in enumerate(ready):
+                if idle == 0:
                     break
+                others = len(ready) - 1 - number
+                jobs = jobs_for(chain[crate] / max(rest, 1), others, idle, count)
                 below = libraries_below(crate, cited)
                 running[pool.submit(lanes.prove, crate, below, jobs)] = crate, jobs
                 left.remove(crate)
