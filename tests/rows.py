@@ -1,7 +1,7 @@
 #!/usr/bin/env python3
 """Writes some cases of tests/fuzz.py with their outputs, for the test `cases` of the gate.
 
-    tests/rows.py             writes plays.rt, jobs.rt and runs.rt in crates/test_program/src/cases
+    tests/rows.py             writes plays.rt, jobs.rt and runs.rt in crates/test_support/src/cases
     tests/rows.py --check     writes nothing, and exits with 1 if a file has another text
 
 For each kind the first short cases are taken, of logs and scripts only those that are not refused,
@@ -23,7 +23,7 @@ sys.dont_write_bytecode = True
 from oracle import hunts  # noqa: E402
 from oracle.cases import Case  # noqa: E402
 
-FOLDER = pathlib.Path(__file__).resolve().parent.parent / "crates/test_program/src/cases"
+FOLDER = pathlib.Path(__file__).resolve().parent.parent / "crates/test_support/src/cases"
 
 # For each file, how many cases of each kind it has.
 FILES = {

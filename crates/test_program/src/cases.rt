@@ -1,22 +1,16 @@
 //! Random cases with the outputs of a plain simulator, `tests/oracle`, which shares no code and no
-//! definition with the program, and is not proved. `plays`, `jobs` and `runs` have the cases, which
-//! tests/rows.py writes; tests/fuzz.py tries any number of others.
+//! definition with the program, and is not proved. `test_support` has the cases, which tests/rows.py
+//! writes; tests/fuzz.py tries any number of others.
 //!
 //! What the tests catch: a definition of a world, a node, a play, a search, a plan, a log or a
 //! script that is not the one that was meant, in code and contract alike; a job that gives up.
-mod jobs;
-mod plays;
-mod runs;
-
-use crate::cases::jobs::JOBS;
-use crate::cases::plays::PLAYS;
-use crate::cases::runs::RUNS;
 use crate::running::gives;
 use std::alloc::{AllocError, Global};
 use std::process::Abort;
 use std::rt::Clock;
 use std::sync::Wait;
 use std::thread::Threads;
+use test_support::cases::{JOBS, PLAYS, RUNS};
 
 // Returns the words of a command line, which stand on a line each.
 fn words_of(alloc: Global, lines: &str) -> Result<Vec<&str>, AllocError> {

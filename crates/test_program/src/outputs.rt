@@ -15,47 +15,7 @@ use std::rt::Clock;
 use std::sync::Wait;
 use std::test::Fail;
 use std::thread::Threads;
-
-const TWO_PHASE: &str = r#"format = 2
-seed = "0000000000000000000000000000000000000000000000000000000000000000"
-protocol = "two_phase"
-tick = 100
-latency_min = 5
-latency_max = 45
-loss = 0
-disk_latency = 20
-servers = ["a", "b"]
-checkpoint = 64
-window = 64
-[[client]]
-name = "w"
-ops = 3
----
-bounce a
-"#;
-
-// Two pings over links of 10 ms. The second answer is held and released.
-const PINGS: &str = r#"format = 1
-seed = "0000000000000000000000000000000000000000000000000000000000000000"
-protocol = "echo"
-tick = 100
-latency_min = 10
-latency_max = 10
-loss = 0
-servers = ["a"]
-checkpoint = 4
-window = 2
-
-[[client]]
-name = "w"
-ops = 2
----
-run 4
-hold a w
-step
-release a w
-step
-"#;
+use test_support::jobs::{HELD_PINGS, SLOW_COMMIT};
 
 // Returns the output over an input of a job that these words ask for, which ends well.
 fn written<R: Threads + Wait + Sync + Clock + Eprint + Abort>(
@@ -97,7 +57,7 @@ fn the_run_of_a_seed_made_small(rt: HostRuntime) -> Result<(), Fail> {
     let cond = "agree first unless 0";
     let search = ["simback", "search", "0", "26", cond];
     let words = ["simback", "script", "--faults", "8", "654", "120"];
-    let found = written(&rt, alloc, TWO_PHASE, &words);
+    let found = written(&rt, alloc, SLOW_COMMIT, &words);
     let want = ("0", "first 26\n");
     assert!(rt; gives(&rt, alloc, &search, found.as_str(), want));
     let small = written(&rt, alloc, found.as_str(), &["simback", "shrink", cond]);
@@ -111,7 +71,7 @@ fn the_run_of_a_seed_made_small(rt: HostRuntime) -> Result<(), Fail> {
 fn a_page_with_a_title_that_would_leave_its_place(rt: HostRuntime) {
     let watch = "w.next <= 1; done w";
     let words = ["simback", "page", "--title", "</script>", "--watch", watch];
-    let page = written(&rt, rt.alloc(), PINGS, &words);
+    let page = written(&rt, rt.alloc(), HELD_PINGS, &words);
     let page = page.as_str();
     assert!(rt; page.contains("\"title\":\"\\u003c/script>\""));
     assert!(rt; page.contains("\"holds\":[[1,1,1,1,0,0,0,0,0],[0,0,0,0,0,0,0,0,1]]"));
@@ -121,7 +81,7 @@ fn a_page_with_a_title_that_would_leave_its_place(rt: HostRuntime) {
 #[test]
 fn writes_nothing_after_a_failed_read(rt: HostRuntime) {
     let mut reader = Text {
-        rest: PINGS.as_bytes(),
+        rest: HELD_PINGS.as_bytes(),
         fails: true,
     };
     let words = ["simback", "search", "0", "6", "w.next <= 1"];

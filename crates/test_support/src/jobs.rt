@@ -201,3 +201,45 @@ pings | run 4; hold a w; step; release a w; step | log --to 9 | - | 2 | bad rang
 pings | run 4; hold a w; step; release a w; step; crsh a | log | - | 2 | -
 pings | run 4; hold a w; step; release a w; step; crsh a | page | - | 2 | -
 pings | run 4; hold a w; step; release a w; step | page --watch | w.next <= 1; x.next <= 1 | 2 | bad condition"#;
+
+/// Two-phase commit over slow disks, with one fault.
+pub const SLOW_COMMIT: &str = r#"format = 2
+seed = "0000000000000000000000000000000000000000000000000000000000000000"
+protocol = "two_phase"
+tick = 100
+latency_min = 5
+latency_max = 45
+loss = 0
+disk_latency = 20
+servers = ["a", "b"]
+checkpoint = 64
+window = 64
+[[client]]
+name = "w"
+ops = 3
+---
+bounce a
+"#;
+
+/// Two pings over links of 10 ms. The second answer is held and released.
+pub const HELD_PINGS: &str = r#"format = 1
+seed = "0000000000000000000000000000000000000000000000000000000000000000"
+protocol = "echo"
+tick = 100
+latency_min = 10
+latency_max = 10
+loss = 0
+servers = ["a"]
+checkpoint = 4
+window = 2
+
+[[client]]
+name = "w"
+ops = 2
+---
+run 4
+hold a w
+step
+release a w
+step
+"#;

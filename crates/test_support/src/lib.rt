@@ -8,7 +8,8 @@
 //!   (`there_and_back`), so no test that plays proves this again.
 //! - [`applied`] and [`ran`] take events without rows.
 //! - [`Counts`] is a meter that counts at run time, which the program's own does not.
-//! - [`walks`] and [`jobs`] have the rows of `test_program`: inputs, and what is written for them.
+//! - [`walks`], [`jobs`] and [`cases`] have the rows of `test_program`: inputs, and what is written
+//!   for them.
 //!
 //! A run there and back is one recursion: an event, the rest of the run, the undo. So no stack of
 //! records needs an invariant.
@@ -18,6 +19,7 @@
 #![tactic(auto)]
 
 mod act;
+pub mod cases;
 mod counts;
 mod course;
 pub mod jobs;
