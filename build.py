@@ -93,6 +93,19 @@ def stamp_in(rlib):
     return stamp.read_text() if stamp.is_file() else None
 
 
+def hand_over(giver, taker, crate, part):
+    """Has one copy of the crates take over what another keeps of a crate, if it has that."""
+    source, target = (it / "crates" / crate / "out" / part for it in (giver, taker))
+    if not source.is_dir() or part == "rlib" and stamp_in(source) == stamp_in(target):
+        return
+    # A copy that is cut off has another name, so nobody takes it for a whole one.
+    whole = target.with_name(f"{part}.new")
+    for old in (whole, target):
+        shutil.rmtree(old, ignore_errors=True)
+    shutil.copytree(source, whole, copy_function=link_or_copy)
+    whole.rename(target)
+
+
 class Lanes:
     """Copies of the crates, each for one command of rt at a time."""
 
@@ -111,29 +124,17 @@ class Lanes:
             lane = self.free.pop()
         start = time.monotonic()
         for name in below:
-            self.hand_over(ROOT, lane, name, "rlib")
+            hand_over(ROOT, lane, name, "rlib")
         for part in PARTS_KEPT:
-            self.hand_over(ROOT, lane, crate, part)
+            hand_over(ROOT, lane, crate, part)
         words = ["rt", "lib", "--jobs", str(jobs)]
         ended = subprocess.run(words, cwd=lane / "crates" / crate, stdin=subprocess.DEVNULL,
                                stdout=subprocess.PIPE, stderr=subprocess.STDOUT, text=True)
         for part in PARTS_KEPT:
-            self.hand_over(lane, ROOT, crate, part)
+            hand_over(lane, ROOT, crate, part)
         with self.lock:
             self.free.append(lane)
         return ended.returncode, ended.stdout, time.monotonic() - start
-
-    def hand_over(self, giver, taker, crate, part):
-        """Has one copy of the crates take over what another keeps of a crate, if it has that."""
-        source, target = (it / "crates" / crate / "out" / part for it in (giver, taker))
-        if not source.is_dir() or part == "rlib" and stamp_in(source) == stamp_in(target):
-            return
-        # A copy that is cut off has another name, so nobody takes it for a whole one.
-        whole = target.with_name(f"{part}.new")
-        for old in (whole, target):
-            shutil.rmtree(old, ignore_errors=True)
-        shutil.copytree(source, whole, copy_function=link_or_copy)
-        whole.rename(target)
 
 
 def longest_chains(libraries, cited):
