@@ -63,7 +63,7 @@ impl<M> Direction<M> {
     ghost use Rattle.sim_links.specs.Link.{with_held, without_newest, fits, back};
 
     /// Returns an open direction that holds nothing.
-    pub fn open(alloc: Global) -> Direction<M>
+    pub(crate) fn open(alloc: Global) -> Direction<M>
         ensures { result ≡ open_link }
     {
         Direction {
@@ -72,28 +72,28 @@ impl<M> Direction<M> {
         }
     }
 
-    pub fn state(&self) -> LinkState
+    pub(crate) fn state(&self) -> LinkState
         ensures { result ≡ self.now.state }
     {
         self.state
     }
 
     /// Returns the messages that it holds, the oldest first.
-    pub fn messages(&self) -> &[M]
+    pub(crate) fn messages(&self) -> &[M]
         ensures { result.now ≡ self.now.held }
     {
         &self.held
     }
 
     /// Returns the number of messages that it holds.
-    pub fn count(&self) -> usize
+    pub(crate) fn count(&self) -> usize
         ensures { result ≡ length self.now.held }
     {
         self.held.len()
     }
 
     /// Returns whether it is open and holds nothing.
-    pub fn is_open(&self) -> bool
+    pub(crate) fn is_open(&self) -> bool
         ensures { IsTrue result ↔ (self.now ≡ open_link) }
     {
         match self.state {
@@ -103,7 +103,7 @@ impl<M> Direction<M> {
     }
 
     /// Changes the direction. Returns the messages that leave it.
-    pub fn change(&mut self, change: Change) -> Vec<M>
+    pub(crate) fn change(&mut self, change: Change) -> Vec<M>
         ensures after { self.new ≡ changed change self.old }
         ensures left { result.items ≡ let_go change self.old }
     {
@@ -116,7 +116,7 @@ impl<M> Direction<M> {
     }
 
     /// Undoes a change, given its record and the messages that left by it.
-    pub fn undo(&mut self, undo: LinkUndo, messages: Vec<M>)
+    pub(crate) fn undo(&mut self, undo: LinkUndo, messages: Vec<M>)
     where
         M: Drop,
         requires fits { fits undo self.old }
@@ -131,7 +131,7 @@ impl<M> Direction<M> {
     }
 
     /// Adds a held message, the newest. After `NoMemory` the direction is unchanged.
-    pub fn keep(&mut self, message: M) -> Result<(), NoMemory>
+    pub(crate) fn keep(&mut self, message: M) -> Result<(), NoMemory>
     where
         M: Drop,
         ensures ok { OnOk result (self.new ≡ with_held message self.old) }
@@ -142,7 +142,7 @@ impl<M> Direction<M> {
     }
 
     /// Removes and returns the newest held message.
-    pub fn unkeep(&mut self) -> M
+    pub(crate) fn unkeep(&mut self) -> M
         requires { 0 < length self.old.held }
         ensures message { self.old.held ≡ self.new.held ++ result ∷ [] }
         ensures rest { self.new ≡ without_newest self.old }
@@ -151,7 +151,7 @@ impl<M> Direction<M> {
     }
 
     /// Returns an equal direction.
-    pub fn copy<F: Fn(&M) -> Result<M, NoMemory>>(
+    pub(crate) fn copy<F: Fn(&M) -> Result<M, NoMemory>>(
         &self,
         alloc: Global,
         each: &F,
