@@ -1,35 +1,34 @@
 //! The keys of a scenario itself.
 use crate::explanation::KnownProtocol;
-use crate::sentences::{Mismatch, Quoted, Wanted, latency_min};
+use crate::sentences::{Part, found, latency_min, tell, text_at};
 use sim_scenario::Key;
 use std::fmt;
 use toml::{Table, Value};
 
-/// The keys of both formats but the last one, as a list in words.
-const KEYS: &str =
-    "format, seed, protocol, tick, latency_min, latency_max, loss, servers, checkpoint, window";
+/// What is said of a key that format 1 does not have.
+const UNKNOWN_IN_1: &str = "key % is unknown; the keys of format 1 are format, seed, protocol, \
+    tick, latency_min, latency_max, loss, servers, checkpoint, window and client";
 
-// Returns that a whole number from `low` to `high` is wanted.
-fn number(low: u32, high: u32, unit: &'static str) -> Wanted {
-    Wanted::Number { low, high, unit }
-}
+/// What is said of a key that format 2 does not have.
+const UNKNOWN_IN_2: &str = "key % is unknown; the keys are format, seed, protocol, tick, \
+    latency_min, latency_max, loss, servers, checkpoint, window, client, disk_latency and link";
 
 // Returns what a key of a scenario must be.
-fn wanted(table: &Table, key: Key) -> Wanted {
-    match key {
-        Key::Format => Wanted::Words("1 or 2"),
-        Key::Seed => Wanted::Words("a string of 64 hexadecimal digits"),
-        Key::Protocol => Wanted::Words("the name of a protocol, a string"),
-        Key::Tick => number(1, 60_000, "ms"),
-        Key::LatencyMin | Key::DiskLatency => number(0, 60_000, "ms"),
-        Key::LatencyMax => Wanted::LatencyMax(latency_min(table)),
-        Key::Loss => number(0, 1_000, "of 1,000 messages"),
-        Key::Servers => Wanted::Words("an array of one or more names"),
-        Key::Checkpoint => number(1, 1_024, "events"),
-        Key::Window => number(1, 4_096, "events"),
-        Key::Client => Wanted::Words("one or more tables, each below a line [[client]]"),
-        Key::Link => Wanted::Words("tables, each below a line [[link]]"),
-    }
+fn wanted(table: &Table, key: Key) -> Part<'static> {
+    Part::Words(match key {
+        Key::Format => "1 or 2",
+        Key::Seed => "a string of 64 hexadecimal digits",
+        Key::Protocol => "the name of a protocol, a string",
+        Key::Tick => "a whole number from 1 to 60,000 (ms)",
+        Key::LatencyMin | Key::DiskLatency => "a whole number from 0 to 60,000 (ms)",
+        Key::LatencyMax => return Part::LatencyMax(latency_min(table)),
+        Key::Loss => "a whole number from 0 to 1,000 (of 1,000 messages)",
+        Key::Servers => "an array of one or more names",
+        Key::Checkpoint => "a whole number from 1 to 1,024 (events)",
+        Key::Window => "a whole number from 1 to 4,096 (events)",
+        Key::Client => "one or more tables, each below a line [[client]]",
+        Key::Link => "tables, each below a line [[link]]",
+    })
 }
 
 /// Writes what is at a key of a scenario, and what must be there.
@@ -38,12 +37,15 @@ pub fn explain_key<W: fmt::Write>(
     table: &Table,
     key: Key,
 ) -> fmt::Result {
-    let mismatch = Mismatch {
-        key: key.text(),
-        found: table.get(key.text()),
-        wanted: wanted(table, key),
-    };
-    write!(f, "{mismatch}")
+    tell(
+        f,
+        "% is %; it has to be %",
+        &[
+            Part::Words(key.text()),
+            found(table.get(key.text())),
+            wanted(table, key),
+        ],
+    )
 }
 
 /// Writes that a key is unknown, and which keys there are.
@@ -52,26 +54,41 @@ pub fn explain_unknown<W: fmt::Write>(
     table: &Table,
     key: &str,
 ) -> fmt::Result {
-    let is_format_2 = table.get("format").and_then(Value::as_integer) == Some(2);
-    let quoted = Quoted(key);
-    write!(f, "key {quoted} is unknown")?;
-    if is_format_2 {
-        write!(f, "; the keys are {KEYS}, client, disk_latency and link")
+    let text = if matches!(table.get("format"), Some(Value::Integer(2))) {
+        UNKNOWN_IN_2
     } else if key == "disk_latency" || key == "link" {
-        f.write_str(" here; a scenario has it only with format = 2")
+        "key % is unknown here; a scenario has it only with format = 2"
     } else {
-        write!(f, "; the keys of format 1 are {KEYS} and client")
+        UNKNOWN_IN_1
+    };
+    tell(f, text, &[Part::Quoted(key)])
+}
+
+// Returns whether a text has a character that is not a hexadecimal digit.
+fn has_other_digit(text: &str) -> bool {
+    for c in text.chars() {
+        if !c.is_ascii_hexdigit() {
+            return true;
+        }
     }
+    false
 }
 
 /// Writes what is wrong with the seed, a string.
 pub fn explain_seed<W: fmt::Write>(f: &mut fmt::Formatter<W>, table: &Table) -> fmt::Result {
-    let seed = table.get("seed").and_then(Value::as_str).unwrap_or("");
-    match seed.chars().find(|c| !c.is_ascii_hexdigit()) {
-        Some(_) => write!(f, "seed is {}, not all hexadecimal digits", Quoted(seed))?,
-        None => write!(f, "seed has {} hexadecimal digits", seed.len())?,
-    }
-    f.write_str("; it has to be a string of 64 of them")
+    let seed = text_at(table, "seed");
+    let (text, what) = if has_other_digit(seed) {
+        (
+            "seed is %, not all hexadecimal digits; it has to be a string of 64 of them",
+            Part::Quoted(seed),
+        )
+    } else {
+        (
+            "seed has % hexadecimal digits; it has to be a string of 64 of them",
+            Part::Count(seed.len()),
+        )
+    };
+    tell(f, text, &[what])
 }
 
 /// Writes which protocol was named, and which ones exist.
@@ -80,11 +97,10 @@ pub fn explain_protocol<W: fmt::Write>(
     table: &Table,
     protocols: &[KnownProtocol],
 ) -> fmt::Result {
-    let named = table.get("protocol").and_then(Value::as_str).unwrap_or("");
-    write!(f, "protocol is {}; it has to be one of", Quoted(named))?;
-    for (i, protocol) in protocols.iter().enumerate() {
-        let comma = if i == 0 { "" } else { "," };
-        write!(f, "{comma} {}", Quoted(protocol.name))?;
-    }
-    Ok(())
+    let named = Part::Quoted(text_at(table, "protocol"));
+    tell(
+        f,
+        "protocol is %; it has to be one of %",
+        &[named, Part::Protocols(protocols)],
+    )
 }

@@ -12,10 +12,11 @@
 //! not know them, and the fault decides what is looked for. If memory is refused, the sentence is
 //! that of the fault alone.
 //!
-//! - `sentences`: the small parts of a sentence: a quoted text, a value that was found, what is
-//!   wanted in its place.
-//! - `keys`: the keys of the text itself. `hosts`: servers, clients and their names. `links`: the
-//!   links.
+//! - `sentences`: a sentence, as a text and the parts that come into it, and the small questions
+//!   to a table that all sentences ask.
+//! - `keys`: the keys of the text itself. `tables`: the keys of clients and of links, and items
+//!   that are not what they must be. `hosts`: servers, clients and their names. `links`: links
+//!   beside hosts and each other.
 //! - `position`: the line and the column of a place in the text.
 #![tactic(auto)]
 
@@ -25,5 +26,6 @@ mod keys;
 mod links;
 mod position;
 mod sentences;
+mod tables;
 
 pub use explanation::{Explanation, KnownProtocol};

@@ -1,11 +1,12 @@
 //! Lines and columns.
-use std::fmt;
 
 /// The line and the column of a place in a text, both from 1. A column counts characters.
 #[derive(Clone, Copy)]
 pub struct Position {
-    line: usize,
-    column: usize,
+    pub line: usize,
+    pub column: usize,
+    /// Whether the last byte before the place that is no blank is a `=`.
+    pub follows_equals: bool,
 }
 
 impl Position {
@@ -13,21 +14,24 @@ impl Position {
     pub fn behind(text: &[u8], bytes: usize) -> Position {
         let mut line: usize = 1;
         let mut column: usize = 1;
+        let mut last = b' ';
         for byte in text.iter().take(bytes) {
-            if *byte == b'\n' {
-                line = line.saturating_add(1);
-                column = 1;
-            } else if *byte & 0xC0 != 0x80 {
-                column = column.saturating_add(1);
+            match *byte {
+                b'\n' => {
+                    line = line.saturating_add(1);
+                    column = 1;
+                }
+                0x80..=0xBF => {}
+                _ => column = column.saturating_add(1),
+            }
+            if !matches!(*byte, b' ' | b'\t') {
+                last = *byte;
             }
         }
-        Position { line, column }
-    }
-}
-
-impl fmt::Display for Position {
-    fn fmt<W: fmt::Write>(&self, f: &mut fmt::Formatter<W>) -> fmt::Result {
-        let (line, column) = (self.line, self.column);
-        write!(f, "line {line}, column {column}")
+        Position {
+            line,
+            column,
+            follows_equals: last == b'=',
+        }
     }
 }
