@@ -32,26 +32,6 @@ with_argument adds command argument = record {
   own = adds.globals ∙ ap₂ (λ a b. a || b) command.own argument.own;
 }
 
--- a shape with more rules
-abbrev pub and_rules : Shape → List Rule → Shape
-and_rules shape [] = shape
-and_rules shape (rule ∷ rules) = and_rules (and_rule shape rule) rules
-
--- each of the arguments has its rule
-abbrev pub AreArguments : List Rule → List Arg → Type 0
-AreArguments [] [] = Unit {0}
-AreArguments (rule ∷ rules) (arg ∷ args) = IsArgument rule arg × AreArguments rules args
-AreArguments _ _ = ⊥
-
--- a command with more arguments, of its own
-pub with_arguments : (rules : List Rule) (args : List Arg) {old new : Command} {shape : Shape} → AreArguments rules args → AddsInTurn AddsArg old args new
-    → IsCommand shape old → IsCommand (and_rules shape rules) new
-with_arguments [] [] {old} {new} {shape} are adds made = subst (IsCommand shape) adds made
-with_arguments [] (arg ∷ args) are adds made = absurd are
-with_arguments (rule ∷ rules) [] are adds made = absurd are
-with_arguments (rule ∷ rules) (arg ∷ args) are adds made =
-    with_arguments rules args are.1 adds.2 (with_argument adds.1 made are.0)
-
 -- a program with one more subcommand
 pub with_command : {old new sub : Command} {app : App} {shape : Shape} → AddsSubcommand old sub new → app_of old ≡ app → IsCommand shape sub
     → app_of new ≡ with_subcommand app shape

@@ -1,288 +1,289 @@
 //! The definition of the command line. To clap a number is a word like any other: `line.rt` reads
 //! it, so that the message for a wrong one is the program's own.
-ghost use Rattle.std.specs.Prelude.{codes, IfOk, ◌≡◌};
-ghost use Rattle.clap.specs.Words.{App, Shape, app_of, with_subcommand};
+//!
+//! Arguments and subcommands are rows of tables, from which one function makes a value of clap's:
+//! each function that owns such a value is dear to prove.
+ghost use Rattle.std.specs.Prelude.{◌≡◌, IfOk};
+ghost use Rattle.clap.specs.Words.{app_of};
 ghost use Rattle.sim_job.specs.CommandLine as line;
 ghost use Rattle.sim_job.specs.CommandLine.{IsArgument, IsCommand};
+ghost use Rattle.sim_job.specs.Described.{rule_by, shape_by, with_rows};
 
 use clap::{Arg, ArgAction, Command};
 use std::alloc::{AllocError, Global};
 
-const SWEEP_EXAMPLES: &str = "\
+/// How an argument is given.
+#[derive(Clone, Copy)]
+enum Form {
+    /// `--ID`.
+    Flag,
+    /// `--ID VALUE`: what the usage calls the value, and its defaults.
+    Valued(&'static str, &'static [&'static str]),
+    /// A word: what the usage calls it, and whether it has to be given.
+    Word(&'static str, bool),
+}
+
+/// An argument of a subcommand.
+#[derive(Clone, Copy)]
+struct Described {
+    id: &'static str,
+    form: Form,
+    help: &'static str,
+}
+
+/// A subcommand.
+#[derive(Clone, Copy)]
+struct Subcommand {
+    name: &'static str,
+    about: &'static str,
+    /// What stands at the end of its help.
+    example: &'static str,
+    args: &'static [Described],
+}
+
+const WORKERS: Described = Described {
+    id: "workers",
+    form: Form::Valued("N", &["2"]),
+    help: "How many workers share the work, 1 to 16",
+};
+
+const PROGRESS: Described = Described {
+    id: "progress",
+    form: Form::Flag,
+    help: "Tell on standard error how far the work is",
+};
+
+const FAULTS: Described = Described {
+    id: "faults",
+    form: Form::Valued("F", &[]),
+    help: "Make one event in F a fault or a healing, 2 to 65536; without it there is none",
+};
+
+const QUIET: Described = Described {
+    id: "quiet",
+    form: Form::Valued("Q", &["0"]),
+    help: "End each run with its healings and Q steps",
+};
+
+const STRICT: Described = Described {
+    id: "strict",
+    form: Form::Flag,
+    help: "Stop at the first line of the script that is bad or refused, with status 2",
+};
+
+const COND: Described = Described {
+    id: "cond",
+    form: Form::Word("COND", true),
+    help: "The condition, as one word in quotes, such as \"w.next <= 3\"",
+};
+
+/// The last word of each command but a walk.
+const INPUT: Described = Described {
+    id: "file",
+    form: Form::Word("FILE", false),
+    help: "The file with the input; without it standard input",
+};
+
+const PLAY: [Described; 2] = [STRICT, INPUT];
+
+const SEARCH: [Described; 7] = [
+    WORKERS,
+    PROGRESS,
+    STRICT,
+    Described {
+        id: "lo",
+        form: Form::Word("LO", true),
+        help: "The first place to look at",
+    },
+    Described {
+        id: "hi",
+        form: Form::Word("HI", true),
+        help: "The last place to look at",
+    },
+    COND,
+    INPUT,
+];
+
+const SWEEP: [Described; 13] = [
+    WORKERS,
+    PROGRESS,
+    Described {
+        id: "script",
+        form: Form::Flag,
+        help: "Begin each run with the events that the script leaves",
+    },
+    STRICT,
+    FAULTS,
+    QUIET,
+    Described {
+        id: "at-end",
+        form: Form::Flag,
+        help: "Look at the last place of each run alone",
+    },
+    Described {
+        id: "json",
+        form: Form::Flag,
+        help: "Write the answer as a JSON object on a line",
+    },
+    Described {
+        id: "first",
+        form: Form::Word("FIRST", true),
+        help: "The number of the first seed",
+    },
+    Described {
+        id: "count",
+        form: Form::Word("COUNT", true),
+        help: "How many seeds to run",
+    },
+    Described {
+        id: "events",
+        form: Form::Word("EVENTS", true),
+        help: "How many steps to run with each seed, at most",
+    },
+    COND,
+    INPUT,
+];
+
+const SCRIPT: [Described; 5] = [
+    FAULTS,
+    QUIET,
+    Described {
+        id: "seed",
+        form: Form::Word("I", true),
+        help: "The number of the seed",
+    },
+    Described {
+        id: "events",
+        form: Form::Word("EVENTS", true),
+        help: "How many steps to run, at most",
+    },
+    INPUT,
+];
+
+const SHRINK: [Described; 3] = [PROGRESS, COND, INPUT];
+
+const LOG: [Described; 4] = [
+    Described {
+        id: "from",
+        form: Form::Valued("P", &[]),
+        help: "The first event to tell; without it 1",
+    },
+    Described {
+        id: "to",
+        form: Form::Valued("Q", &[]),
+        help: "The last event to tell; without it the last",
+    },
+    Described {
+        id: "json",
+        form: Form::Flag,
+        help: "Write each event as a JSON object on a line",
+    },
+    INPUT,
+];
+
+const PAGE: [Described; 3] = [
+    Described {
+        id: "title",
+        form: Form::Valued("TEXT", &[]),
+        help: "The heading of the page",
+    },
+    Described {
+        id: "watch",
+        form: Form::Valued("COND", &[]),
+        help: "Conditions, as one word in quotes, with ; between: the page shows where each fails",
+    },
+    INPUT,
+];
+
+const WALK: [Described; 1] = [Described {
+    id: "file",
+    form: Form::Word("FILE", true),
+    help: "The file with the input",
+}];
+
+/// The subcommands, in the order of the help.
+static SUBCOMMANDS: [Subcommand; 8] = [
+    Subcommand {
+        name: "play",
+        about: "Play the script, and write one line for each command",
+        example: "Example: simback play examples/first-run.play",
+        args: &PLAY,
+    },
+    Subcommand {
+        name: "search",
+        about: "Play the script, and find the first place where a condition fails",
+        example: "Example: simback search --workers 4 0 6 \"w.next <= 1\" examples/first-run.play",
+        args: &SEARCH,
+    },
+    Subcommand {
+        name: "sweep",
+        about: "Run the scenario with other seeds, and find the first that fails a condition",
+        example: "\
 Example: simback sweep --progress 0 1000 500 \"a.first != 2\" examples/torn-commit.play
-Example: simback sweep --faults 8 0 1500 120 \"agree first unless 0\" examples/torn-commit.play";
+Example: simback sweep --faults 8 0 1500 120 \"agree first unless 0\" examples/torn-commit.play",
+        args: &SWEEP,
+    },
+    Subcommand {
+        name: "script",
+        about: "Write the run of a seed, as a sweep makes it, as an input for a play",
+        example: "Example: simback script --faults 8 654 120 examples/torn-commit.play",
+        args: &SCRIPT,
+    },
+    Subcommand {
+        name: "shrink",
+        about: "Make the run that the script leaves as small as a condition still fails in it",
+        example: "Example: simback shrink \"agree first unless 0\" run.play",
+        args: &SHRINK,
+    },
+    Subcommand {
+        name: "log",
+        about: "Play the script, and tell in words what each event of its run did",
+        example: "Example: simback log --from 8 examples/torn-commit.play",
+        args: &LOG,
+    },
+    Subcommand {
+        name: "page",
+        about: "Play the script, and write its run as an HTML page to walk back and forth",
+        example: "\
+Example: simback page --watch \"agree first unless 0\" examples/torn-commit.play > run.html",
+        args: &PAGE,
+    },
+    Subcommand {
+        name: "walk",
+        about: "Walk the run of a script forward and back, by commands on standard input",
+        example: "Example: simback walk examples/torn-commit.play",
+        args: &WALK,
+    },
+];
 
-const PAGE_EXAMPLE: &str = "\
-Example: simback page --watch \"agree first unless 0\" examples/torn-commit.play > run.html";
-
-/// `--workers N`.
-fn workers<'a>(alloc: Global) -> Arg<'a>
-    ensures { IsArgument line.workers result }
+/// Returns the argument with this description. The long name of a flag or an option is its id.
+fn argument_by<'a>(alloc: Global, described: &Described) -> Arg<'a>
+    ensures { IsArgument (rule_by described.now) result }
 {
-    Arg::new(alloc, "workers")
-        .long("workers")
-        .value_name("N")
-        .default_value("2")
-        .help("How many workers share the work, 1 to 16")
+    let Described { id, form, help } = *described;
+    let arg = Arg::new(alloc, id).help(help);
+    match form {
+        Form::Flag => arg.long(id).action(ArgAction::SetTrue),
+        Form::Valued(name, defaults) => arg.long(id).value_name(name).default_values(defaults),
+        Form::Word(name, required) => arg.value_name(name).required(required),
+    }
 }
 
-/// A flag; its long name is its id.
-fn flag<'a>(alloc: Global, id: &'a str, help: &'a str) -> Arg<'a>
-    ensures { IsArgument (line.flag id.entry.now) result }
+/// Returns the subcommand with this description.
+fn subcommand_by<'a>(alloc: Global, described: &Subcommand) -> Result<Command<'a>, AllocError>
+    ensures { IfOk result (IsCommand (shape_by described.now)) }
 {
-    Arg::new(alloc, id)
-        .long(id)
-        .action(ArgAction::SetTrue)
-        .help(help)
-}
-
-/// `--progress`.
-fn progress<'a>(alloc: Global) -> Arg<'a>
-    ensures { IsArgument line.progress result }
-{
-    flag(
-        alloc,
-        "progress",
-        "Tell on standard error how far the work is",
-    )
-}
-
-/// `--faults F`.
-fn faults<'a>(alloc: Global) -> Arg<'a>
-    ensures { IsArgument line.faults result }
-{
-    optional_number(
-        alloc,
-        "faults",
-        "F",
-        "Make one event in F a fault or a healing, 2 to 65536; without it there is none",
-    )
-}
-
-/// An option with a number; its long name is its id.
-fn optional_number<'a>(alloc: Global, id: &'a str, name: &'a str, help: &'a str) -> Arg<'a>
-    ensures { IsArgument (line.optional_number id.entry.now) result }
-{
-    Arg::new(alloc, id).long(id).value_name(name).help(help)
-}
-
-/// An option with a word; its long name is its id.
-fn optional_word<'a>(alloc: Global, id: &'a str, name: &'a str, help: &'a str) -> Arg<'a>
-    ensures { IsArgument (line.optional_word id.entry.now) result }
-{
-    Arg::new(alloc, id).long(id).value_name(name).help(help)
-}
-
-/// `--quiet Q`.
-fn quiet<'a>(alloc: Global) -> Arg<'a>
-    ensures { IsArgument line.quiet result }
-{
-    Arg::new(alloc, "quiet")
-        .long("quiet")
-        .value_name("Q")
-        .default_value("0")
-        .help("End each run with its healings and Q steps")
-}
-
-/// `--at-end`.
-fn at_end<'a>(alloc: Global) -> Arg<'a>
-    ensures { IsArgument line.at_end result }
-{
-    flag(alloc, "at-end", "Look at the last place of each run alone")
-}
-
-/// `--script`.
-fn with_script<'a>(alloc: Global) -> Arg<'a>
-    ensures { IsArgument line.with_script result }
-{
-    flag(
-        alloc,
-        "script",
-        "Begin each run with the events that the script leaves",
-    )
-}
-
-/// `--strict`.
-fn strict<'a>(alloc: Global) -> Arg<'a>
-    ensures { IsArgument line.strict result }
-{
-    flag(
-        alloc,
-        "strict",
-        "Stop at the first line of the script that is bad or refused, with status 2",
-    )
-}
-
-/// A required number.
-fn number<'a>(alloc: Global, id: &'a str, name: &'a str, help: &'a str) -> Arg<'a>
-    ensures { IsArgument (line.number id.entry.now) result }
-{
-    Arg::new(alloc, id)
-        .value_name(name)
-        .required(true)
-        .help(help)
-}
-
-/// The condition, which is required.
-fn cond<'a>(alloc: Global) -> Arg<'a>
-    ensures { IsArgument (line.word (codes "cond")) result }
-{
-    Arg::new(alloc, "cond")
-        .value_name("COND")
-        .required(true)
-        .help("The condition, as one word in quotes, such as \"w.next <= 3\"")
-}
-
-/// `FILE`, the last word of each command, which is optional.
-fn input<'a>(alloc: Global) -> Arg<'a>
-    ensures { IsArgument line.input result }
-{
-    Arg::new(alloc, "file")
-        .value_name("FILE")
-        .help("The file with the input; without it standard input")
-}
-
-/// `FILE`, which is required.
-fn named_input<'a>(alloc: Global) -> Arg<'a>
-    ensures { IsArgument (line.word (codes "file")) result }
-{
-    Arg::new(alloc, "file")
-        .value_name("FILE")
-        .required(true)
-        .help("The file with the input")
-}
-
-fn play<'a>(alloc: Global) -> Result<Command<'a>, AllocError>
-    ensures { IfOk result (IsCommand line.play) }
-{
-    let args = vec![in alloc; strict(alloc), input(alloc)]?;
-    Command::new(alloc, "play")
-        .about("Play the script, and write one line for each command")
-        .after_help("Example: simback play examples/first-run.play")
-        .args(args)
-}
-
-fn search<'a>(alloc: Global) -> Result<Command<'a>, AllocError>
-    ensures { IfOk result (IsCommand line.search) }
-{
-    let args = vec![in alloc;
-        workers(alloc),
-        progress(alloc),
-        strict(alloc),
-        number(alloc, "lo", "LO", "The first place to look at"),
-        number(alloc, "hi", "HI", "The last place to look at"),
-        cond(alloc),
-        input(alloc),
-    ]?;
-    Command::new(alloc, "search")
-        .about("Play the script, and find the first place where a condition fails")
-        .after_help(
-            "Example: simback search --workers 4 0 6 \"w.next <= 1\" examples/first-run.play",
-        )
-        .args(args)
-}
-
-fn sweep<'a>(alloc: Global) -> Result<Command<'a>, AllocError>
-    ensures { IfOk result (IsCommand line.sweep) }
-{
-    let args = vec![in alloc;
-        workers(alloc),
-        progress(alloc),
-        with_script(alloc),
-        strict(alloc),
-        faults(alloc),
-        quiet(alloc),
-        at_end(alloc),
-        flag(alloc, "json", "Write the answer as a JSON object on a line"),
-        number(alloc, "first", "FIRST", "The number of the first seed"),
-        number(alloc, "count", "COUNT", "How many seeds to run"),
-        number(
-            alloc,
-            "events",
-            "EVENTS",
-            "How many steps to run with each seed, at most",
-        ),
-        cond(alloc),
-        input(alloc),
-    ]?;
-    Command::new(alloc, "sweep")
-        .about("Run the scenario with other seeds, and find the first that fails a condition")
-        .after_help(SWEEP_EXAMPLES)
-        .args(args)
-}
-
-fn script<'a>(alloc: Global) -> Result<Command<'a>, AllocError>
-    ensures { IfOk result (IsCommand line.script) }
-{
-    let args = vec![in alloc;
-        faults(alloc),
-        quiet(alloc),
-        number(alloc, "seed", "I", "The number of the seed"),
-        number(alloc, "events", "EVENTS", "How many steps to run, at most"),
-        input(alloc),
-    ]?;
-    Command::new(alloc, "script")
-        .about("Write the run of a seed, as a sweep makes it, as an input for a play")
-        .after_help("Example: simback script --faults 8 654 120 examples/torn-commit.play")
-        .args(args)
-}
-
-fn shrink<'a>(alloc: Global) -> Result<Command<'a>, AllocError>
-    ensures { IfOk result (IsCommand line.shrink) }
-{
-    let args = vec![in alloc; progress(alloc), cond(alloc), input(alloc)]?;
-    Command::new(alloc, "shrink")
-        .about("Make the run that the script leaves as small as a condition still fails in it")
-        .after_help("Example: simback shrink \"agree first unless 0\" run.play")
-        .args(args)
-}
-
-fn log<'a>(alloc: Global) -> Result<Command<'a>, AllocError>
-    ensures { IfOk result (IsCommand line.log) }
-{
-    let args = vec![in alloc;
-        optional_number(alloc, "from", "P", "The first event to tell; without it 1"),
-        optional_number(
-            alloc,
-            "to",
-            "Q",
-            "The last event to tell; without it the last",
-        ),
-        flag(alloc, "json", "Write each event as a JSON object on a line"),
-        input(alloc),
-    ]?;
-    Command::new(alloc, "log")
-        .about("Play the script, and tell in words what each event of its run did")
-        .after_help("Example: simback log --from 8 examples/torn-commit.play")
-        .args(args)
-}
-
-fn page<'a>(alloc: Global) -> Result<Command<'a>, AllocError>
-    ensures { IfOk result (IsCommand line.page) }
-{
-    let args = vec![in alloc;
-        optional_word(alloc, "title", "TEXT", "The heading of the page"),
-        optional_word(
-            alloc,
-            "watch",
-            "COND",
-            "Conditions, as one word in quotes, with ; between: the page shows where each fails",
-        ),
-        input(alloc),
-    ]?;
-    Command::new(alloc, "page")
-        .about("Play the script, and write its run as an HTML page to walk back and forth")
-        .after_help(PAGE_EXAMPLE)
-        .args(args)
-}
-
-fn walk<'a>(alloc: Global) -> Result<Command<'a>, AllocError>
-    ensures { IfOk result (IsCommand line.walk) }
-{
-    Command::new(alloc, "walk")
-        .about("Walk the run of a script forward and back, by commands on standard input")
-        .after_help("Example: simback walk examples/torn-commit.play")
-        .arg(named_input(alloc))
+    let Subcommand {
+        name,
+        about,
+        example,
+        args,
+    } = *described;
+    let mut made = Command::new(alloc, name).about(about).after_help(example);
+    for arg in args {
+        made = made.arg(argument_by(alloc, arg))?;
+    }
+    Ok(made)
 }
 
 /// The program, before it has its subcommands.
@@ -295,29 +296,20 @@ fn bare<'a>(alloc: Global) -> Command<'a>
         .subcommand_required(true)
 }
 
-/// The program with one more subcommand. The results are taken as they are, so `program` has no exit
-/// at which the prover goes through the commands so far.
-fn with<'a>(
-    program: Result<Command<'a>, AllocError>,
-    subcommand: Result<Command<'a>, AllocError>,
-) -> Result<Command<'a>, AllocError>
-    ensures { (app : App) (shape : Shape) → IfOk program.entry (λ c. app_of c ≡ app)
-        → IfOk subcommand.entry (IsCommand shape)
-        → IfOk result (λ c. app_of c ≡ with_subcommand app shape) }
+/// Returns the program with these subcommands.
+fn with_all<'a>(alloc: Global, rows: &[Subcommand]) -> Result<Command<'a>, AllocError>
+    ensures { IfOk result (λ c. app_of c ≡ with_rows line.bare rows.now) }
 {
-    program?.subcommand(subcommand?)
+    let mut program = bare(alloc);
+    for row in rows {
+        program = program.subcommand(subcommand_by(alloc, row)?)?;
+    }
+    Ok(program)
 }
 
 /// The command line of the program.
 pub(crate) fn program<'a>(alloc: Global) -> Result<Command<'a>, AllocError>
     ensures { IfOk result (λ c. app_of c ≡ line.program) }
 {
-    let program = with(Ok(bare(alloc)), play(alloc));
-    let program = with(program, search(alloc));
-    let program = with(program, sweep(alloc));
-    let program = with(program, script(alloc));
-    let program = with(program, shrink(alloc));
-    let program = with(program, log(alloc));
-    let program = with(program, page(alloc));
-    with(program, walk(alloc))
+    with_all(alloc, &SUBCOMMANDS)
 }

@@ -286,15 +286,36 @@ fn is_negative(word: &str) -> bool {
     matches!(word.as_bytes(), [b'-', b'0'..=b'9', ..])
 }
 
+/// Returns a word, with a space before it if it is a negative number.
+fn spaced_word(alloc: Global, word: &str) -> Result<String, AllocError> {
+    let space = if is_negative(word) { " " } else { "" };
+    format!(in alloc; "{space}{word}")
+}
+
 /// Returns the words with a space before each negative number.
 fn spaced<S: AsStr>(alloc: Global, words: &[S]) -> Result<Vec<String>, AllocError> {
     let mut spaced = Vec::new(alloc);
     for word in words {
-        let word = word.as_str();
-        let space = if is_negative(word) { " " } else { "" };
-        spaced.push(format!(in alloc; "{space}{word}")?)?;
+        spaced.push(spaced_word(alloc, word.as_str())?)?;
     }
     Ok(spaced)
+}
+
+/// Returns the text of a mistake that clap found, or `None` if the words ask for help.
+fn mistake_text(alloc: Global, error: &Error) -> Result<Option<String>, AllocError> {
+    if error.use_stderr() {
+        Ok(Some(format!(in alloc; "{error}")?))
+    } else {
+        Ok(None)
+    }
+}
+
+/// Returns the message for words that make no request, or `None` if they make one or ask for help.
+fn message_for(alloc: Global, words: &[String]) -> Result<Option<String>, AllocError> {
+    match program(alloc)?.try_get_matches_from(words) {
+        Ok(matches) => message_in(alloc, &matches),
+        Err(error) => mistake_text(alloc, &error),
+    }
 }
 
 /// Returns the message for words in which clap finds an unknown option. A negative number is one to
@@ -302,11 +323,7 @@ fn spaced<S: AsStr>(alloc: Global, words: &[S]) -> Result<Vec<String>, AllocErro
 /// read a second time. Returns `None` if they then make a request or ask for help.
 fn negative_message<S: AsStr>(alloc: Global, words: &[S]) -> Result<Option<String>, AllocError> {
     let words = spaced(alloc, words)?;
-    match program(alloc)?.try_get_matches_from(words.as_slice()) {
-        Ok(matches) => message_in(alloc, &matches),
-        Err(error) if error.use_stderr() => Ok(Some(format!(in alloc; "{error}")?)),
-        Err(_) => Ok(None),
-    }
+    message_for(alloc, words.as_slice())
 }
 
 /// Returns the error for a fault that clap found in words.

@@ -1,14 +1,14 @@
 //! The requests that a command line can make.
 
 /// The number of workers, 1 to 16, and whether they report their progress.
-#[derive(Clone, Copy, Debug, PartialEq, Eq)]
+#[derive(Clone, Copy, PartialEq, Eq)]
 pub struct Team {
     pub workers: u64,
     pub progress: bool,
 }
 
 /// How faults are planned for a run.
-#[derive(Clone, Copy, Debug, PartialEq, Eq)]
+#[derive(Clone, Copy, PartialEq, Eq)]
 pub struct FaultPlan {
     /// One event in this many is a fault or a healing; with `None`, no fault is planned.
     pub faults: Option<u64>,
@@ -25,7 +25,7 @@ pub struct Request<'a> {
 }
 
 /// What the program must do.
-#[derive(Clone, Copy, Debug, PartialEq, Eq)]
+#[derive(Clone, Copy, PartialEq, Eq)]
 pub enum Job<'a> {
     /// Plays a script: with `strict` up to the first line at fault.
     Play {

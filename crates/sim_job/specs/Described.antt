@@ -1,0 +1,30 @@
+-- What the program's tables of arguments and subcommands say to clap.
+use Rattle.std.specs.Prelude.{Bool, List, map}
+use Rattle.std.specs.List.{fold}
+use Rattle.clap.specs.Words.{App, Rule, Shape, Text, new_rule, with_subcommand}
+use Rattle.sim_job.specs.CommandLine.{command, flag, optional_number}
+use Rattle.sim_job.specs.declared.definition.Described.{Described}
+use Rattle.sim_job.specs.declared.definition.Form.{Form}
+use Rattle.sim_job.specs.declared.definition.Form.TheVariants as form
+use Rattle.sim_job.specs.declared.definition.Subcommand.{Subcommand}
+
+abbrev pub rule_in : Form → Text → Rule
+rule_in form.Flag id = flag id
+rule_in (form.Valued name defaults) id =
+    record (optional_number id) { defaults = map (λ s. s.now) defaults.now }
+rule_in (form.Word name required) id = record (new_rule id) { value_names = 1; required = required }
+
+-- the argument of this row
+abbrev pub rule_by : Described → Rule
+rule_by row = rule_in row.form row.id.now
+
+-- the subcommand of this row
+abbrev pub shape_by : Subcommand → Shape
+shape_by row = command row.name.now (map rule_by row.args.now)
+
+abbrev pub with_row : App → Subcommand → App
+with_row app row = with_subcommand app (shape_by row)
+
+-- the program with a subcommand for each row
+abbrev pub with_rows : App → List Subcommand → App
+with_rows app rows = fold with_row app rows
