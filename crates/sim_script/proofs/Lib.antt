@@ -8,3 +8,4 @@ pub mod Picking
 pub mod Dotted
 pub mod OneTerm
 pub mod Grammar
+pub mod Sorts

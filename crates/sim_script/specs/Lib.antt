@@ -5,3 +5,4 @@ pub mod Asks
 pub mod Parsed
 pub mod Script
 pub mod Mistakes
+pub mod Sorts

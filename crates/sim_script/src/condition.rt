@@ -8,6 +8,7 @@ ghost use Rattle.sim_script.specs.Conditions.{negation, comparison, with_compari
 ghost use Rattle.sim_script.specs.Conditions.{on_values, counted, counting, unless_number};
 ghost use Rattle.sim_script.specs.Conditions.{on_probe_unless, agreement, compared};
 ghost use Rattle.sim_script.specs.Conditions.{term, begins_after, condition, IsWritten};
+ghost use Rattle.sim_script.specs.Sorts.{state_term, quantified};
 
 use crate::names::Names;
 use crate::words::{next_word, parse_number};
@@ -77,15 +78,38 @@ pub(crate) fn parse_value(names: &Names, word: &[u8]) -> Option<Value>
     Some(Value::Shown(host, probe))
 }
 
-/// Reads a host, and returns the text after it too.
-fn next_host<'a>(names: &Names, text: &'a [u8]) -> Option<(u16, &'a [u8])>
-    ensures { MatchOption result ((make : _) → on_host names.now make (words text.now) ≡ None)
-        (λ r. (make : _) → on_host names.now make (words text.now)
-        ≡ Some (make r.0, words r.1.now)) }
+/// What a term says of the state of a host.
+#[derive(Clone, Copy)]
+enum State {
+    Up,
+    NotUp,
+    Done,
+    NotDone,
+}
+
+impl State {
+    /// Returns the term that says it of a host.
+    fn term(self, host: u16) -> Term
+        ensures { result ≡ state_term self host }
+    {
+        match self {
+            State::Up => Term::Up(host),
+            State::NotUp => Term::NotUp(host),
+            State::Done => Term::Done(host),
+            State::NotDone => Term::NotDone(host),
+        }
+    }
+}
+
+/// Reads the host of a term about its state, and returns the text after it too.
+fn next_state<'a>(names: &Names, state: State, text: &'a [u8]) -> Option<(Term, &'a [u8])>
+    ensures { MatchOption result (on_host names.now (state_term state) (words text.now) ≡ None)
+        (λ r. on_host names.now (state_term state) (words text.now)
+        ≡ Some (r.0, words r.1.now)) }
 {
     let (word, rest) = next_word(text)?;
     let host = names.host(word)?;
-    Some((host, rest))
+    Some((state.term(host), rest))
 }
 
 /// Reads the term after `not`, and returns the text after it too.
@@ -95,11 +119,9 @@ fn next_negation<'a>(names: &Names, text: &'a [u8]) -> Option<(Term, &'a [u8])>
 {
     let (word, rest) = next_word(text)?;
     if word == b"up".as_slice() {
-        let (host, rest) = next_host(names, rest)?;
-        Some((Term::NotUp(host), rest))
+        next_state(names, State::NotUp, rest)
     } else if word == b"done".as_slice() {
-        let (host, rest) = next_host(names, rest)?;
-        Some((Term::NotDone(host), rest))
+        next_state(names, State::NotDone, rest)
     } else {
         None
     }
@@ -132,6 +154,16 @@ fn next_probe_unless<'a>(names: &Names, text: &'a [u8]) -> Option<(u8, u64, &'a 
     Some((probe, number, rest))
 }
 
+/// Reads the term after `differ`, and returns the text after it too.
+fn next_difference<'a>(names: &Names, text: &'a [u8]) -> Option<(Term, &'a [u8])>
+    ensures { MatchOption result (on_probe_unless names.now Term.Differ (words text.now) ≡ None)
+        (λ r. on_probe_unless names.now Term.Differ (words text.now)
+        ≡ Some (r.0, words r.1.now)) }
+{
+    let (probe, number, rest) = next_probe_unless(names, text)?;
+    Some((Term::Differ(probe, number), rest))
+}
+
 /// Reads the term after `agree`, and returns the text after it too.
 fn next_agreement<'a>(names: &Names, text: &'a [u8]) -> Option<(Term, &'a [u8])>
     ensures { MatchOption result (agreement names.now (words text.now) ≡ None)
@@ -161,16 +193,21 @@ fn next_comparison<'a>(names: &Names, text: &'a [u8]) -> Option<(Comparison, &'a
     Some((Comparison { op, value }, rest))
 }
 
-/// Reads a probe, an operator and a value, and returns the text after them too.
-fn next_values<'a>(names: &Names, text: &'a [u8]) -> Option<(u8, Comparison, &'a [u8])>
-    ensures { MatchOption result ((make : _) → on_values names.now make (words text.now) ≡ None)
-        (λ r. (make : _) → on_values names.now make (words text.now)
-        ≡ Some (make r.0 r.1, words r.2.now)) }
+/// Reads the term after `any`, or with `all` after that word, and returns the text after it too.
+fn next_quantified<'a>(names: &Names, all: bool, text: &'a [u8]) -> Option<(Term, &'a [u8])>
+    ensures { MatchOption result (on_values names.now (quantified all) (words text.now) ≡ None)
+        (λ r. on_values names.now (quantified all) (words text.now)
+        ≡ Some (r.0, words r.1.now)) }
 {
     let (probe, rest) = next_word(text)?;
     let probe = names.probe(probe)?;
     let (to, rest) = next_comparison(names, rest)?;
-    Some((probe, to, rest))
+    let term = if all {
+        Term::All(probe, to)
+    } else {
+        Term::Any(probe, to)
+    };
+    Some((term, rest))
 }
 
 /// Reads the end of a `count` term, after its comparison, and returns the text after it too.
@@ -214,24 +251,19 @@ fn next_term<'a>(names: &Names, text: &'a [u8]) -> Option<(Term, &'a [u8])>
 {
     let (word, rest) = next_word(text)?;
     if word == b"up".as_slice() {
-        let (host, rest) = next_host(names, rest)?;
-        Some((Term::Up(host), rest))
+        next_state(names, State::Up, rest)
     } else if word == b"done".as_slice() {
-        let (host, rest) = next_host(names, rest)?;
-        Some((Term::Done(host), rest))
+        next_state(names, State::Done, rest)
     } else if word == b"not".as_slice() {
         next_negation(names, rest)
     } else if word == b"agree".as_slice() {
         next_agreement(names, rest)
     } else if word == b"differ".as_slice() {
-        let (probe, number, rest) = next_probe_unless(names, rest)?;
-        Some((Term::Differ(probe, number), rest))
+        next_difference(names, rest)
     } else if word == b"any".as_slice() {
-        let (probe, to, rest) = next_values(names, rest)?;
-        Some((Term::Any(probe, to), rest))
+        next_quantified(names, false, rest)
     } else if word == b"all".as_slice() {
-        let (probe, to, rest) = next_values(names, rest)?;
-        Some((Term::All(probe, to), rest))
+        next_quantified(names, true, rest)
     } else if word == b"count".as_slice() {
         next_count(names, rest)
     } else {

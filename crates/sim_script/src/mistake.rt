@@ -112,6 +112,15 @@ static ON_LINK: [&[u8]; 6] = [
     b"repaironeway",
 ];
 
+/// What may follow `not`.
+static STATES: [&[u8]; 2] = [b"up", b"done"];
+
+/// What may follow the probe of an `agree`.
+static UNLESS_OR_BY: [&[u8]; 2] = [b"unless", b"by"];
+
+/// What joins terms.
+static JOINTS: [&[u8]; 2] = [b"and", b"or"];
+
 static NOTHING: [Expected; 0] = [];
 
 static A_NUMBER: [Expected; 1] = [Expected::Number];
@@ -169,13 +178,13 @@ fn fits(names: &Names, expected: Expected, word: &[u8]) -> bool {
         Expected::Number => parse_number(word, MAX_DIGITS).is_some(),
         Expected::Host => names.host(word).is_some(),
         Expected::Probe => names.probe(word).is_some(),
-        Expected::State => word == b"up".as_slice() || word == b"done".as_slice(),
+        Expected::State => is_one_of(word, &STATES),
         Expected::Unless => word == b"unless".as_slice(),
-        Expected::UnlessOrBy => word == b"unless".as_slice() || word == b"by".as_slice(),
+        Expected::UnlessOrBy => is_one_of(word, &UNLESS_OR_BY),
         Expected::Operator => parse_op(word).is_some(),
         Expected::Value => parse_value(names, word).is_some(),
         Expected::Bound => parse_number(word, MAX_TERM_DIGITS).is_some(),
-        Expected::Joint => word == b"and".as_slice() || word == b"or".as_slice(),
+        Expected::Joint => is_one_of(word, &JOINTS),
         Expected::Command
         | Expected::View
         | Expected::Term
@@ -305,6 +314,23 @@ fn walk_condition<'a>(names: &Names, start: At<'a>) -> Result<At<'a>, LineMistak
     walk_term(names, at)
 }
 
+/// Returns what must follow the first word of a query, or `None` if no query starts with it.
+fn view_shape(word: &[u8]) -> Option<&'static [Expected]>
+    ensures { IfSome result (λ shape. length shape.now ≤ 2) }
+{
+    if word == b"next".as_slice() {
+        Some(NOTHING.as_slice())
+    } else if word == b"host".as_slice() {
+        Some(A_HOST.as_slice())
+    } else if word == b"link".as_slice() {
+        Some(TWO_HOSTS.as_slice())
+    } else if word == b"probe".as_slice() {
+        Some(A_PROBE.as_slice())
+    } else {
+        None
+    }
+}
+
 /// Returns the position after the query that follows `look`.
 fn walk_view<'a>(names: &Names, at: At<'a>) -> Result<At<'a>, LineMistake>
     requires { at.taken < 100 }
@@ -316,19 +342,11 @@ fn walk_view<'a>(names: &Names, at: At<'a>) -> Result<At<'a>, LineMistake>
     let Some((word, rest)) = next_word(at.rest) else {
         return Ok(at);
     };
+    let Some(shape) = view_shape(word) else {
+        return Err(mistake_at(at, Expected::View));
+    };
     let taken = at.taken + 1;
-    let after = At { taken, rest };
-    if word == b"next".as_slice() {
-        Ok(after)
-    } else if word == b"host".as_slice() {
-        walk(names, A_HOST.as_slice(), after)
-    } else if word == b"link".as_slice() {
-        walk(names, TWO_HOSTS.as_slice(), after)
-    } else if word == b"probe".as_slice() {
-        walk(names, A_PROBE.as_slice(), after)
-    } else {
-        Err(mistake_at(at, Expected::View))
-    }
+    walk(names, shape, At { taken, rest })
 }
 
 /// Returns what must follow the first word of a command other than `look` and `watch`, or `None` if

@@ -5,6 +5,7 @@ ghost use Rattle.sim_script.specs.Conditions.{condition};
 ghost use Rattle.sim_script.specs.Script.{script_line, asked, command_of, command_by, numbered_of};
 ghost use Rattle.sim_script.specs.Script.{fault_of, query_of, a_host, a_number, two_hosts};
 ghost use Rattle.sim_script.specs.Script.{a_host_and_probe, nothing, words, number};
+ghost use Rattle.sim_script.specs.Sorts.{link_fault, numbered_by, numbered_command};
 ghost use Rattle.sim_script.specs.Parsed.{meant};
 
 use crate::ask::{Ask, Parsed};
@@ -104,36 +105,41 @@ fn alone(text: &[u8], command: Command) -> Option<Command>
     }
 }
 
-/// Reads a fault, by its first word and the text after it.
-#[tactic(auto, unfolding(crate::specs::Script::fault_of))]
-fn parse_fault(names: &Names, word: &[u8], rest: &[u8]) -> Option<Fault>
-    ensures { result ≡ fault_of names.now word.now (words rest.now) }
+/// Returns the fault of a link that the word names, or `None` if it names none.
+#[tactic(auto, unfolding(crate::specs::Sorts::link_fault))]
+fn link_fault(word: &[u8], a: u16, b: u16) -> Option<Fault>
+    ensures { result ≡ link_fault word.now a b }
 {
-    if word == b"crash".as_slice() {
-        Some(Fault::Crash(one_host(names, rest)?))
-    } else if word == b"bounce".as_slice() {
-        Some(Fault::Bounce(one_host(names, rest)?))
-    } else if word == b"hold".as_slice() {
-        let (a, b) = both_hosts(names, rest)?;
+    if word == b"hold".as_slice() {
         Some(Fault::Hold(a, b))
     } else if word == b"release".as_slice() {
-        let (a, b) = both_hosts(names, rest)?;
         Some(Fault::Release(a, b))
     } else if word == b"partition".as_slice() {
-        let (a, b) = both_hosts(names, rest)?;
         Some(Fault::Cut(a, b))
     } else if word == b"repair".as_slice() {
-        let (a, b) = both_hosts(names, rest)?;
         Some(Fault::Repair(a, b))
     } else if word == b"cutoneway".as_slice() {
-        let (a, b) = both_hosts(names, rest)?;
         Some(Fault::CutOneway(a, b))
     } else if word == b"repaironeway".as_slice() {
-        let (a, b) = both_hosts(names, rest)?;
         Some(Fault::RepairOneway(a, b))
     } else {
         None
     }
+}
+
+/// Reads a fault, by its first word and the text after it.
+#[tactic(auto, using(crate::proofs::Sorts::fault_is))]
+fn parse_fault(names: &Names, word: &[u8], rest: &[u8]) -> Option<Fault>
+    ensures { result ≡ fault_of names.now word.now (words rest.now) }
+{
+    if word == b"crash".as_slice() {
+        return Some(Fault::Crash(one_host(names, rest)?));
+    }
+    if word == b"bounce".as_slice() {
+        return Some(Fault::Bounce(one_host(names, rest)?));
+    }
+    let (a, b) = both_hosts(names, rest)?;
+    link_fault(word, a, b)
 }
 
 /// Reads a query, by the text after `look`.
@@ -162,28 +168,67 @@ fn parse_query(names: &Names, text: &[u8]) -> Option<Query>
     }
 }
 
+/// A command that takes a number.
+#[derive(Clone, Copy)]
+enum Numbered {
+    Run,
+    Back,
+    Forward,
+    Goto,
+    Rewind,
+    Branch,
+    Unwatch,
+}
+
+impl Numbered {
+    /// Returns the command that a word names, or `None` if it names none of these.
+    #[tactic(auto, unfolding(crate::specs::Sorts::numbered_by))]
+    fn of_word(word: &[u8]) -> Option<Numbered>
+        ensures { result ≡ numbered_by word.now }
+    {
+        if word == b"run".as_slice() {
+            Some(Numbered::Run)
+        } else if word == b"back".as_slice() {
+            Some(Numbered::Back)
+        } else if word == b"forward".as_slice() {
+            Some(Numbered::Forward)
+        } else if word == b"goto".as_slice() {
+            Some(Numbered::Goto)
+        } else if word == b"rewind".as_slice() {
+            Some(Numbered::Rewind)
+        } else if word == b"branch".as_slice() {
+            Some(Numbered::Branch)
+        } else if word == b"unwatch".as_slice() {
+            Some(Numbered::Unwatch)
+        } else {
+            None
+        }
+    }
+
+    /// Returns the command on a branch with its number.
+    fn command(self, branch: u32, number: u32) -> Command
+        ensures { result ≡ numbered_command self branch number }
+    {
+        match self {
+            Numbered::Run => Command::Run(branch, number),
+            Numbered::Back => Command::Back(branch, number),
+            Numbered::Forward => Command::Forward(branch, number),
+            Numbered::Goto => Command::Goto(branch, number),
+            Numbered::Rewind => Command::Rewind(branch, number),
+            Numbered::Branch => Command::Branch(branch, number),
+            Numbered::Unwatch => Command::Unwatch(branch, number),
+        }
+    }
+}
+
 /// Reads a command that takes a number, by its first word and the text after it.
-#[tactic(auto, unfolding(crate::specs::Script::numbered_of))]
+#[tactic(auto, using(crate::proofs::Sorts::numbered_is))]
 fn parse_numbered(branch: u32, word: &[u8], rest: &[u8]) -> Option<Command>
     ensures { result ≡ numbered_of branch word.now (words rest.now) }
 {
-    if word == b"run".as_slice() {
-        Some(Command::Run(branch, one_number(rest)?))
-    } else if word == b"back".as_slice() {
-        Some(Command::Back(branch, one_number(rest)?))
-    } else if word == b"forward".as_slice() {
-        Some(Command::Forward(branch, one_number(rest)?))
-    } else if word == b"goto".as_slice() {
-        Some(Command::Goto(branch, one_number(rest)?))
-    } else if word == b"rewind".as_slice() {
-        Some(Command::Rewind(branch, one_number(rest)?))
-    } else if word == b"branch".as_slice() {
-        Some(Command::Branch(branch, one_number(rest)?))
-    } else if word == b"unwatch".as_slice() {
-        Some(Command::Unwatch(branch, one_number(rest)?))
-    } else {
-        None
-    }
+    let numbered = Numbered::of_word(word)?;
+    let number = one_number(rest)?;
+    Some(numbered.command(branch, number))
 }
 
 /// Returns a command that is no watch, if there is one.
