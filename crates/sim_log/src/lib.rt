@@ -30,4 +30,4 @@ pub use line::Line;
 pub use lines::Teller;
 pub use places::Places;
 pub use rows::{first_rows, rows_after, rows_before};
-pub use told::{LinkFault, Told};
+pub use told::Told;

@@ -1,9 +1,9 @@
 //! What an event does, in words.
 use crate::places::Places;
-use crate::told::{LinkFault, Told};
-use sim_account::{Fate, Reaction};
+use crate::told::{LinkFault, Told, host_fault};
+use sim_account::Fate;
 use sim_disk::Disk;
-use sim_links::LinkState;
+use sim_links::{Change, LinkState};
 use sim_node::{Effect, Input, Node};
 use sim_script::Names;
 use sim_world::{Event, Fault, Occurrence};
@@ -17,159 +17,187 @@ pub struct Line<'a, N: Node> {
     pub told: &'a Told<'a, N>,
 }
 
-// Shows the event of a place in brackets after a word, if there is one.
-#[derive(Drop)]
-struct At<'a>(&'a str, Option<u32>);
+// Separates the parts of a line: a colon before the first, semicolons before the others.
+#[derive(Clone, Copy)]
+struct Parts {
+    are_begun: bool,
+}
 
-impl fmt::Display for At<'_> {
-    fn fmt<W: fmt::Write>(&self, f: &mut fmt::Formatter<W>) -> fmt::Result {
-        match self.1 {
-            Some(place) => write!(f, " ({} {place})", self.0),
-            None => Ok(()),
+impl Parts {
+    // Returns the mark before the next part.
+    fn mark(&mut self) -> &'static str {
+        let mark = if self.are_begun { "; " } else { ": " };
+        self.are_begun = true;
+        mark
+    }
+}
+
+// The end of a part: words, the event of a place in brackets after a word, when it is due.
+#[derive(Clone, Copy)]
+enum End {
+    Words(&'static str),
+    At(&'static str, u32),
+    Due(u64),
+    DueAt(u64, u32),
+}
+
+impl End {
+    // Returns the end that names the event of a place, if there is one.
+    fn at(word: &'static str, place: Option<u32>) -> End {
+        match place {
+            Some(place) => End::At(word, place),
+            None => End::Words(""),
         }
     }
 }
 
-// Separates the parts of a line: a colon before the first, semicolons before the others.
-#[derive(Drop)]
-struct Parts {
-    count: u32,
+impl fmt::Display for End {
+    fn fmt<W: fmt::Write>(&self, f: &mut fmt::Formatter<W>) -> fmt::Result {
+        match *self {
+            End::Words(words) => f.write_str(words),
+            End::At(word, place) => write!(f, " ({word} {place})"),
+            End::Due(due) => write!(f, ", due {due}"),
+            End::DueAt(due, place) => write!(f, ", due {due} (arrives at {place})"),
+        }
+    }
 }
 
-impl Parts {
-    fn next<W: fmt::Write>(&mut self, f: &mut fmt::Formatter<W>) -> fmt::Result {
-        let mark = if self.count == 0 { ": " } else { "; " };
-        self.count = self.count.saturating_add(1);
-        write!(f, "{mark}")
-    }
+// The words around a message, and the host that they end with.
+#[derive(Clone, Copy)]
+struct Around<'a> {
+    verb: &'static str,
+    way: &'static str,
+    host: &'a str,
+}
+
+// Writes what happens to a message, after a host or a mark.
+fn write_message<M: fmt::Debug, W: fmt::Write>(
+    f: &mut fmt::Formatter<W>,
+    before: &str,
+    around: Around<'_>,
+    msg: &M,
+    end: End,
+) -> fmt::Result {
+    let Around { verb, way, host } = around;
+    write!(f, "{before}{verb}{msg:?}{way}{host}{end}")
+}
+
+// Writes how much a crash keeps of an unstable write.
+fn write_tear<W: fmt::Write>(
+    f: &mut fmt::Formatter<W>,
+    mark: &str,
+    kept: u32,
+    (offset, bytes): (u32, &[u8]),
+) -> fmt::Result {
+    let len = bytes.len();
+    let verb = match kept {
+        0 => "drops",
+        kept if kept as usize == len => "keeps",
+        kept => return write!(f, "{mark}keeps {kept} of {len} bytes at {offset}"),
+    };
+    write!(f, "{mark}{verb} {len} bytes at {offset}")
 }
 
 impl<N: Node> Line<'_, N>
 where
     N::Msg: fmt::Debug,
 {
-    fn host(&self, host: u16) -> &str {
-        self.names.host_name(host)
-    }
-
     // Writes the first pending occurrence, which a step makes happen.
     fn write_step<W: fmt::Write>(&self, f: &mut fmt::Formatter<W>) -> fmt::Result {
         let Some((_due, serial, occurrence)) = self.told.world.first() else {
             return Ok(());
         };
-        self.write_occurrence(f, serial, occurrence)?;
-        match &self.told.reaction {
-            Some(reaction) => self.write_reaction(f, reaction),
-            None => write!(f, ": it is stopped, and the message is dropped"),
+        self.write_occurrence(f, occurrence, self.places.queued_by(serial))?;
+        let Some(reaction) = &self.told.reaction else {
+            return f.write_str(": it is stopped, and the message is dropped");
+        };
+        let mut parts = Parts { are_begun: false };
+        for told in reaction.effects() {
+            self.write_effect(f, parts.mark(), told.effect(), told.fate())?;
         }
+        Ok(())
     }
 
+    // Writes an occurrence, and the event that queued it.
     fn write_occurrence<W: fmt::Write>(
         &self,
         f: &mut fmt::Formatter<W>,
-        serial: u64,
         occurrence: &Occurrence<N::Msg>,
+        from: Option<u32>,
     ) -> fmt::Result {
-        let host = self.host(occurrence.host());
-        let from = self.places.queued_by(serial);
-        match occurrence.input() {
-            Input::Start => write!(f, "{host} starts"),
-            Input::Timer => write!(f, "{host}'s timer ends{}", At("set at", from)),
+        let host = self.names.host_name(occurrence.host());
+        let (words, end) = match occurrence.input() {
+            Input::Start => (" starts", End::Words("")),
+            Input::Timer => ("'s timer ends", End::at("set at", from)),
             Input::Synced => {
                 let count = occurrence.sync_count().unwrap_or(0);
-                let asked = At("asked at", from);
-                write!(f, "{host}'s sync of {count} is done{asked}")
+                let end = End::at("asked at", from);
+                return write!(f, "{host}'s sync of {count} is done{end}");
             }
             Input::Message { sender, msg } => {
-                let sender = self.host(*sender);
-                let word = match from {
-                    Some(place) if !self.places.is_step(place) => "let go at",
-                    _ => "sent at",
+                let around = Around {
+                    verb: " gets ",
+                    way: " from ",
+                    host: self.names.host_name(*sender),
                 };
-                write!(f, "{host} gets {msg:?} from {sender}{}", At(word, from))
+                let end = End::at(sent_word(self.places, from), from);
+                return write_message(f, host, around, msg, end);
             }
-        }
-    }
-
-    fn write_reaction<W: fmt::Write>(
-        &self,
-        f: &mut fmt::Formatter<W>,
-        reaction: &Reaction<N>,
-    ) -> fmt::Result {
-        let mut parts = Parts { count: 0 };
-        for told in reaction.effects() {
-            parts.next(f)?;
-            self.write_effect(f, told.effect(), told.fate())?;
-        }
-        Ok(())
+        };
+        write!(f, "{host}{words}{end}")
     }
 
     fn write_effect<W: fmt::Write>(
         &self,
         f: &mut fmt::Formatter<W>,
+        mark: &str,
         effect: &Effect<N::Msg>,
         fate: Fate,
     ) -> fmt::Result {
-        match effect {
+        let words = match effect {
             Effect::Send { to, msg } => {
-                write!(f, "sends {msg:?} to {}", self.host(*to))?;
-                self.write_fate(f, fate)
+                let around = Around {
+                    verb: "sends ",
+                    way: " to ",
+                    host: self.names.host_name(*to),
+                };
+                return write_message(f, mark, around, msg, end_of(self.places, fate));
             }
-            Effect::Timer(_) => write!(f, "timer {}", due_of(fate)),
-            Effect::Write { offset, len, .. } => match fate {
-                Fate::Skipped => write!(f, "skips a write of {len} bytes at {offset}"),
-                _ => write!(f, "writes {len} bytes at {offset}"),
-            },
-            Effect::Sync => write!(f, "asks for a sync, due {}", due_of(fate)),
-            Effect::Done => write!(f, "is done"),
-        }
-    }
-
-    // Writes what becomes of a message.
-    fn write_fate<W: fmt::Write>(&self, f: &mut fmt::Formatter<W>, fate: Fate) -> fmt::Result {
-        match fate {
-            Fate::Pending { due, serial } => {
-                let step = At("arrives at", self.places.step_of(serial));
-                write!(f, ", due {due}{step}")
+            Effect::Write { offset, len, .. } => {
+                let words = write_words(fate);
+                return write!(f, "{mark}{words} {len} bytes at {offset}");
             }
-            Fate::Lost => write!(f, ", lost"),
-            Fate::Held => write!(f, ", held"),
-            Fate::Cut => write!(f, ", cut"),
-            Fate::Full => write!(f, ", dropped"),
-            Fate::Added | Fate::Skipped | Fate::Asked { .. } | Fate::Done => Ok(()),
-        }
+            Effect::Done => return write!(f, "{mark}is done"),
+            Effect::Timer(_) => "timer",
+            Effect::Sync => "asks for a sync, due",
+        };
+        write!(f, "{mark}{words} {}", due_of(fate))
     }
 
     fn write_fault<W: fmt::Write>(&self, f: &mut fmt::Formatter<W>, fault: Fault) -> fmt::Result {
-        match fault {
-            Fault::Crash(host) => self.write_crash(f, "crash", host),
-            Fault::Bounce(host) => self.write_crash(f, "bounce", host),
-            _ => match LinkFault::of(fault) {
-                Some(fault) => self.write_links(f, fault),
-                None => Ok(()),
-            },
+        if let Some((word, host)) = host_fault(fault) {
+            return self.write_crash(f, word, host);
+        }
+        match LinkFault::of(fault) {
+            Some(fault) => self.write_links(f, fault),
+            None => Ok(()),
         }
     }
 
+    // Writes the crash or the bounce of a host.
     fn write_crash<W: fmt::Write>(
         &self,
         f: &mut fmt::Formatter<W>,
         word: &str,
         host: u16,
     ) -> fmt::Result {
-        write!(f, "{word} {}", self.host(host))?;
+        write!(f, "{word} {}", self.names.host_name(host))?;
         if host >= self.told.world.hosts() {
             return Ok(());
         }
-        let mut parts = Parts { count: 0 };
+        let mut parts = Parts { are_begun: false };
         self.write_tears(f, &mut parts, self.told.world.disk(host))?;
-        for serial in &self.told.lost {
-            if let Some((due, occurrence)) = self.told.world.pending(*serial) {
-                parts.next(f)?;
-                write!(f, "loses its {}, due {due}", kind_of(occurrence))?;
-            }
-        }
-        Ok(())
+        self.write_lost(f, &mut parts)
     }
 
     // Writes how much a crash keeps of each unstable write.
@@ -179,19 +207,26 @@ where
         parts: &mut Parts,
         disk: &Disk,
     ) -> fmt::Result {
-        for (place, kept) in self.told.tears.iter().enumerate() {
-            let Ok(place) = u32::try_from(place) else {
+        let tears = self.told.tears.as_slice();
+        for place in 0..disk.unsynced() {
+            let Some(kept) = tears.get(place as usize) else {
                 return Ok(());
             };
-            if place < disk.unsynced() {
-                let (offset, bytes) = disk.write_at(place);
-                let len = bytes.len();
-                parts.next(f)?;
-                match *kept {
-                    0 => write!(f, "drops {len} bytes at {offset}")?,
-                    kept if kept as usize == len => write!(f, "keeps {len} bytes at {offset}")?,
-                    kept => write!(f, "keeps {kept} of {len} bytes at {offset}")?,
-                }
+            write_tear(f, parts.mark(), *kept, disk.write_at(place))?;
+        }
+        Ok(())
+    }
+
+    // Writes which occurrences a crash takes out.
+    fn write_lost<W: fmt::Write>(
+        &self,
+        f: &mut fmt::Formatter<W>,
+        parts: &mut Parts,
+    ) -> fmt::Result {
+        for serial in self.told.lost.as_slice() {
+            if let Some((due, occurrence)) = self.told.world.pending(*serial) {
+                let (mark, kind) = (parts.mark(), kind_of(occurrence));
+                write!(f, "{mark}loses its {kind}, due {due}")?;
             }
         }
         Ok(())
@@ -202,30 +237,91 @@ where
         f: &mut fmt::Formatter<W>,
         fault: LinkFault,
     ) -> fmt::Result {
-        let (from, to) = (self.host(fault.from), self.host(fault.to));
-        write!(f, "{} {from} {to}", fault.word)?;
-        let mut parts = Parts { count: 0 };
+        let LinkFault { word, from, to, .. } = fault;
+        let names = (self.names.host_name(from), self.names.host_name(to));
+        write!(f, "{word} {} {}", names.0, names.1)?;
+        let mut parts = Parts { are_begun: false };
         let mut serial = self.told.world.next_serial();
-        for (from, to) in fault.directions().into_iter().flatten() {
-            if from >= 32 || to >= 32 {
-                return Ok(());
-            }
-            let after = self.told.world.link(from, to).after(fault.change);
-            if after == LinkState::Held {
-                continue;
-            }
-            for msg in self.told.world.held(from, to) {
-                parts.next(f)?;
-                if after == LinkState::Through {
-                    let step = At("arrives at", self.places.step_of(serial));
-                    serial = serial.saturating_add(1);
-                    write!(f, "lets {msg:?} go to {}{step}", self.host(to))?;
-                } else {
-                    write!(f, "drops {msg:?} to {}", self.host(to))?;
-                }
-            }
+        self.write_direction(f, &mut parts, (from, to), fault.change, &mut serial)?;
+        if fault.is_both {
+            self.write_direction(f, &mut parts, (to, from), fault.change, &mut serial)?;
         }
         Ok(())
+    }
+
+    // Writes the messages that a change of a direction delivers or drops. `serial` is that of the
+    // next one that is delivered.
+    fn write_direction<W: fmt::Write>(
+        &self,
+        f: &mut fmt::Formatter<W>,
+        parts: &mut Parts,
+        (from, to): (u16, u16),
+        change: Change,
+        serial: &mut u64,
+    ) -> fmt::Result {
+        if from >= 32 || to >= 32 {
+            return Ok(());
+        }
+        let host = self.names.host_name(to);
+        let (around, is_let_go) = match self.told.world.link(from, to).after(change) {
+            LinkState::Held => return Ok(()),
+            LinkState::Through => (
+                Around {
+                    verb: "lets ",
+                    way: " go to ",
+                    host,
+                },
+                true,
+            ),
+            LinkState::Cut => (
+                Around {
+                    verb: "drops ",
+                    way: " to ",
+                    host,
+                },
+                false,
+            ),
+        };
+        for msg in self.told.world.held(from, to) {
+            let mut end = End::Words("");
+            if is_let_go {
+                end = End::at("arrives at", self.places.step_of(*serial));
+                *serial = serial.saturating_add(1);
+            }
+            write_message(f, parts.mark(), around, msg, end)?;
+        }
+        Ok(())
+    }
+}
+
+// Returns the word before the event that queued a message.
+fn sent_word(places: &Places, from: Option<u32>) -> &'static str {
+    match from {
+        Some(place) if !places.is_step(place) => "let go at",
+        _ => "sent at",
+    }
+}
+
+// Returns what becomes of a message that is sent.
+fn end_of(places: &Places, fate: Fate) -> End {
+    match fate {
+        Fate::Pending { due, serial } => match places.step_of(serial) {
+            Some(place) => End::DueAt(due, place),
+            None => End::Due(due),
+        },
+        Fate::Lost => End::Words(", lost"),
+        Fate::Held => End::Words(", held"),
+        Fate::Cut => End::Words(", cut"),
+        Fate::Full => End::Words(", dropped"),
+        Fate::Added | Fate::Skipped | Fate::Asked { .. } | Fate::Done => End::Words(""),
+    }
+}
+
+// Returns the words for a write, by what becomes of it.
+fn write_words(fate: Fate) -> &'static str {
+    match fate {
+        Fate::Skipped => "skips a write of",
+        _ => "writes",
     }
 }
 
@@ -254,7 +350,7 @@ where
     fn fmt<W: fmt::Write>(&self, f: &mut fmt::Formatter<W>) -> fmt::Result {
         match self.told.event {
             Event::Step => self.write_step(f),
-            Event::Advance(_) => write!(f, "the clock goes on"),
+            Event::Advance(_) => f.write_str("the clock goes on"),
             Event::Fault(fault) => self.write_fault(f, fault),
         }
     }

@@ -7,7 +7,7 @@ ghost use Rattle.sim_log.specs.Range.{IsRange};
 
 use crate::line::Line;
 use crate::places::Places;
-use crate::rows::{rows_after, rows_before};
+use crate::rows::{values_after, values_before};
 use crate::told::Told;
 use serde_json::{Value, json};
 use sim_node::{NoMemory, Node};
@@ -129,13 +129,39 @@ impl Teller<'_> {
             tape.old.events true place log.old.items log.new.items) }
     {
         let alloc = self.alloc;
-        let rows = rows_before(alloc, tape.here(), event, meter)?;
+        let rows = values_before(alloc, tape.here(), event, meter)?;
         tape.forward(alloc, 1, meter)?;
         let world = tape.here();
-        let rows = joined(rows, rows_after(alloc, event, world)?)?;
+        let rows = joined(rows, values_after(alloc, event, world)?)?;
         let line = object_line(alloc, place, world.clock(), rows)?;
         log.extend_from_slice(line.as_bytes())?;
         Ok(())
+    }
+
+    // Adds the line of the next event of a tape, and walks the tape past it.
+    fn add_line<N: Node + Debug>(
+        self,
+        tape: &mut Tape<N>,
+        event: Event,
+        place: u32,
+        json: bool,
+        log: &mut Vec<u8>,
+        meter: &mut N::Meter,
+    ) -> Result<(), NoMemory>
+    where
+        N::Msg: Debug,
+        requires warm { IsTrue tape.old.warm }
+        requires next { tape.old.place < length tape.old.events }
+        requires place { place ≡ tape.old.place + 1 }
+        ensures tape { OnOk result (IsPast tape.old tape.new) }
+        ensures line { OnOk result (AddsLine (rules N.laws N.PROBES tape.old.scenario)
+            tape.old.events json place log.old.items log.new.items) }
+    {
+        if json {
+            self.add_object(tape, event, place, log, meter)
+        } else {
+            self.add_words(tape, event, place, log, meter)
+        }
     }
 
     /// The lines of the events from one to another, each in words or as a JSON object: the place
@@ -160,11 +186,7 @@ impl Teller<'_> {
             let Some(event) = run.events().get(place - 1) else {
                 unreachable!()
             };
-            if json {
-                self.add_object(&mut tape, event, place, &mut log, meter)?;
-            } else {
-                self.add_words(&mut tape, event, place, &mut log, meter)?;
-            }
+            self.add_line(&mut tape, event, place, json, &mut log, meter)?;
         }
         Ok(log)
     }

@@ -1,8 +1,8 @@
 //! What an event changes, as rows of JSON.
-use crate::told::{LinkFault, Told};
+use crate::told::{LinkFault, Told, host_fault};
 use serde_json::{Number, Value};
-use sim_account::{Fate, ToldEffect};
-use sim_links::LinkState;
+use sim_account::{Fate, Reaction, ToldEffect};
+use sim_links::{Change, LinkState};
 use sim_node::{Effect, NoMemory, Node};
 use sim_world::{Event, Fault, World};
 use std::alloc::Global;
@@ -15,11 +15,14 @@ struct Row {
 }
 
 impl Row {
-    fn new(alloc: Global, word: &str) -> Result<Row, NoMemory> {
-        Row {
-            cells: Vec::new(alloc),
+    // A row of a word and numbers.
+    fn new(alloc: Global, word: &str, numbers: &[u64]) -> Result<Row, NoMemory> {
+        let cells = Vec::new(alloc);
+        let mut row = Row { cells }.text(String::from_str(alloc, word)?)?;
+        for number in numbers {
+            row = row.number(*number)?;
         }
-        .text(String::from_str(alloc, word)?)
+        Ok(row)
     }
 
     fn number(mut self, number: u64) -> Result<Row, NoMemory> {
@@ -56,10 +59,13 @@ impl Rows {
 
     // Adds a row of a word and numbers.
     fn add(&mut self, word: &str, numbers: &[u64]) -> Result<(), NoMemory> {
-        let mut row = Row::new(self.alloc, word)?;
-        for number in numbers {
-            row = row.number(*number)?;
-        }
+        let row = Row::new(self.alloc, word, numbers)?;
+        self.push(row)
+    }
+
+    // Adds a row of a word, numbers and a text.
+    fn add_text(&mut self, word: &str, numbers: &[u64], text: String) -> Result<(), NoMemory> {
+        let row = Row::new(self.alloc, word, numbers)?.text(text)?;
         self.push(row)
     }
 
@@ -71,19 +77,46 @@ impl Rows {
     // Adds the row of a host's node, with the values of its probes.
     fn node<N: Node + fmt::Debug>(&mut self, host: u16, node: &N) -> Result<(), NoMemory> {
         let alloc = self.alloc;
-        let mut row = Row::new(alloc, "node")?.number(u64::from(host))?;
+        let mut row = Row::new(alloc, "node", &[u64::from(host)])?;
         for probe in 0..N::PROBES {
-            row = row.text(format!(in alloc; "{}", node.probe(probe))?)?;
+            row = row.text(decimal(alloc, node.probe(probe))?)?;
         }
-        let row = row.text(format!(in alloc; "{node:?}")?)?;
+        let row = row.text(shown(alloc, node)?)?;
         self.push(row)
+    }
+
+    // Adds the row of the node that runs on a host, if there is one.
+    fn host<N: Node + fmt::Debug>(&mut self, world: &World<N>, host: u16) -> Result<(), NoMemory> {
+        if host >= world.hosts() {
+            return Ok(());
+        }
+        match world.node(host) {
+            Some(node) => self.node(host, node),
+            None => Ok(()),
+        }
+    }
+
+    // Adds the rows of the start: the nodes, and then the starts of the hosts.
+    fn start<N: Node + fmt::Debug>(&mut self, world: &World<N>) -> Result<(), NoMemory> {
+        for host in 0..world.hosts() {
+            self.host(world, host)?;
+        }
+        for host in 0..world.hosts() {
+            self.add("start", &[u64::from(host), u64::from(host), 0])?;
+        }
+        Ok(())
+    }
+
+    // Adds the rows of a host that booted, in the world after that: its node and its start.
+    fn boot<N: Node + fmt::Debug>(&mut self, world: &World<N>, host: u16) -> Result<(), NoMemory> {
+        self.host(world, host)?;
+        let serial = world.next_serial().saturating_sub(1);
+        self.add("start", &[u64::from(host), serial, world.clock()])
     }
 
     // Adds the row of a message that was sent, with what becomes of it.
     fn message(&mut self, to: u16, text: String, fate: Fate) -> Result<(), NoMemory> {
-        let row = Row::new(self.alloc, sent_word(fate))?
-            .number(u64::from(to))?
-            .text(text)?;
+        let row = Row::new(self.alloc, sent_word(fate), &[u64::from(to)])?.text(text)?;
         match fate {
             Fate::Pending { due, serial } => self.push(row.number(serial)?.number(due)?),
             _ => self.push(row),
@@ -97,31 +130,49 @@ impl Rows {
             _ => "write",
         };
         let hex = hex::encode(self.alloc, bytes)?;
-        let row = Row::new(self.alloc, word)?
-            .number(u64::from(offset))?
-            .text(hex)?;
-        self.push(row)
+        self.add_text(word, &[u64::from(offset)], hex)
     }
 
-    fn effect<M: fmt::Debug>(&mut self, told: &ToldEffect<M>) -> Result<(), NoMemory> {
-        let alloc = self.alloc;
-        match (told.effect(), told.fate()) {
-            (Effect::Send { to, msg }, fate) => {
-                self.message(*to, format!(in alloc; "{msg:?}")?, fate)
-            }
-            (Effect::Write { offset, len, bytes }, fate) => {
-                let len = (*len as usize).min(bytes.len());
-                self.write(*offset, &bytes[..len], fate)
-            }
-            (_, Fate::Pending { due, serial }) => self.add("timer", &[serial, due]),
-            (_, Fate::Asked { due, serial, count }) => {
+    // Adds the row of a timer, a sync or the end of a host's work, by what becomes of it.
+    fn request(&mut self, fate: Fate) -> Result<(), NoMemory> {
+        match fate {
+            Fate::Pending { due, serial } => self.add("timer", &[serial, due]),
+            Fate::Asked { due, serial, count } => {
                 self.add("sync", &[serial, due, u64::from(count)])
             }
-            (_, _) => self.add("done", &[]),
+            _ => self.add("done", &[]),
         }
     }
 
-    // Adds the rows of a step: what happened, and the effects of the reaction.
+    fn effect<M: fmt::Debug>(&mut self, told: &ToldEffect<M>) -> Result<(), NoMemory> {
+        match told.effect() {
+            Effect::Send { to, msg } => self.message(*to, shown(self.alloc, msg)?, told.fate()),
+            Effect::Write { offset, len, bytes } => {
+                let len = (*len as usize).min(bytes.len());
+                self.write(*offset, &bytes[..len], told.fate())
+            }
+            _ => self.request(told.fate()),
+        }
+    }
+
+    // Adds the rows of a reaction: the word, the node after it, and the effects.
+    fn reaction<N: Node + fmt::Debug>(
+        &mut self,
+        host: u16,
+        reaction: &Reaction<N>,
+    ) -> Result<(), NoMemory>
+    where
+        N::Msg: fmt::Debug,
+    {
+        self.add("word", &[u64::from(reaction.word())])?;
+        self.node(host, reaction.node())?;
+        for effect in reaction.effects() {
+            self.effect(effect)?;
+        }
+        Ok(())
+    }
+
+    // Adds the rows of a step: what happened, and then the reaction.
     fn step<N: Node + fmt::Debug>(&mut self, told: &Told<'_, N>) -> Result<(), NoMemory>
     where
         N::Msg: fmt::Debug,
@@ -130,26 +181,17 @@ impl Rows {
             return Ok(());
         };
         self.add("step", &[due, serial])?;
-        let Some(reaction) = &told.reaction else {
-            return Ok(());
-        };
-        self.add("word", &[u64::from(reaction.word())])?;
-        self.node(occurrence.host(), reaction.node())?;
-        for effect in reaction.effects() {
-            self.effect(effect)?;
+        match &told.reaction {
+            Some(reaction) => self.reaction(occurrence.host(), reaction),
+            None => Ok(()),
         }
-        Ok(())
     }
 
-    // Adds a row with what a crash keeps of each unstable write.
-    fn crash<N: Node>(
-        &mut self,
-        told: &Told<'_, N>,
-        word: &str,
-        host: u16,
-    ) -> Result<(), NoMemory> {
-        self.add(word, &[told.world.clock(), u64::from(host)])?;
-        for kept in &told.tears {
+    // Adds the rows of a crash or a bounce: when and of which host it is, and what the host keeps
+    // of each unstable write.
+    fn crash(&mut self, word: &str, of: [u64; 2], tears: &[u32]) -> Result<(), NoMemory> {
+        self.add(word, &of)?;
+        for kept in tears {
             self.add("kept", &[u64::from(*kept)])?;
         }
         Ok(())
@@ -157,34 +199,50 @@ impl Rows {
 
     // Adds the rows of the directions that a fault names, with the messages that a release lets go.
     fn links<N: Node>(&mut self, world: &World<N>, fault: LinkFault) -> Result<(), NoMemory> {
-        let ends = [world.clock(), u64::from(fault.from), u64::from(fault.to)];
+        let LinkFault {
+            from,
+            to,
+            change,
+            ..
+        } = fault;
+        let ends = [world.clock(), u64::from(from), u64::from(to)];
         self.add(fault.word, &ends)?;
-        let mut serial = world.next_serial();
-        for (from, to) in fault.directions().into_iter().flatten() {
-            if from >= 32 || to >= 32 {
-                return Ok(());
-            }
-            let after = world.link(from, to).after(fault.change);
-            self.direction(from, to, after)?;
-            if after == LinkState::Through {
-                serial = self.freed(serial, world.held(from, to).len(), world.clock())?;
-            }
+        let serial = self.direction(world, (from, to), change, world.next_serial())?;
+        if fault.is_both {
+            self.direction(world, (to, from), change, serial)?;
         }
         Ok(())
     }
 
-    // Adds the row of a direction's new state.
-    fn direction(&mut self, from: u16, to: u16, state: LinkState) -> Result<(), NoMemory> {
-        let word = String::from_str(self.alloc, state_word(state))?;
-        let row = Row::new(self.alloc, "link")?
-            .number(u64::from(from))?
-            .number(u64::from(to))?
-            .text(word)?;
-        self.push(row)
+    // Adds the row of a direction's state after a change, and those of the messages that are
+    // released, with serials from `serial` on. Returns the serial after theirs.
+    fn direction<N: Node>(
+        &mut self,
+        world: &World<N>,
+        (from, to): (u16, u16),
+        change: Change,
+        serial: u64,
+    ) -> Result<u64, NoMemory> {
+        if from >= 32 || to >= 32 {
+            return Ok(serial);
+        }
+        let state = world.link(from, to).after(change);
+        self.link([u64::from(from), u64::from(to)], state)?;
+        if state == LinkState::Through {
+            self.freed(serial, world.held(from, to).len(), world.clock())
+        } else {
+            Ok(serial)
+        }
     }
 
-    // Adds the rows of the messages of a direction that are released, with serials from `serial`
-    // on. Returns the serial after theirs.
+    // Adds the row of a direction's new state.
+    fn link(&mut self, ends: [u64; 2], state: LinkState) -> Result<(), NoMemory> {
+        let word = String::from_str(self.alloc, state_word(state))?;
+        self.add_text("link", &ends, word)
+    }
+
+    // Adds the rows of messages of a direction that are released, with serials from `serial` on.
+    // Returns the serial after theirs.
     fn freed(&mut self, serial: u64, count: usize, clock: u64) -> Result<u64, NoMemory> {
         let mut serial = serial;
         for _ in 0..count {
@@ -193,6 +251,40 @@ impl Rows {
         }
         Ok(serial)
     }
+
+    // Adds the rows of a fault.
+    fn fault<N: Node>(&mut self, told: &Told<'_, N>, fault: Fault) -> Result<(), NoMemory> {
+        if let Some((word, host)) = host_fault(fault) {
+            let of = [told.world.clock(), u64::from(host)];
+            return self.crash(word, of, told.tears.as_slice());
+        }
+        match LinkFault::of(fault) {
+            Some(fault) => self.links(told.world, fault),
+            None => Ok(()),
+        }
+    }
+
+    // Adds the rows of an event that was gathered.
+    fn event<N: Node + fmt::Debug>(&mut self, told: &Told<'_, N>) -> Result<(), NoMemory>
+    where
+        N::Msg: fmt::Debug,
+    {
+        match told.event {
+            Event::Step => self.step(told),
+            Event::Advance(to) => self.add("advance", &[to]),
+            Event::Fault(fault) => self.fault(told, fault),
+        }
+    }
+}
+
+// Returns a number in decimal, as a text.
+fn decimal(alloc: Global, number: u64) -> Result<String, NoMemory> {
+    format!(in alloc; "{number}")
+}
+
+// Returns the text of a message or a node.
+fn shown<T: fmt::Debug>(alloc: Global, value: &T) -> Result<String, NoMemory> {
+    format!(in alloc; "{value:?}")
 }
 
 // Returns the word of a message's row.
@@ -215,29 +307,17 @@ fn state_word(state: LinkState) -> &'static str {
     }
 }
 
-// Returns the rows of an event that was gathered.
-fn rows_of<N: Node + fmt::Debug>(alloc: Global, told: &Told<'_, N>) -> Result<Vec<Value>, NoMemory>
-where
-    N::Msg: fmt::Debug,
-{
-    let mut rows = Rows::new(alloc);
-    match told.event {
-        Event::Step => rows.step(told)?,
-        Event::Advance(to) => rows.add("advance", &[to])?,
-        Event::Fault(Fault::Crash(host)) => rows.crash(told, "crash", host)?,
-        Event::Fault(Fault::Bounce(host)) => rows.crash(told, "bounce", host)?,
-        Event::Fault(fault) => {
-            if let Some(fault) = LinkFault::of(fault) {
-                rows.links(told.world, fault)?;
-            }
-        }
+// Returns rows as texts, each compact JSON.
+fn texts(alloc: Global, rows: Vec<Value>) -> Result<Vec<String>, NoMemory> {
+    let mut texts = Vec::new(alloc);
+    for row in rows {
+        texts.push(row.to_string(alloc)?)?;
     }
-    Ok(rows.into_vec())
+    Ok(texts)
 }
 
-/// Returns the rows of an event: the event itself, and then its changes in order, without those
-/// that [`rows_after`] adds. `world` is the world before it. Fails only for want of memory.
-pub fn rows_before<N: Node + fmt::Debug>(
+// Returns the rows of `rows_before` as values.
+pub(crate) fn values_before<N: Node + fmt::Debug>(
     alloc: Global,
     world: &World<N>,
     event: Event,
@@ -247,43 +327,56 @@ where
     N::Msg: fmt::Debug,
 {
     let told = Told::new(alloc, world, event, meter)?;
-    rows_of(alloc, &told)
+    let mut rows = Rows::new(alloc);
+    rows.event(&told)?;
+    Ok(rows.into_vec())
 }
 
-/// Returns the rows that the world after an event adds: for a bounce, the node that booted and its
-/// start. Fails only for want of memory.
-pub fn rows_after<N: Node + fmt::Debug>(
+// Returns the rows of `rows_after` as values.
+pub(crate) fn values_after<N: Node + fmt::Debug>(
     alloc: Global,
     event: Event,
     after: &World<N>,
 ) -> Result<Vec<Value>, NoMemory> {
     let mut rows = Rows::new(alloc);
     if let Event::Fault(Fault::Bounce(host)) = event {
-        if host < after.hosts() {
-            if let Some(node) = after.node(host) {
-                rows.node(host, node)?;
-            }
-        }
-        let serial = after.next_serial().saturating_sub(1);
-        rows.add("start", &[u64::from(host), serial, after.clock()])?;
+        rows.boot(after, host)?;
     }
     Ok(rows.into_vec())
 }
 
-/// Returns the rows before the first event: the node and the start of each host. Fails only for
+/// Returns the rows of an event, each as compact JSON: the event itself, and then its changes in
+/// order, without those that [`rows_after`] adds. `world` is the world before it. Fails only for
 /// want of memory.
+pub fn rows_before<N: Node + fmt::Debug>(
+    alloc: Global,
+    world: &World<N>,
+    event: Event,
+    meter: &mut N::Meter,
+) -> Result<Vec<String>, NoMemory>
+where
+    N::Msg: fmt::Debug,
+{
+    texts(alloc, values_before(alloc, world, event, meter)?)
+}
+
+/// Returns the rows that the world after an event adds, each as compact JSON: for a bounce, the
+/// node that booted and its start. Fails only for want of memory.
+pub fn rows_after<N: Node + fmt::Debug>(
+    alloc: Global,
+    event: Event,
+    after: &World<N>,
+) -> Result<Vec<String>, NoMemory> {
+    texts(alloc, values_after(alloc, event, after)?)
+}
+
+/// Returns the rows before the first event, each as compact JSON: the node and the start of each
+/// host. Fails only for want of memory.
 pub fn first_rows<N: Node + fmt::Debug>(
     alloc: Global,
     world: &World<N>,
-) -> Result<Vec<Value>, NoMemory> {
+) -> Result<Vec<String>, NoMemory> {
     let mut rows = Rows::new(alloc);
-    for host in 0..world.hosts() {
-        if let Some(node) = world.node(host) {
-            rows.node(host, node)?;
-        }
-    }
-    for host in 0..world.hosts() {
-        rows.add("start", &[u64::from(host), u64::from(host), 0])?;
-    }
-    Ok(rows.into_vec())
+    rows.start(world)?;
+    texts(alloc, rows.into_vec())
 }

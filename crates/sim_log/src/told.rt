@@ -43,14 +43,15 @@ impl<'a, N: Node> Told<'a, N> {
             ≡ tears_of (rules N.laws N.PROBES world.now.scenario)
             (crashed_by event world.now.world) world.now.world) }
     {
+        let crashed = crashed_host(world, event);
+        let lost = lost_by(alloc, world, crashed)?;
+        let tears = match crashed {
+            Some(host) => tears(alloc, world, host)?,
+            None => Vec::new(alloc),
+        };
         let reaction = match event {
             Event::Step if world.age() < 65_536 => next_reaction(alloc, world, meter)?,
             _ => None,
-        };
-        let crashed = crashed_host(world, event);
-        let (tears, lost) = match crashed {
-            Some(host) => (tears(alloc, world, host)?, lost_by(alloc, world, host)?),
-            None => (Vec::new(alloc), Vec::new(alloc)),
         };
         Ok(Told {
             world,
@@ -74,9 +75,17 @@ fn crashed_host<N: Node>(world: &World<N>, event: Event) -> Option<u16>
     }
 }
 
-// Returns the serials that a crash of a host takes out: all that is pending for it, but messages.
-fn lost_by<N: Node>(alloc: Global, world: &World<N>, host: u16) -> Result<Vec<u64>, NoMemory> {
+// Returns the serials that the crash of a host takes out: all that is pending for it, but messages.
+// Without a host there are none.
+fn lost_by<N: Node>(
+    alloc: Global,
+    world: &World<N>,
+    host: Option<u16>,
+) -> Result<Vec<u64>, NoMemory> {
     let mut lost = Vec::new(alloc);
+    let Some(host) = host else {
+        return Ok(lost);
+    };
     let mut from = 0;
     // Each iteration passes a serial.
     for _ in 0..world.next_serial() {
@@ -94,10 +103,19 @@ fn lost_by<N: Node>(alloc: Global, world: &World<N>, host: u16) -> Result<Vec<u6
     Ok(lost)
 }
 
+/// Returns the word and the host of a crash or a bounce, or `None` if it is a fault of links.
+pub(crate) fn host_fault(fault: Fault) -> Option<(&'static str, u16)> {
+    match fault {
+        Fault::Crash(host) => Some(("crash", host)),
+        Fault::Bounce(host) => Some(("bounce", host)),
+        _ => None,
+    }
+}
+
 /// How a fault changes the links: the direction from the first host to the second and, if the fault
 /// goes both ways, then the opposite one.
 #[derive(Clone, Copy)]
-pub struct LinkFault {
+pub(crate) struct LinkFault {
     pub word: &'static str,
     pub change: Change,
     pub from: u16,
@@ -107,7 +125,7 @@ pub struct LinkFault {
 
 impl LinkFault {
     /// Returns how a fault changes the links, or `None` if it is a fault of a host.
-    pub fn of(fault: Fault) -> Option<LinkFault> {
+    pub(crate) fn of(fault: Fault) -> Option<LinkFault> {
         let (word, change, (from, to), is_both) = match fault {
             Fault::Crash(_) | Fault::Bounce(_) => return None,
             Fault::Hold(a, b) => ("hold", Change::Hold, (a, b), true),
@@ -124,15 +142,5 @@ impl LinkFault {
             to,
             is_both,
         })
-    }
-
-    /// Returns the directions that it changes, in order.
-    pub fn directions(self) -> [Option<(u16, u16)>; 2] {
-        let back = if self.is_both {
-            Some((self.to, self.from))
-        } else {
-            None
-        };
-        [Some((self.from, self.to)), back]
     }
 }

@@ -46,11 +46,16 @@ impl Data {
         self.bytes.extend_from_slice(text.as_bytes())
     }
 
+    /// Adds a text of JSON.
+    pub(crate) fn json(&mut self, json: &str) -> Result<(), NoMemory> {
+        let text = escaped(self.alloc, json.as_bytes())?;
+        self.bytes.extend_from_slice(text.as_slice())
+    }
+
     /// Adds a value.
     pub(crate) fn value(&mut self, value: &Value) -> Result<(), NoMemory> {
         let json = value.to_string(self.alloc)?;
-        let text = escaped(self.alloc, json.as_bytes())?;
-        self.bytes.extend_from_slice(text.as_slice())
+        self.json(json.as_str())
     }
 
     /// Adds a member to the object, after a comma.
@@ -64,10 +69,10 @@ impl Data {
     }
 
     /// Adds rows after others: each on a line of its own, after a comma.
-    pub(crate) fn more_rows(&mut self, rows: &[Value]) -> Result<(), NoMemory> {
+    pub(crate) fn more_rows(&mut self, rows: &[String]) -> Result<(), NoMemory> {
         for row in rows {
             self.put(",\n")?;
-            self.value(row)?;
+            self.json(row.as_str())?;
         }
         Ok(())
     }

@@ -119,7 +119,7 @@ where
         self.tape.make_warm(self.alloc, &mut N::Meter::fresh())?;
         let rows = first_rows(self.alloc, self.tape.here())?;
         if let [first, others @ ..] = rows.as_slice() {
-            self.data.value(first)?;
+            self.data.json(first.as_str())?;
             self.data.more_rows(others)?;
         }
         self.note_holding()

@@ -1,11 +1,10 @@
-use Rattle.std.proofs.Common.{◌≡◌, ◌∙◌, ◌+◌, ◌-◌, ◌<◌, ◌≤◌, ℕ, true, false, List, length, Option, None, sym, ap, subst, arith}
+use Rattle.std.proofs.Common.{◌≡◌, ◌∙◌, ◌+◌, ◌-◌, ◌<◌, ◌≤◌, ℕ, List, length, Option, None, refl, sym, ap, subst, arith}
 use Rattle.std.specs.List.{slice_get}
 use Rattle.sim_events.specs.declared.Event.{Event}
 use Rattle.sim_world.specs.Events.{rules}
 use Rattle.sim_log.specs.Lines.{AreLines}
 use Rattle.sim_log.proofs.Telling.{is_there, no_lines, one_more, own_reach}
 use Rattle.sim_log.proofs.lines.Teller.lines.Goals as goal
-use Rattle.sim_log.proofs.lines.Teller.lines.Goals.{then-json+in_ok-add_object, else-json+in_ok-add_words}
 
 pub loop-place-init : goal.loop-place-init
 loop-place-init g c =
@@ -31,18 +30,10 @@ loop-place-preserved g c =
     let inv = c.loop-place.invariant in
     let least : 1 ≤ c.args.first = omega arith in
     let from : c.args.first ≤ c.loop-place.place = omega arith in
-    elim c.if-json.branch [
-      | then-json+in_ok-add_object w ↦
-          let both = one_more g.N.Node.laws g.N.Node.PROBES run.scenario run.events c.args.json true c.args.first c.loop-place.place
-          c.loop-place.tape _ c.loop-place.log.items _ least from w.if-json.true inv.told inv.tape
-          w.in_ok-add_object.ensures.tape w.in_ok-add_object.ensures.line in
-          rw (w.log-is, w.tape-is) (record { told = both.0; tape = both.1 })
-      | else-json+in_ok-add_words w ↦
-          let both = one_more g.N.Node.laws g.N.Node.PROBES run.scenario run.events c.args.json false c.args.first c.loop-place.place
-          c.loop-place.tape _ c.loop-place.log.items _ least from w.if-json.false inv.told inv.tape
-          w.in_ok-add_words.ensures.tape w.in_ok-add_words.ensures.line in
-          rw (w.log-is, w.tape-is) (record { told = both.0; tape = both.1 })
-    ]
+    let both = one_more g.N.Node.laws g.N.Node.PROBES run.scenario run.events c.args.json c.args.json c.args.first c.loop-place.place
+    c.loop-place.tape _ c.loop-place.log.items _ least from refl inv.told inv.tape
+    c.in_ok-add_line.ensures.tape c.in_ok-add_line.ensures.line in
+    record { told = both.0; tape = both.1 }
 
 pub returns : goal.returns
 returns g c =
