@@ -4,7 +4,7 @@ use crate::terms::{fails_of, holds_of};
 use sim_book::Refusal;
 use sim_node::{NoMemory, Node};
 use sim_tally::FreshMeter;
-use sim_tape::Frozen;
+use sim_tape::{Frozen, Tape};
 use sim_watch::{Cond, Sought};
 use sim_world::{Event, Fault, World};
 use std::alloc::{AllocError, Global};
@@ -81,6 +81,20 @@ impl Test<'_> {
     }
 }
 
+// Returns whether the place of a tape passes a test, and walks past its next event.
+fn passes<N: Node>(
+    alloc: Global,
+    tape: &mut Tape<N>,
+    next: Option<Event>,
+    test: Test<'_>,
+    meter: &mut N::Meter,
+) -> Result<bool, NoMemory> {
+    tape.make_warm(alloc, meter)?;
+    let is_so = test.is_so(tape.here(), next);
+    pass(alloc, tape, meter)?;
+    Ok(is_so)
+}
+
 // Returns the first and the last place before `end` that pass a test. Fails only for want of
 // memory.
 fn span_of<N: Node<Meter: FreshMeter>>(
@@ -96,12 +110,11 @@ fn span_of<N: Node<Meter: FreshMeter>>(
         last: None,
     };
     for place in 0..end {
-        tape.make_warm(alloc, &mut meter)?;
-        if test.is_so(tape.here(), run.events().get(place)) {
+        let next = run.events().get(place);
+        if passes(alloc, &mut tape, next, test, &mut meter)? {
             span.first = Some(span.first.unwrap_or(place));
             span.last = Some(place);
         }
-        pass(alloc, &mut tape, &mut meter)?;
     }
     Ok(span)
 }
@@ -115,20 +128,17 @@ where
     N::Msg: Debug,
 {
     let why = match run.event(place.saturating_add(1)) {
-        Some(Event::Fault(_)) => Some("the next event is a fault of the script"),
-        Some(Event::Advance(_)) => Some("the next event moves the clock alone"),
-        Some(Event::Step) | None => None,
+        Some(Event::Fault(_)) => "the next event is a fault of the script",
+        Some(Event::Advance(_)) => "the next event moves the clock alone",
+        Some(Event::Step) | None => match run.serials(place)?.first {
+            None => "nothing is pending",
+            Some(serial) => match run.places.queued_by(serial) {
+                Some(cause) => return Ok(cause.saturating_sub(1)),
+                None => "what happens next was pending from the start",
+            },
+        },
     };
-    if let Some(why) = why {
-        return Err(SeekError::Nowhere(why));
-    }
-    let Some(serial) = run.serials(place)?.first else {
-        return Err(SeekError::Nowhere("nothing is pending"));
-    };
-    match run.places.queued_by(serial) {
-        Some(cause) => Ok(cause.saturating_sub(1)),
-        None => Err(SeekError::Nowhere("what happens next was pending from the start")),
-    }
+    Err(SeekError::Nowhere(why))
 }
 
 /// Returns the place of a run that `sought` describes, seen from place `here`. Fails with the
@@ -144,32 +154,32 @@ where
     N::Msg: Debug,
 {
     let all = run.len().saturating_add(1);
-    let (found, why) = match sought {
+    let (test, end, why) = match sought {
+        Sought::Cause => return cause_of(run, here),
         Sought::At(time) => {
             let test = Test::Time(u64::from(*time));
-            let span = span_of(alloc, &run.frozen, all, test)?;
-            (span.first, "the clock is earlier at all kept places")
+            (test, all, "the clock is earlier at all kept places")
         }
-        Sought::Cause => return cause_of(run, here),
         Sought::Last(host) => {
-            let span = span_of(alloc, &run.frozen, here, Test::Acts(*host))?;
-            (span.last, "that host has no event before this place")
+            let test = Test::Acts(*host);
+            (test, here, "that host has no event before this place")
         }
         Sought::First(cond) => {
-            let span = span_of(alloc, &run.frozen, all, Test::Fails(cond.get()))?;
-            (span.first, "the condition holds at all kept places")
+            let test = Test::Fails(cond.get());
+            (test, all, "the condition holds at all kept places")
         }
         Sought::Held(cond) => {
-            let end = here.saturating_add(1);
-            let span = span_of(alloc, &run.frozen, end, Test::Holds(cond.get()))?;
-            if span.last == Some(here) {
-                return Err(SeekError::Nowhere(HOLDS_HERE));
-            }
-            (
-                span.last,
-                "the condition fails at this place and at all before it",
-            )
+            let test = Test::Holds(cond.get());
+            let why = "the condition fails at this place and at all before it";
+            (test, here.saturating_add(1), why)
         }
+    };
+    let span = span_of(alloc, &run.frozen, end, test)?;
+    let found = match test {
+        Test::Time(_) | Test::Fails(_) => span.first,
+        Test::Acts(_) => span.last,
+        Test::Holds(_) if span.last == Some(here) => return Err(SeekError::Nowhere(HOLDS_HERE)),
+        Test::Holds(_) => span.last,
     };
     found.ok_or(SeekError::Nowhere(why))
 }

@@ -105,30 +105,64 @@ fn tell_writes(disk: &Disk, said: &mut String) -> Result<(), NoMemory> {
     Ok(())
 }
 
+// Appends the sizes of a disk.
+fn tell_sizes(disk: &Disk, said: &mut String) -> Result<(), NoMemory> {
+    let (stable, unsynced) = (disk.stable().len(), disk.unsynced());
+    let (bytes, writes) = (plural(stable), plural(unsynced as usize));
+    writeln!(
+        said,
+        "disk: {stable} byte{bytes} stable, {unsynced} write{writes} not stable"
+    )
+}
+
+// Appends the state of a node, by its text of `Debug`.
+fn tell_state(alloc: Global, text: &[u8], said: &mut String) -> Result<(), NoMemory> {
+    let short = shortened(alloc, text)?;
+    let state = str::from_utf8(short.as_slice()).unwrap_or("");
+    writeln!(said, "state: {state}")
+}
+
+// Appends the messages that a link holds.
+fn tell_held<M: Debug>(held: &[M], said: &mut String) -> Result<(), NoMemory> {
+    for msg in held {
+        writeln!(said, "  {msg:?}")?;
+    }
+    Ok(())
+}
+
 impl<N: Node + Debug> Sight<'_, N>
 where
     N::Msg: Debug,
 {
-    // Appends a pending occurrence with its serial.
-    fn tell_occurrence(
+    // Appends what happens at an occurrence.
+    fn tell_input(
         &self,
-        serial: u64,
         occurrence: &Occurrence<N::Msg>,
         said: &mut String,
     ) -> Result<(), NoMemory> {
         let host = self.names.host_name(occurrence.host());
-        match occurrence.input() {
-            Input::Start => write!(said, "{host} starts")?,
-            Input::Timer => write!(said, "{host}'s timer ends")?,
+        let words = match occurrence.input() {
+            Input::Start => " starts",
+            Input::Timer => "'s timer ends",
             Input::Synced => {
                 let count = occurrence.sync_count().unwrap_or(0);
-                write!(said, "{host}'s sync of {count} is done")?;
+                return write!(said, "{host}'s sync of {count} is done");
             }
             Input::Message { sender, msg } => {
                 let sender = self.names.host_name(*sender);
-                write!(said, "{host} gets {msg:?} from {sender}")?;
+                return write!(said, "{host} gets {msg:?} from {sender}");
             }
-        }
+        };
+        write!(said, "{host}{words}")
+    }
+
+    // Appends the occurrence with a serial, if it is pending.
+    fn tell_occurrence(&self, serial: u64, said: &mut String) -> Result<(), NoMemory> {
+        let Some((due, occurrence)) = self.world.pending(serial) else {
+            return Ok(());
+        };
+        write!(said, "due {due}: ")?;
+        self.tell_input(occurrence, said)?;
         match self.places.queued_by(serial) {
             Some(place) => writeln!(said, " (queued at {place})"),
             None => said.push('\n'),
@@ -140,23 +174,16 @@ where
     pub fn tell_pending(&self, host: Option<u16>, said: &mut String) -> Result<(), NoMemory> {
         let found = pending_of(self.alloc, self.world, host)?;
         if found.is_empty() {
-            said.push_str("nothing is pending\n")?;
+            return said.push_str("nothing is pending\n");
         }
-        for (due, serial) in found.as_slice() {
-            if let Some((_due, occurrence)) = self.world.pending(*serial) {
-                write!(said, "due {due}: ")?;
-                self.tell_occurrence(*serial, occurrence, said)?;
-            }
+        for (_due, serial) in found.as_slice() {
+            self.tell_occurrence(*serial, said)?;
         }
         Ok(())
     }
 
-    // Appends the state and the probes of a node.
-    fn tell_node(&self, node: &N, said: &mut String) -> Result<(), NoMemory> {
-        let state = format!(in self.alloc; "{node:?}")?;
-        let short = shortened(self.alloc, state.as_bytes())?;
-        let state = str::from_utf8(short.as_slice()).unwrap_or("");
-        writeln!(said, "state: {state}")?;
+    // Appends the probes of a node.
+    fn tell_probes(&self, node: &N, said: &mut String) -> Result<(), NoMemory> {
         said.push_str("probes:")?;
         for probe in 0..N::PROBES {
             let name = self.names.probe_name(probe);
@@ -164,6 +191,13 @@ where
             write!(said, " {name} {value}")?;
         }
         said.push('\n')
+    }
+
+    // Appends the state and the probes of a node.
+    fn tell_node(&self, node: &N, said: &mut String) -> Result<(), NoMemory> {
+        let state = format!(in self.alloc; "{node:?}")?;
+        tell_state(self.alloc, state.as_bytes(), said)?;
+        self.tell_probes(node, said)
     }
 
     /// Appends a host: whether it runs and is done, its state and its probes, what is pending for
@@ -184,13 +218,7 @@ where
         if let Some(node) = self.world.node(host) {
             self.tell_node(node, said)?;
         }
-        let disk = self.world.disk(host);
-        let (stable, unsynced) = (disk.stable().len(), disk.unsynced());
-        let (bytes, writes) = (plural(stable), plural(unsynced as usize));
-        writeln!(
-            said,
-            "disk: {stable} byte{bytes} stable, {unsynced} write{writes} not stable"
-        )?;
+        tell_sizes(self.world.disk(host), said)?;
         self.tell_pending(Some(host), said)
     }
 
@@ -224,9 +252,7 @@ where
         let (word, count) = (state_name(state), held.len());
         let plural = plural(count);
         writeln!(said, "{a} to {b}: {word}, {count} message{plural}")?;
-        for msg in held {
-            writeln!(said, "  {msg:?}")?;
-        }
+        tell_held(held, said)?;
         Ok(false)
     }
 

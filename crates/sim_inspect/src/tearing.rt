@@ -4,7 +4,7 @@ use sim_disk::Disk;
 use sim_log::Told;
 use sim_node::{NoMemory, Node};
 use sim_tally::FreshMeter;
-use sim_tape::Frozen;
+use sim_tape::{Frozen, Tape};
 use sim_world::{Event, Fault, World};
 use std::alloc::Global;
 use std::fmt::Debug;
@@ -39,6 +39,20 @@ fn add_writer(writers: &mut Vec<u32>, event: u32, count: u32) -> Result<(), NoMe
     Ok(())
 }
 
+// Walks a tape past its next event. Returns how many writes of a host this event makes.
+fn made_by_next<N: Node>(
+    alloc: Global,
+    tape: &mut Tape<N>,
+    next: Option<Event>,
+    host: u16,
+    meter: &mut N::Meter,
+) -> Result<u32, NoMemory> {
+    tape.make_warm(alloc, meter)?;
+    let left = left_after(tape.here(), next, host);
+    pass(alloc, tape, meter)?;
+    Ok(unsynced(tape.here(), host).saturating_sub(left))
+}
+
 // Returns for each write of a host before a place the event that made it, the oldest write first.
 // Those that are not stable at the place are the last ones. Fails only for want of memory.
 fn writers_of<N: Node<Meter: FreshMeter>>(
@@ -51,10 +65,8 @@ fn writers_of<N: Node<Meter: FreshMeter>>(
     let mut tape = run.tape(alloc, 0, &mut meter)?;
     let mut writers = Vec::new(alloc);
     for before in 0..place {
-        tape.make_warm(alloc, &mut meter)?;
-        let left = left_after(tape.here(), run.events().get(before), host);
-        pass(alloc, &mut tape, &mut meter)?;
-        let made = unsynced(tape.here(), host).saturating_sub(left);
+        let next = run.events().get(before);
+        let made = made_by_next(alloc, &mut tape, next, host, &mut meter)?;
         add_writer(&mut writers, before.saturating_add(1), made)?;
     }
     Ok(writers)
@@ -72,17 +84,12 @@ fn tell_write(disk: &Disk, at: usize, kept: u32, said: &mut String) -> Result<bo
     if kept as usize >= len {
         return Ok(false);
     }
-    if kept == 0 {
-        write!(
-            said,
-            "drops write {number} of {count} ({len} bytes at {offset})"
-        )?;
-    } else {
-        write!(
-            said,
-            "tears write {number} of {count} (keeps {kept} of {len} bytes at {offset})"
-        )?;
+    let verb = if kept == 0 { "drops" } else { "tears" };
+    write!(said, "{verb} write {number} of {count} (")?;
+    if kept > 0 {
+        write!(said, "keeps {kept} of ")?;
     }
+    write!(said, "{len} bytes at {offset})")?;
     Ok(true)
 }
 
@@ -99,6 +106,24 @@ where
             }
             None => said.push('\n'),
         }
+    }
+
+    // Appends the writes of a disk that a crash tears or drops, by what it keeps of each one that
+    // is not stable, with the events that made them. `writers` has those of all writes so far.
+    fn tell_tears(
+        &self,
+        disk: &Disk,
+        tears: &[u32],
+        writers: &[u32],
+        said: &mut String,
+    ) -> Result<(), NoMemory> {
+        let first = writers.len().saturating_sub(tears.len());
+        for (at, kept) in tears.iter().enumerate() {
+            if tell_write(disk, at, *kept, said)? {
+                self.tell_writer(writers.get(first.saturating_add(at)).copied(), said)?;
+            }
+        }
+        Ok(())
     }
 
     /// Appends the writes that the event that leads to a place tears or drops, if it is the crash
@@ -122,13 +147,7 @@ where
         }
         let told = Told::new(self.alloc, world, event, &mut meter)?;
         let writers = writers_of(self.alloc, &self.frozen, before, host)?;
-        let first = writers.len().saturating_sub(told.tears.len());
-        for (at, kept) in told.tears.iter().enumerate() {
-            let writer = writers.get(first.saturating_add(at)).copied();
-            if tell_write(world.disk(host), at, *kept, said)? {
-                self.tell_writer(writer, said)?;
-            }
-        }
-        Ok(())
+        let tears = told.tears.as_slice();
+        self.tell_tears(world.disk(host), tears, writers.as_slice(), said)
     }
 }

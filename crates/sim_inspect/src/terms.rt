@@ -85,10 +85,11 @@ fn tell_term<N: Node>(
         said.push('?')?;
     }
     let (first, second) = probes_of(term);
-    if first.is_some() {
+    if let Some(probe) = first {
         said.push(':')?;
+        tell_values(names, world, cond, probe, said)?;
     }
-    for probe in [first, second].into_iter().flatten() {
+    if let Some(probe) = second {
         tell_values(names, world, cond, probe, said)?;
     }
     said.push('\n')
