@@ -13,7 +13,7 @@ use Rattle.sim_book.specs.declared.Reply.{Reply}
 use Rattle.sim_book.specs.Book.{Book}
 use Rattle.sim_watch.specs.Commands.{branch_of}
 use Rattle.sim_book.specs.Answer.{after, answer_by, done_reply, refusal_of}
-use Rattle.sim_replies.specs.Lines.{line, reply_words, turn_line}
+use Rattle.sim_answers.specs.Lines.{line, reply_words, turn_line}
 use Rattle.sim_script.specs.declared.script.ScriptLine.{ScriptLine}
 use Rattle.sim_script.specs.declared.script.ScriptLine.TheVariants.{Asked}
 use Rattle.sim_script.specs.Script.{Text, Names, script_line}

@@ -4,12 +4,9 @@ pub mod OneAnswer
 pub mod Runs
 pub mod Readings
 pub mod Whole
-pub mod Plainly
 pub mod Front
 pub mod Places
 pub mod Judging
-pub mod StrictRuns
-pub mod WholeStrictly
 pub mod Follows
 mod FirstRun
 mod Fronts

@@ -13,7 +13,7 @@ use Rattle.sim_book.specs.Kept.{BookView}
 use Rattle.sim_script.specs.declared.script.ScriptLine.{ScriptLine}
 use Rattle.sim_script.specs.declared.script.ScriptLine.TheVariants.{Bad, Asked}
 use Rattle.sim_script.specs.Script.{Text, Names}
-use Rattle.sim_replies.specs.Lines.{turn_line}
+use Rattle.sim_answers.specs.Lines.{turn_line}
 use Rattle.sim_cli.specs.declared.status.Answered.{Answered}
 use Rattle.sim_cli.specs.declared.status.Answered.TheVariants as ends
 use Rattle.sim_cli.specs.Turns.{Course, Takes, course_of}

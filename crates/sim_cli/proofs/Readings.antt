@@ -16,7 +16,7 @@ use Rattle.sim_cli.specs.declared.scenario.WasRead.{WasRead}
 use Rattle.sim_cli.specs.declared.scenario.WasRead.TheVariants as was
 use Rattle.sim_script.specs.Script.{Text}
 use Rattle.sim_cli.specs.Play.{read_scenario}
-use Rattle.sim_cli.specs.Opens.{Reads, TellsFault}
+use Rattle.sim_cli.specs.Reads.{Reads, TellsFault}
 
 pub too_long : (protocols : List Protocol) (text : Text) → 65536 < length text → read_scenario protocols text ≡ Err (text_fault 1)
 unfolding read_scenario

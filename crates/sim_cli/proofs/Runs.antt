@@ -18,7 +18,7 @@ use Rattle.sim_book.specs.declared.NotTaken.{NotTaken}
 use Rattle.sim_book.specs.declared.NotTaken.TheVariants.{HistoryFull, NoMemory}
 use Rattle.sim_book.specs.Answer.{answer, after}
 use Rattle.sim_watch.specs.Commands.{branch_of}
-use Rattle.sim_replies.specs.Lines.{line, reply_words, turn_line}
+use Rattle.sim_answers.specs.Lines.{line, reply_words, turn_line}
 use Rattle.sim_script.specs.declared.script.ScriptLine.{ScriptLine}
 use Rattle.sim_script.specs.declared.script.ScriptLine.TheVariants.{Nothing, Bad, Asked}
 use Rattle.sim_script.specs.Script.{Text, Names, script_line}

@@ -4,8 +4,8 @@ pub mod Lines
 pub mod Play
 pub mod Answers
 pub mod Opens
+pub mod Reads
 pub mod Subjects
-pub mod Plain
 pub mod Statuses
 pub mod Strict
 pub mod Following

@@ -3,7 +3,7 @@ use Rattle.std.specs.Prelude.{codes, [], ◌∷◌}
 use Rattle.std.specs.Fmt.{decimal}
 use Rattle.sim_scenario.specs.Scenario.{Fault}
 use Rattle.sim_script.specs.Script.{Text}
-use Rattle.sim_replies.specs.Lines.{spaced, line}
+use Rattle.sim_answers.specs.Lines.{spaced, line}
 
 -- the line of a script is no command
 abbrev pub bad_line : Text

@@ -1,44 +1,19 @@
 -- The reading of a scenario, and what is left afterwards.
-use Rattle.std.specs.Prelude.{◌≡◌, List, [], ◌++◌, Option, Some, string_bytes, Ok, length, ◌<◌}
+use Rattle.std.specs.Prelude.{◌≡◌, List, [], ◌++◌, Option, Some, Ok}
 use Rattle.std.specs.Io.KnownBytes.{Appends, prepend_known}
 use Rattle.sim_lines.specs.Cut.{head_of}
 use Rattle.sim_lines.specs.Left.{AppendsPart}
 use Rattle.sim_lines.specs.Taken.{HasNoMarker}
 use Rattle.sim_lines.specs.Waiting.{Waiting}
-use Rattle.sim_scenario.specs.Scenario.{Protocol, ScenarioText, Fault as ScenarioFault}
-use Rattle.sim_scenario.specs.Hosts.{IsNumbered}
-use Rattle.sim_scenario.specs.Limits.{IsWithinLimits}
-use Rattle.sim_scenario.specs.Seen.{seen}
+use Rattle.sim_scenario.specs.Scenario.{Protocol, ScenarioText}
 use Rattle.sim_cli.specs.declared.opened.Opened.{Opened}
-use Rattle.sim_cli.specs.declared.scenario.WasRead.{WasRead}
-use Rattle.sim_cli.specs.declared.scenario.WasRead.TheVariants as was
 use Rattle.sim_cli.specs.declared.status.Status.{Status}
 use Rattle.sim_cli.specs.declared.status.Status.TheVariants.{Well, BadScenario, BadRequest}
 use Rattle.sim_cli.specs.declared.status.Status.TheVariants.{ReaderFailed, WriterFailed}
 use Rattle.sim_cli.specs.declared.status.Status.TheVariants.{MemoryWanted}
 use Rattle.sim_script.specs.Script.{Text}
-use Rattle.sim_cli.specs.Lines.{fault_line}
 use Rattle.sim_cli.specs.Play.{Nodes, ReadsHead, names_of, read_scenario, scenario}
 use Rattle.sim_cli.specs.Answers.{Faults}
-
--- a scenario that was read, or the line of a fault, or memory was wanted
-abbrev pub Reads : List Protocol → Text → WasRead → Type 0
-Reads protocols text (was.Scenario s) = read_scenario protocols text ≡ Ok (seen s)
-Reads protocols text (was.Fault line) = Faults protocols text (string_bytes line)
-Reads protocols text was.NoMemory = Unit {0}
-
--- a scenario that was read numbers its hosts in order, and is within the limits
-abbrev pub KeepsLimits : List Protocol → WasRead → Type 0
-KeepsLimits protocols (was.Scenario s) =
-    IsNumbered s.names × IsWithinLimits (seen s) × (s.protocol < length protocols)
-KeepsLimits protocols (was.Fault line) = Unit {0}
-KeepsLimits protocols was.NoMemory = Unit {0}
-
--- the line of this fault, or memory was wanted
-abbrev pub TellsFault : ScenarioFault → WasRead → Type 0
-TellsFault why (was.Scenario s) = ⊥
-TellsFault why (was.Fault line) = string_bytes line ≡ fault_line why
-TellsFault why was.NoMemory = Unit {0}
 
 -- the scenario's text was read, and this script is left
 pub record HeadIs (given : Text) (new : Option Text) (text : Text) : Type 0 where

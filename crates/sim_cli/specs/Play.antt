@@ -20,7 +20,7 @@ use Rattle.sim_book.specs.declared.NotTaken.{NotTaken}
 use Rattle.sim_book.specs.Book.{Book}
 use Rattle.sim_watch.specs.Commands.{branch_of}
 use Rattle.sim_book.specs.Answer.{answer}
-use Rattle.sim_replies.specs.Lines.{line, reply_words, turn_line}
+use Rattle.sim_answers.specs.Lines.{line, reply_words, turn_line}
 use Rattle.sim_cli.specs.declared.status.Status.{Status}
 use Rattle.sim_cli.specs.declared.status.Status.TheVariants.{Well, BadScenario, BadRequest}
 use Rattle.sim_cli.specs.declared.status.Status.TheVariants.{ReaderFailed, WriterFailed}

@@ -5,7 +5,7 @@ use Rattle.std.specs.Prelude.{Err, MatchResult}
 use Rattle.std.specs.Io.KnownBytes.{prepend_known}
 use Rattle.std.specs.Str.Lines.{lines}
 use Rattle.sim_lines.specs.Cut.{head_of, Shows}
-use Rattle.sim_lines.specs.Left.{Passes, PassesSome}
+use Rattle.sim_lines.specs.Left.{Passes}
 use Rattle.sim_lines.specs.Waiting.{CountsReads, Waiting}
 use Rattle.sim_world.specs.Events.{Rules}
 use Rattle.sim_watch.specs.declared.command.Command.{Command}
@@ -23,14 +23,11 @@ use Rattle.sim_script.specs.Script.{Text, Names, script_line}
 use Rattle.sim_cli.specs.declared.fault.LineFault.{LineFault}
 use Rattle.sim_cli.specs.declared.fault.LineFault.TheVariants as fault
 use Rattle.sim_cli.specs.declared.fault.ScriptFault.{ScriptFault}
-use Rattle.sim_cli.specs.declared.strictly.Halt.{Halt}
-use Rattle.sim_cli.specs.declared.strictly.Halt.TheVariants as halt
 use Rattle.sim_cli.specs.declared.status.Status.{Status}
 use Rattle.sim_cli.specs.declared.status.Status.TheVariants as status
 use Rattle.sim_cli.specs.Turns.{Course, beginning, most_entries}
 use Rattle.sim_cli.specs.Play.{Ended, Nodes, Played, Plays, PlaysOn, end_from, names_of, out_from}
 use Rattle.sim_cli.specs.Play.{plain_next, plain_text, read_scenario}
-use Rattle.sim_cli.specs.Answers.{Finishes, GivesPart}
 use Rattle.sim_cli.specs.Subjects.{Ports}
 
 -- ---- a turn that was at fault
@@ -108,19 +105,6 @@ module _ {State Msg : Type 0} (r : Rules State Msg) (names : Names) where
     pub passes : Passes held holds waiting (plain_text r names old line) left
     pub next : new ≡ plain_next r names old line
 
-  -- A line was answered, one not at fault or one at fault. Or the writer failed, or memory was
-  -- wanted and nothing more was handed over.
-  abbrev pub AnswersStrictly : {T : Type 0} → Course → Course → ScriptLine → Option Text
-      → Option Text → Text → Text → Result T Halt → Type 0
-  AnswersStrictly old new line held holds waiting left (Ok _) =
-      (is_well old line ≡ true) × GivesPlain old new line held holds waiting left
-  AnswersStrictly old new line held holds waiting left (Err (halt.Fault why)) =
-      Explains old line why × GivesPlain old new line held holds waiting left
-  AnswersStrictly old new line held holds waiting left (Err halt.WriterFailed) =
-      GivesPart r names old line held holds waiting
-  AnswersStrictly old new line held holds waiting left (Err halt.MemoryWanted) =
-      Passes held holds waiting [] left
-
   -- ---- a strict play
 
   -- The output of a strict play of a script, and how it ends: as a play in which no line is at
@@ -149,19 +133,6 @@ module _ {State Msg : Type 0} (r : Rules State Msg) (names : Names) where
       PlaysOn r names old script ahead left status.WriterFailed written
   PlaysStrictly old script ahead left status.MemoryWanted written =
       PlaysOn r names old script ahead left status.MemoryWanted written
-
--- What waited was written, and the result is the fault of the line; or the play ends with the
--- status of the writer's failure or of want of memory.
-abbrev pub Halts : Option Text → Option Text → Text → ℕ → Text → Halt → Result Status ScriptFault
-    → Type 0
-Halts held holds waiting number text halt.WriterFailed result =
-    (result ≡ Ok status.WriterFailed) × (holds ≡ held)
-Halts held holds waiting number text halt.MemoryWanted result = (ended : Status)
-    × (result ≡ Ok ended) × Finishes held holds waiting status.MemoryWanted ended
-Halts held holds waiting number text (halt.Fault why) (Ok ended) =
-    (ended ≡ status.WriterFailed) × PassesSome held holds waiting []
-Halts held holds waiting number text (halt.Fault why) (Err f) = (f.number ≡ number)
-    × (f.text.items ≡ text) × (f.why ≡ why) × Passes held holds waiting [] []
 
 -- a script was played strictly over nodes with these rules
 pub record PlaysScriptStrictly {State Msg : Type 0} (r : Rules State Msg) (names : Names)

@@ -7,10 +7,10 @@ ghost use Rattle.sim_script.specs.Script.{script_line};
 ghost use Rattle.sim_cli.specs.Turns.{course_of};
 ghost use Rattle.sim_cli.specs.Following.{Follows, FollowsLine, StopsScript};
 
-use crate::answering::turn_of;
 use crate::fault::{LineFault, fault_of_turn, tells_want};
 use crate::status::Status;
 use crate::stop::{LineStop, ScriptStop};
+use crate::turn::turn_of;
 use sim_book::Book;
 use sim_lines::{Ahead, NextLine, next_line};
 use sim_node::Node;

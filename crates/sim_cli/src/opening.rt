@@ -3,7 +3,7 @@ ghost use Rattle.std.specs.Prelude.{◌≡◌, ◌≤◌, ◌<◌, ℕ, List, So
 ghost use Rattle.std.specs.Prelude.{IfOk, IfErr, string_bytes};
 ghost use Rattle.std.specs.Io.KnownBytes.{prepend_known};
 ghost use Rattle.sim_lines.specs.Waiting.{CountsReads};
-ghost use Rattle.sim_scenario.specs.Hosts.{IsNumbered, names_in};
+ghost use Rattle.sim_scenario.specs.Hosts.{names_in};
 ghost use Rattle.sim_scenario.specs.Limits.{IsWithinLimits};
 ghost use Rattle.sim_scenario.specs.Seen.{seen};
 ghost use Rattle.sim_cli.specs.Answers.{Writes};
@@ -16,27 +16,40 @@ use crate::opened::Opened;
 use crate::scenario::{WasRead, read_scenario};
 use crate::status::{Answered, Status};
 use crate::subjects::Subjects;
+use indexmap::IndexMap;
 use sim_lines::{Ahead, HeadError, put, read_head};
 use sim_node::Setup;
 use sim_scenario::ScenarioText;
 use sim_script::Names;
 use sim_world::Scenario;
-use std::alloc::Global;
+use std::alloc::{AllocError, Global};
 use std::io::{Read, Write};
 
-/// Returns the scenario of a run and its names, from the text that was read and the names of the
-/// probes in the order of their numbers.
-pub fn set_up(text: ScenarioText, probes: Vec<String>) -> (Scenario, Names)
-    requires numbered { IsNumbered text.names }
+// Returns the names of the hosts in the order of their numbers. Fails only for want of memory.
+fn host_names(alloc: Global, hosts: IndexMap<String, u16>) -> Result<Vec<String>, AllocError>
+    ensures { IfOk result (λ names. map string_bytes names.items ≡ names_in hosts) }
+{
+    hosts.into_keys().collect(alloc)
+}
+
+// Returns the scenario of a run and its names, from the text that was read and the names of the
+// probes in the order of their numbers. Fails only for want of memory.
+fn set_up(
+    alloc: Global,
+    text: ScenarioText,
+    probes: Vec<String>,
+) -> Result<(Scenario, Names), AllocError>
     requires within { IsWithinLimits (seen text) }
     requires few { vec_len probes ≤ 255 }
-    ensures scenario { result.0 ≡ scenario (seen text) }
-    ensures names { result.1
-        ≡ record { hosts = names_in text.names; probes = map string_bytes probes.items } }
+    ensures scenario { IfOk result (λ r. r.0 ≡ scenario (seen text)) }
+    ensures names { IfOk result (λ r. r.1
+        ≡ record { hosts = names_in text.names; probes = map string_bytes probes.items }) }
 {
+    let hosts = text.names.len() as u16;
+    let names = host_names(alloc, text.names)?;
     let setup = Setup {
         servers: text.servers,
-        hosts: text.names.len() as u16,
+        hosts,
         ops: text.ops,
     };
     let Ok(scenario) = Scenario::new(
@@ -50,7 +63,7 @@ pub fn set_up(text: ScenarioText, probes: Vec<String>) -> (Scenario, Names)
     ) else {
         unreachable!()
     };
-    (scenario, Names::new(text.names, probes))
+    Ok((scenario, Names::new(names, probes)))
 }
 
 /// Writes `text` and flushes the writer. If the writer fails, it has taken some front of the text.
@@ -80,7 +93,6 @@ fn write_fault<W: Write>(writer: &mut W, line: &[u8]) -> Status
 // Returns the scenario that was read from `text`, with the names for nodes of its protocol. Fails
 // only for want of memory.
 fn ready<L: Subjects>(alloc: Global, said: ScenarioText, text: Vec<u8>) -> Result<Opened, Status>
-    requires numbered { IsNumbered said.names }
     requires within { IsWithinLimits (seen said) }
     requires known { said.protocol < length L.listed }
     ensures protocol { IfOk result (λ o. o.protocol ≡ said.protocol) }
@@ -94,7 +106,9 @@ fn ready<L: Subjects>(alloc: Global, said: ScenarioText, text: Vec<u8>) -> Resul
     let Ok(probes) = L::probe_names(alloc, protocol) else {
         return Err(Status::MemoryWanted);
     };
-    let (scenario, names) = set_up(said, probes);
+    let Ok((scenario, names)) = set_up(alloc, said, probes) else {
+        return Err(Status::MemoryWanted);
+    };
     Ok(Opened {
         protocol,
         scenario,

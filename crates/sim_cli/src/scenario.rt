@@ -1,6 +1,6 @@
 //! The scenario of a play.
 ghost use Rattle.std.specs.Prelude.{◌≤◌, length};
-ghost use Rattle.sim_cli.specs.Opens.{Reads, KeepsLimits, TellsFault};
+ghost use Rattle.sim_cli.specs.Reads.{Reads, KeepsLimits, TellsFault};
 
 use sim_scenario::{Protocols, ScenarioText};
 use std::alloc::Global;
@@ -10,7 +10,7 @@ pub const MAX_TEXT: usize = 65_536;
 
 /// A scenario that was read, or the reason why there is none.
 #[derive(Drop)]
-pub enum WasRead {
+pub(crate) enum WasRead {
     Scenario(ScenarioText),
     /// The line of the fault.
     Fault(String),
@@ -28,7 +28,7 @@ fn tell_fault(alloc: Global, number: u8, key: &str) -> WasRead
 }
 
 /// Reads the bytes of a scenario's text, which may name any of these protocols.
-pub fn read_scenario<P: Protocols>(alloc: Global, bytes: &[u8]) -> WasRead
+pub(crate) fn read_scenario<P: Protocols>(alloc: Global, bytes: &[u8]) -> WasRead
     requires few { length P.listed ≤ 255 }
     ensures reads { Reads P.listed bytes.now result }
     ensures within { KeepsLimits P.listed result }

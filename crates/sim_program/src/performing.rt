@@ -3,16 +3,17 @@ ghost use Rattle.std.specs.Prelude.{◌≡◌, ◌≤◌, ℕ, Bool, false, List
 ghost use Rattle.sim_job.specs.CommandLine.{HasFewWorkers};
 ghost use Rattle.sim_job.specs.declared.wanted.Job.TheVariants as jobs;
 ghost use Rattle.sim_cli.specs.Play.{Ended, IsWithinReads};
-ghost use Rattle.sim_cli.specs.Plain.{IsDone, IsPlain};
+ghost use Rattle.sim_play.specs.Plain.{IsDone, IsPlain};
 ghost use Rattle.sim_cli.specs.Subjects.{nodes_by};
 ghost use Rattle.sim_hunt.specs.Hunts.{area_of};
 ghost use Rattle.sim_hunt.specs.Outcomes.{form_of};
 ghost use Rattle.sim_program.specs.Jobs.{Performed};
 
-use sim_cli::{Status, play, play_strictly};
+use sim_cli::Status;
 use sim_hunt::{Area, Form, Hunt, PlannedRuns, Searchable, Swept, hunt_scenario};
 use sim_job::Job;
 use sim_page::{LogRange, PageRequest, write_log, write_page};
+use sim_play::{play, play_strictly};
 use sim_repro::{SeedRun, Shrink, write_run, write_shrunk};
 use std::alloc::Global;
 use std::io::{Read, Write};

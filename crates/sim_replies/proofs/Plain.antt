@@ -4,7 +4,7 @@ use Rattle.serde_json.specs.View.{items_of}
 use Rattle.serde_json.specs.Written.{has_float, items_have_float}
 use Rattle.sim_events.specs.declared.Event.{Event}
 use Rattle.sim_script.specs.Words.{Names}
-use Rattle.sim_replies.specs.Trace.{event_value, trace_value}
+use Rattle.sim_answers.specs.Trace.{event_value, trace_value}
 
 module _ (names : Names) where
   plain_events : (events : List Event) → items_have_float (items_of (map (event_value names) events)) ≡ false

@@ -1,5 +1,2 @@
--- The lines that answer turns.
-pub mod Spacing
+-- How a line is written from its end to its front.
 pub mod Ending
-pub mod Trace
-pub mod Lines

@@ -1,7 +1,7 @@
 //! An event as the words of its script line.
 ghost use Rattle.std.specs.Prelude.{◌≡◌, IfOk, Some};
 ghost use Rattle.serde_json.specs.View.{view};
-ghost use Rattle.sim_replies.specs.Trace.{fault_words, event_words, event_value as value_of};
+ghost use Rattle.sim_answers.specs.Trace.{fault_words, event_words, event_value as value_of};
 
 use serde_json::Value;
 use sim_script::Names;

@@ -5,8 +5,8 @@
 //! probes, and writes the line into bytes that the caller reuses. In a long play no common line
 //! allocates.
 //!
-//! The contract says that the line is the one of the definitions in `specs/Lines.antt`, for every
-//! reply, stop, refusal and view. The line of `trace` is JSON; it is, by the JSON library's own
+//! The contract says that the line is the one of the definitions in `sim_answers`, for every reply,
+//! stop, refusal and view. The line of `trace` is JSON; it is, by the JSON library's own
 //! definition, the compact text of the object with the keys `branch` and `events`.
 //!
 //! Why it is built this way:

@@ -1,7 +1,7 @@
 //! The lines that answer turns.
 ghost use Rattle.std.specs.Prelude.{◌≡◌, ℕ, ◌+◌, ◌≤◌, List, ◌∷◌, ◌++◌, OnOk};
-ghost use Rattle.sim_replies.specs.Lines.{line, move_words, reply_words, spaced, stop_words};
-ghost use Rattle.sim_replies.specs.Lines.{turn_line};
+ghost use Rattle.sim_answers.specs.Lines.{line, move_words, reply_words, spaced, stop_words};
+ghost use Rattle.sim_answers.specs.Lines.{turn_line};
 
 use crate::ending::Ending;
 use crate::named::{not_taken_name, refusal_name};

@@ -1,7 +1,7 @@
 //! The words of a reply's parts.
 ghost use Rattle.std.specs.Prelude.{◌≡◌};
-ghost use Rattle.sim_replies.specs.Lines.{refusal_words, not_taken_words, state_word, kind_word};
-ghost use Rattle.sim_replies.specs.Lines.{up_word, yes_word};
+ghost use Rattle.sim_answers.specs.Lines.{refusal_words, not_taken_words, state_word, kind_word};
+ghost use Rattle.sim_answers.specs.Lines.{up_word, yes_word};
 
 use sim_book::{NotTaken, Refusal};
 use sim_links::LinkState;

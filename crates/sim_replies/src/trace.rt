@@ -1,8 +1,8 @@
 //! The kept events of a branch as JSON.
 ghost use Rattle.std.specs.Prelude.{◌≡◌, ◌++◌, IfOk, OnOk, map};
 ghost use Rattle.serde_json.specs.View.{view};
-ghost use Rattle.sim_replies.specs.Trace.{event_value as value_of, trace_value as branch_value};
-ghost use Rattle.sim_replies.specs.Trace.{trace_words};
+ghost use Rattle.sim_answers.specs.Trace.{event_value as value_of, trace_value as branch_value};
+ghost use Rattle.sim_answers.specs.Trace.{trace_words};
 
 use crate::event::event_value;
 use serde_json::{Value, json};
@@ -37,7 +37,7 @@ fn trace_value(
 }
 
 /// Adds the kept events of a branch to the text, as JSON.
-#[tactic(auto, unfolding(crate::specs::Trace::trace_words))]
+#[tactic(auto, unfolding(sim_answers::specs::Trace::trace_words))]
 pub fn tell_trace(
     alloc: Global,
     text: &mut Vec<u8>,

@@ -1,7 +1,7 @@
 //! A view of a place, in words.
 ghost use Rattle.std.specs.Prelude.{◌≡◌, ℕ, ◌+◌, ◌≤◌, List, [], ◌∷◌, ◌++◌, codes, OnOk};
-ghost use Rattle.sim_replies.specs.Lines.{field, next_words, spaced, up_word, value_word};
-ghost use Rattle.sim_replies.specs.Lines.{view_words, yes_word};
+ghost use Rattle.sim_answers.specs.Lines.{field, next_words, spaced, up_word, value_word};
+ghost use Rattle.sim_answers.specs.Lines.{view_words, yes_word};
 
 use crate::ending::Ending;
 use crate::named::{kind_name, state_name, up_name, yes_name};

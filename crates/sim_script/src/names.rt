@@ -3,13 +3,11 @@ ghost use Rattle.std.specs.Prelude.{◌≡◌, ◌≤◌, ◌<◌, false, length
 ghost use Rattle.std.specs.Prelude.{IfNone, IsTrue};
 ghost use Rattle.std.specs.List.{position};
 ghost use Rattle.std.specs.Str.{bytes_eq};
-ghost use Rattle.sim_scenario.specs.Hosts.{IsNumbered, names_in};
 ghost use Rattle.sim_scenario.specs.Scenario.{is_name};
 ghost use Rattle.sim_script.specs.Words.{named, host, probe};
 ghost use Rattle.sim_script.specs.Words.{name_at, host_name, probe_name};
 
-use indexmap::IndexMap;
-use sim_scenario::{host_number, is_name};
+use sim_scenario::is_name;
 use std::marker::Model;
 
 /// The number for a name that no host has.
@@ -18,14 +16,16 @@ const NO_HOST: u16 = 65_535;
 /// The number for a name that no probe has.
 const NO_PROBE: u8 = 255;
 
-/// The names of the hosts, with their numbers, and of at most 255 probes, in the order of their
-/// numbers.
+/// The names of at most 32 hosts and of at most 255 probes, in the order of their numbers.
+///
+/// The hosts are in a list, since each crate that uses names would load the contracts of a map to
+/// prove itself. For 32 names a look through the list takes no longer than a hash.
 pub struct Names {
-    hosts: IndexMap<String, u16>,
+    hosts: Vec<String>,
     probes: Vec<String>,
 }
 
-// Not derived: a crate that drops names would prove the drop of the map's parts again.
+// Not derived: a crate that drops names would prove the drop of the lists again.
 impl Drop for Names {
     fn drop(self) {
         let Names {
@@ -37,17 +37,16 @@ impl Drop for Names {
 
 impl Model for Names {
     ghost use Rattle.std.specs.Prelude.{◌≤◌, length, map, string_bytes};
-    ghost use Rattle.sim_scenario.specs.Hosts.{IsNumbered, names_in};
     ghost use Rattle.sim_script.specs.Words.{Names as NamesValue};
 
     ghost Value = { NamesValue };
 
     ghost view = { λ n. record {
-      hosts = names_in n.hosts;
+      hosts = map string_bytes n.hosts.items;
       probes = map string_bytes n.probes.items;
     } };
 
-    ghost invariant = { λ n. IsNumbered n.hosts × (length n.probes.items ≤ 255) };
+    ghost invariant = { λ n. (length n.hosts.items ≤ 32) × (length n.probes.items ≤ 255) };
 }
 
 /// Returns a word as text if it is a name: 1 to 16 small letters and digits, the first a letter.
@@ -86,12 +85,13 @@ fn name_of(names: &[String], number: usize) -> &str
 }
 
 impl Names {
-    /// Makes a table of the names of hosts, with their numbers, and of at most 255 probes.
-    pub fn new(hosts: IndexMap<String, u16>, probes: Vec<String>) -> Names
-        requires hosts { IsNumbered hosts }
+    /// Makes a table of the names of at most 32 hosts and of at most 255 probes, both in the order
+    /// of their numbers.
+    pub fn new(hosts: Vec<String>, probes: Vec<String>) -> Names
+        requires hosts { length hosts.items ≤ 32 }
         requires probes { length probes.items ≤ 255 }
         ensures { result ≡ record {
-          hosts = names_in hosts;
+          hosts = map string_bytes hosts.items;
           probes = map string_bytes probes.items;
         } }
     {
@@ -100,13 +100,13 @@ impl Names {
 
     /// Returns the number of the host that the word names, or 65,535 if no host has this name.
     /// Returns `None` if the word is no name.
-    #[tactic(auto, unfolding(crate::specs::Words::named), using(crate::proofs::Naming::position_same))]
+    #[tactic(auto, unfolding(crate::specs::Words::named))]
     pub fn host(&self, word: &[u8]) -> Option<u16>
         ensures { result ≡ host self.now word.now }
     {
-        let name = name_in(word)?;
-        match host_number(&self.hosts, name) {
-            Some(number) => Some(number),
+        name_in(word)?;
+        match position_of(self.hosts.as_slice(), word) {
+            Some(number) => Some(number as u16),
             None => Some(NO_HOST),
         }
     }
@@ -128,10 +128,7 @@ impl Names {
     pub fn host_name(&self, host: u16) -> &str
         ensures { result.now ≡ host_name self.now host }
     {
-        match sim_scenario::host_name(&self.hosts, host) {
-            Some(name) => name,
-            None => "",
-        }
+        name_of(self.hosts.as_slice(), usize::from(host))
     }
 
     /// Returns the name of a probe, or an empty text if there is no such probe.

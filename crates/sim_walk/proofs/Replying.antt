@@ -11,7 +11,7 @@ use Rattle.sim_book.specs.Kept.{BookView, all_shown}
 use Rattle.sim_watch.specs.declared.command.Command.{Command}
 use Rattle.sim_book.specs.declared.Entry.{Entry}
 use Rattle.sim_book.specs.declared.NotTaken.{NotTaken}
-use Rattle.sim_replies.specs.Lines.{turn_line}
+use Rattle.sim_answers.specs.Lines.{turn_line}
 use Rattle.sim_cli.specs.Turns.{Takes, course_of}
 use Rattle.sim_walk.specs.Accounts.{Accounts}
 use Rattle.sim_walk.specs.declared.desk.Answer.{Answer}

@@ -11,7 +11,7 @@ use Rattle.sim_book.specs.declared.Entry.{Entry}
 use Rattle.sim_book.specs.declared.NotTaken.{NotTaken}
 use Rattle.sim_book.specs.Book.{branch}
 use Rattle.sim_watch.specs.Commands.{branch_of}
-use Rattle.sim_replies.specs.Lines.{turn_line}
+use Rattle.sim_answers.specs.Lines.{turn_line}
 use Rattle.sim_cli.specs.Turns.{Course, Takes}
 use Rattle.sim_walk.specs.declared.account.Account.{Account}
 use Rattle.sim_walk.specs.declared.desk.Answer.{Answer}

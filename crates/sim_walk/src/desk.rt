@@ -5,7 +5,7 @@ ghost use Rattle.sim_book.specs.Book.{branch as branch_in};
 ghost use Rattle.sim_watch.specs.Commands.{branch_of};
 ghost use Rattle.sim_book.specs.Kept.{all_shown};
 ghost use Rattle.sim_cli.specs.Turns.{course_of, Takes};
-ghost use Rattle.sim_replies.specs.Lines.{turn_line};
+ghost use Rattle.sim_answers.specs.Lines.{turn_line};
 ghost use Rattle.sim_walk.specs.Accounts.{Accounts, IsWithin};
 ghost use Rattle.sim_walk.specs.Walks.{TakesTurn, Stays, Walks};
 

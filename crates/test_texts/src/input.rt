@@ -22,29 +22,13 @@
 //!   wrong one; a name that does not exist and is not found.
 mod mistakes;
 
-ghost use Rattle.std.specs.Prelude.{◌≡◌, codes, [], ◌∷◌, vec_len, IfOk};
+ghost use Rattle.std.specs.Prelude.{◌≡◌, vec_len, IfOk};
 
 use sim_input::{LineError, push_condition, script};
-use sim_scenario::Protocols;
 use sim_script::{Names, condition_of};
 use sim_world::{Event, Fault};
 use std::alloc::{AllocError, Global};
 use std::test::Fail;
-
-const SCENARIO: &str = "format = 1
-seed = \"0000000000000000000000000000000000000000000000000000000000000000\"
-protocol = \"echo\"
-tick = 100
-latency_min = 5
-latency_max = 5
-loss = 0
-servers = [\"a\", \"b1\"]
-checkpoint = 4
-window = 4
-[[client]]
-name = \"w\"
-ops = 1
-";
 
 /// Conditions with each kind of term, and each sign.
 const CONDITIONS: [&str; 3] = [
@@ -52,27 +36,6 @@ const CONDITIONS: [&str; 3] = [
     "count num >= a.num = 3 and all val != 9999999999999999999 or differ val unless 1",
     "up a and b1.val > 0 or done w and not done b1 or agree num unless 12",
 ];
-
-/// The protocol that the scenario names.
-struct Echo;
-
-impl Protocols for Echo {
-    ghost listed = { record { name = codes "echo"; least_servers = 1 } ∷ [] };
-
-    fn named(name: &str) -> Option<usize> {
-        match name {
-            "echo" => Some(0),
-            _ => None,
-        }
-    }
-
-    fn least_servers(place: usize) -> usize {
-        match place {
-            0 => 1,
-            _ => 0,
-        }
-    }
-}
 
 /// The lines of the events below.
 const SCRIPT: &str = "step
@@ -102,22 +65,22 @@ fn events() -> [Event; 10] {
     ]
 }
 
-fn probes(alloc: Global) -> Result<Vec<String>, AllocError>
-    ensures { IfOk result (λ probes. vec_len probes ≡ 3) }
+/// Returns three owned texts.
+fn three(alloc: Global, texts: [&str; 3]) -> Result<Vec<String>, AllocError>
+    ensures { IfOk result (λ owned. vec_len owned ≡ 3) }
 {
-    let mut probes = Vec::new(alloc);
-    probes.push(String::from_str(alloc, "next")?)?;
-    probes.push(String::from_str(alloc, "num")?)?;
-    probes.push(String::from_str(alloc, "val")?)?;
-    Ok(probes)
+    let mut owned = Vec::new(alloc);
+    owned.push(String::from_str(alloc, texts[0])?)?;
+    owned.push(String::from_str(alloc, texts[1])?)?;
+    owned.push(String::from_str(alloc, texts[2])?)?;
+    Ok(owned)
 }
 
+/// Returns the names of two servers and a client, and of three probes.
 pub fn names(alloc: Global) -> Result<Names, AllocError> {
-    let probes = probes(alloc)?;
-    match sim_scenario::read::<Echo>(alloc, SCENARIO) {
-        Ok(text) => Ok(Names::new(text.names, probes)),
-        Err(_) => Err(AllocError),
-    }
+    let hosts = three(alloc, ["a", "b1", "w"])?;
+    let probes = three(alloc, ["next", "num", "val"])?;
+    Ok(Names::new(hosts, probes))
 }
 
 /// Returns whether the event alone has no line.

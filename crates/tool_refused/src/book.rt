@@ -54,8 +54,8 @@ fn checked_turn(
 }
 
 /// Returns the lines of the script's answers.
-pub fn lines(alloc: Global) -> Result<String, Trouble> {
-    let (scenario, names) = opening(alloc)?;
+pub fn lines<H: Eprint>(host: &H, alloc: Global) -> Result<String, Trouble> {
+    let (scenario, names) = opening(host, alloc)?;
     let mut book = Book::<Nodes>::new(alloc, &scenario, Tally::new())?;
     let mut text = String::new(alloc);
     for line in SCRIPT.lines() {

@@ -57,9 +57,9 @@ fn again<T, F: Fn() -> Result<T, Trouble>>(attempt: F) -> Result<T, Trouble>
 }
 
 /// Returns the lines of a book. Checks that a second book gives the same lines.
-fn told(alloc: Global) -> Result<String, Trouble> {
-    let first = again(|| book::lines(alloc))?;
-    let second = again(|| book::lines(alloc))?;
+fn told<H: Eprint>(host: &H, alloc: Global) -> Result<String, Trouble> {
+    let first = again(|| book::lines(host, alloc))?;
+    let second = again(|| book::lines(host, alloc))?;
     if first.as_str() != second.as_str() {
         return Err(Trouble::Wrong);
     }
@@ -67,7 +67,7 @@ fn told(alloc: Global) -> Result<String, Trouble> {
 }
 
 fn main(rt: HostRuntime) -> io::Result<ExitCode> {
-    match told(rt.alloc()) {
+    match told(&rt, rt.alloc()) {
         Ok(lines) => {
             print!(rt; "{lines}")?;
             Ok(ExitCode::from(0))

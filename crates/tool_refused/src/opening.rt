@@ -1,7 +1,8 @@
 //! The scenario, the script, and the names of both.
 use crate::Trouble;
 use sim_book::{Command, Entry, NotTaken, Refusal, Reply};
-use sim_cli::{BackupSubject, Only, Subjects, Tally, WasRead, read_scenario, set_up};
+use sim_cli::{BackupSubject, Only, Status, Tally, open};
+use sim_lines::Ahead;
 use sim_protocols::PrimaryBackup;
 use sim_replies::tell_turn;
 use sim_script::{Names, ScriptLine, line_of};
@@ -31,6 +32,7 @@ window = 2
 [[client]]
 name = "c"
 ops = 2
+---
 "#;
 
 /// A script with each command, and with looks at its three branches at the end.
@@ -83,14 +85,14 @@ trace
 ";
 
 /// Returns the scenario and the names.
-pub fn opening(alloc: Global) -> Result<(Scenario, Names), Trouble> {
-    match read_scenario::<Listed>(alloc, SCENARIO.as_bytes()) {
-        WasRead::Scenario(text) => {
-            let probes = Listed::probe_names(alloc, text.protocol)?;
-            Ok(set_up(text, probes))
-        }
-        WasRead::Fault(_) => Err(Trouble::Wrong),
-        WasRead::NoMemory => Err(Trouble::NoMemory),
+pub fn opening<H: Eprint>(host: &H, alloc: Global) -> Result<(Scenario, Names), Trouble> {
+    let mut reader = SCENARIO.as_bytes();
+    let mut ahead = Ahead::new();
+    let mut writer = Vec::new(alloc);
+    match open::<Listed, H, _, _>(host, alloc, &mut reader, &mut ahead, &mut writer) {
+        Ok(opened) => Ok((opened.scenario, opened.names)),
+        Err(Status::MemoryWanted) => Err(Trouble::NoMemory),
+        Err(_) => Err(Trouble::Wrong),
     }
 }
 

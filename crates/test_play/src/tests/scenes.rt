@@ -1,6 +1,7 @@
 //! A scenario, plays of it, and plays of rows of text.
 use super::ports::{Narrow, Pieces, Quiet};
-use sim_cli::{Shipped, Status, play};
+use sim_cli::{Shipped, Status};
+use sim_play::play;
 use std::alloc::Global;
 use std::process::Abort;
 use std::test::Fail;

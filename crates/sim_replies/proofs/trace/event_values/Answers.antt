@@ -1,6 +1,6 @@
 use Rattle.std.proofs.Common.{◌≡◌, ◌++◌, ◌∷◌, [], sym, None, slice_get, rules}
 use Rattle.serde_json.specs.View.{view}
-use Rattle.sim_replies.specs.Trace.{event_value}
+use Rattle.sim_answers.specs.Trace.{event_value}
 use Rattle.sim_replies.proofs.Shown.{next_value, no_value}
 use Rattle.sim_replies.proofs.trace.event_values.Goals as goal
 use Rattle.sim_replies.proofs.trace.event_values.Goals.{in-Some+in_ok-event_value+in_ok-push, in_default}

@@ -1,6 +1,6 @@
 use Rattle.std.proofs.Common.{◌≡◌, take, map}
 use Rattle.serde_json.specs.View.{view}
-use Rattle.sim_replies.specs.Trace.{event_value}
+use Rattle.sim_answers.specs.Trace.{event_value}
 use Rattle.sim_replies.proofs.trace.event_values.Given as goal
 
 abbrev pub invariant-loop-i : goal.invariant-loop-i

@@ -1,7 +1,7 @@
 use Rattle.std.proofs.Common.{rules, ◌≡◌, ◌∙◌, ap, ◌++◌, OnOk, string_bytes}
 use Rattle.serde_json.specs.View.{view}
 use Rattle.serde_json.specs.Written.{compact_text, has_float}
-use Rattle.sim_replies.specs.Trace.{trace_value, trace_words}
+use Rattle.sim_answers.specs.Trace.{trace_value, trace_words}
 use Rattle.sim_replies.proofs.Plain.{is_plain}
 use Rattle.sim_replies.proofs.trace.tell_trace.Goals as goal
 
