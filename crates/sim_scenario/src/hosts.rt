@@ -21,7 +21,13 @@ use toml::{Table, Value};
 pub fn is_name(text: &str) -> bool
     ensures { result ≡ scenario.is_name text.now }
 {
-    let bytes = text.as_bytes();
+    are_bytes_of_name(text.as_bytes())
+}
+
+/// Returns whether these are the bytes of a name.
+pub fn are_bytes_of_name(bytes: &[u8]) -> bool
+    ensures { result ≡ scenario.is_name bytes.now }
+{
     bytes.len() <= 16 && begins_with_letter(bytes) && are_name_bytes(bytes)
 }
 

@@ -41,7 +41,7 @@ ghost use Rattle.sim_scenario.specs.Scenario as scenario;
 ghost use Rattle.sim_scenario.specs.Scenario.{Protocol};
 
 pub use fault::{Key, ScenarioFault};
-pub use hosts::{host_name, host_number, is_name};
+pub use hosts::{are_bytes_of_name, host_name, host_number, is_name};
 use indexmap::IndexMap;
 pub use reading::read;
 use sim_links::Ways;

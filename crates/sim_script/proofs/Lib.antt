@@ -2,7 +2,6 @@
 pub mod FirstWords
 pub mod Numbers
 pub mod Positions
-pub mod Naming
 pub mod Joining
 pub mod Picking
 pub mod Dotted

@@ -1,13 +1,11 @@
 //! The names of hosts and probes, with their numbers.
-ghost use Rattle.std.specs.Prelude.{◌≡◌, ◌≤◌, ◌<◌, false, length, map, string_bytes, IfSome};
-ghost use Rattle.std.specs.Prelude.{IfNone, IsTrue};
+ghost use Rattle.std.specs.Prelude.{◌≡◌, ◌≤◌, ◌<◌, length, map, string_bytes, IfSome};
 ghost use Rattle.std.specs.List.{position};
 ghost use Rattle.std.specs.Str.{bytes_eq};
-ghost use Rattle.sim_scenario.specs.Scenario.{is_name};
 ghost use Rattle.sim_script.specs.Words.{named, host, probe};
 ghost use Rattle.sim_script.specs.Words.{name_at, host_name, probe_name};
 
-use sim_scenario::is_name;
+use sim_scenario::are_bytes_of_name;
 use std::marker::Model;
 
 /// The number for a name that no host has.
@@ -47,17 +45,6 @@ impl Model for Names {
     } };
 
     ghost invariant = { λ n. (length n.hosts.items ≤ 32) × (length n.probes.items ≤ 255) };
-}
-
-/// Returns a word as text if it is a name: 1 to 16 small letters and digits, the first a letter.
-fn name_in(word: &[u8]) -> Option<&str>
-    ensures named { IfSome result (λ name. (name.now ≡ word.now) × IsTrue (is_name word.now)) }
-    ensures not { IfNone result (is_name word.now ≡ false) }
-{
-    let Ok(name) = str::from_utf8(word) else {
-        return None;
-    };
-    if is_name(name) { Some(name) } else { None }
 }
 
 /// Returns the number of the first name that equals the word.
@@ -104,7 +91,9 @@ impl Names {
     pub fn host(&self, word: &[u8]) -> Option<u16>
         ensures { result ≡ host self.now word.now }
     {
-        name_in(word)?;
+        if !are_bytes_of_name(word) {
+            return None;
+        }
         match position_of(self.hosts.as_slice(), word) {
             Some(number) => Some(number as u16),
             None => Some(NO_HOST),
@@ -117,7 +106,9 @@ impl Names {
     pub fn probe(&self, word: &[u8]) -> Option<u8>
         ensures { result ≡ probe self.now word.now }
     {
-        name_in(word)?;
+        if !are_bytes_of_name(word) {
+            return None;
+        }
         match position_of(self.probes.as_slice(), word) {
             Some(number) => Some(number as u8),
             None => Some(NO_PROBE),
