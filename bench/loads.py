@@ -7,8 +7,8 @@
 A crate is proved over the statements of the libraries below it: all that can be cited of them. They
 have whatever a public item mentions, private fields too, and of each type so mentioned the clauses
 of all its public methods and impls. So one field of a type of the kit can cost each crate above
-tens of megabytes, at some five to a second of processor time, and again in the statements of that
-crate. It costs nothing to use such a type in private functions alone.
+tens of megabytes, at some three to five to a second of processor time, and again in the statements
+of that crate. It costs nothing to use such a type in private functions alone.
 
 `rt ci` leaves the statements in crates/NAME/out of a checkout where nothing was built before, so run
 this after it in a fresh clone.
