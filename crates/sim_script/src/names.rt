@@ -1,5 +1,6 @@
 //! The names of hosts and probes, with their numbers.
-ghost use Rattle.std.specs.Prelude.{◌≡◌, ◌≤◌, ◌<◌, length, map, string_bytes, IfSome};
+ghost use Rattle.std.specs.Prelude.{◌≡◌, ◌≤◌, ◌<◌, ◌-◌, length, map, string_bytes, IfSome};
+ghost use Rattle.std.specs.Prelude.{slice_index};
 ghost use Rattle.std.specs.List.{position};
 ghost use Rattle.std.specs.Str.{bytes_eq};
 ghost use Rattle.sim_script.specs.Words.{named, host, probe};
@@ -17,7 +18,7 @@ const NO_PROBE: u8 = 255;
 /// The names of at most 32 hosts and of at most 255 probes, in the order of their numbers.
 ///
 /// The hosts are in a list, since each crate that uses names would load the contracts of a map to
-/// prove itself. For 32 names a look through the list takes no longer than a hash.
+/// prove itself.
 pub struct Names {
     hosts: Vec<String>,
     probes: Vec<String>,
@@ -47,13 +48,26 @@ impl Model for Names {
     ghost invariant = { λ n. (length n.hosts.items ≤ 32) × (length n.probes.items ≤ 255) };
 }
 
-/// Returns the number of the first name that equals the word.
+/// Returns whether a name is a word, whose last byte is `last`. Looks at the lengths and the last
+/// bytes first: by these most names of hosts differ.
+#[inline(always)]
+fn is_word(name: &[u8], word: &[u8], last: u8) -> bool
+    requires some { 0 < length word.now }
+    requires last { slice_index word.now (length word.now - 1) ≡ last }
+    ensures { result ≡ bytes_eq word.now name.now }
+{
+    name.len() == word.len() && name[name.len() - 1] == last && word == name
+}
+
+/// Returns the number of the first name that equals the word, which has a byte or more.
 fn position_of(names: &[String], word: &[u8]) -> Option<usize>
+    requires { 0 < length word.now }
     ensures is { result ≡ position (bytes_eq word.now) (map string_bytes names.now) }
     ensures within { IfSome result (λ number. number < length names.now) }
 {
+    let last = word[word.len() - 1];
     for (i, name) in names.iter().enumerate() {
-        if word == name.as_bytes() {
+        if is_word(name.as_bytes(), word, last) {
             return Some(i);
         }
     }

@@ -6,16 +6,16 @@ use Rattle.sim_script.proofs.names.position_of.Goals as goal
 pub loop-i-init : goal.loop-i-init
 loop-i-init c = at_start string_bytes (bytes_eq c.args.word.now) c.args.names.now
 
-pub returns-then-eq-clause-is : goal.returns-then-eq-clause-is
-returns-then-eq-clause-is c =
+pub returns-then-is_word-clause-is : goal.returns-then-is_word-clause-is
+returns-then-is_word-clause-is c =
     let same : bytes_eq c.args.word.now (string_bytes c.index-names-i.result) ≡ true =
-    ap (bytes_eq c.args.word.now) (sym c.as_bytes.ensures.value) ∙ sym c.eq.ensures ∙ c.if-eq.true in
+    ap (bytes_eq c.args.word.now) (sym c.as_bytes.ensures.value) ∙ sym c.is_word.ensures ∙ c.if-is_word.true in
     at_found string_bytes (bytes_eq c.args.word.now) c.args.names.now c.loop-i.i c.index-names-i.result c.loop-i.invariant c.loop-i-test.true c.index-names-i.is same
 
 pub loop-i-preserved : goal.loop-i-preserved
 loop-i-preserved c =
     let other : bytes_eq c.args.word.now (string_bytes c.index-names-i.result) ≡ false =
-    ap (bytes_eq c.args.word.now) (sym c.as_bytes.ensures.value) ∙ sym c.eq.ensures ∙ c.if-eq.false in
+    ap (bytes_eq c.args.word.now) (sym c.as_bytes.ensures.value) ∙ sym c.is_word.ensures ∙ c.if-is_word.false in
     at_other string_bytes (bytes_eq c.args.word.now) c.args.names.now c.loop-i.i c.index-names-i.result c.loop-i.invariant c.loop-i-test.true c.index-names-i.is other
 
 pub returns-clause-is : goal.returns-clause-is
