@@ -1,8 +1,8 @@
 //! Finds places among the kept events of a branch.
 use crate::run::{Run, pass};
-use crate::terms::{fails_of, holds_of};
 use sim_book::Refusal;
 use sim_node::{NoMemory, Node};
+use sim_sight::{fails_of, holds_of};
 use sim_tally::FreshMeter;
 use sim_tape::{Frozen, Tape};
 use sim_watch::{Cond, Sought};

@@ -7,8 +7,8 @@
 //!
 //! A line becomes an order by the table of commands (`sim_orders`). The desk (`desk.rt`) carries it
 //! out on the book and returns an answer: the line that replies to a turn, its account
-//! (`account.rt`), and words. The words come from the run of the branch and from its world
-//! (`sim_inspect`).
+//! (`account.rt`), and words. The words come from the run of the branch (`sim_inspect`) and from its
+//! world (`sim_sight`).
 //!
 //! What is proved:
 //!

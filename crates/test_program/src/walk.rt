@@ -11,7 +11,7 @@
 //! - `a_state_with_long_lists`: a run of equal elements that stays, or that hides another element.
 //! - `a_fault_of_the_script`: a walk over a script at fault.
 use sim_cli::{Shipped, Status};
-use sim_inspect::shortened;
+use sim_sight::shortened;
 use sim_walk::{Style, walk};
 use std::alloc::Global;
 use std::process::Abort;

@@ -1,4 +1,7 @@
 //! Finds which terms of a condition fail, and shows the values that they name.
+ghost use Rattle.std.specs.Prelude.{◌≡◌, ◌&&◌, is_none, not};
+ghost use Rattle.sim_watch.specs.Condition.{fault_of, holds};
+
 use sim_input::push_condition;
 use sim_node::{NoMemory, Node};
 use sim_script::Names;
@@ -6,7 +9,10 @@ use sim_watch::{Comparison, Cond, Term, Value, holds};
 use sim_world::World;
 
 /// Returns whether a condition is usable in a world and holds there.
-pub(crate) fn holds_of<N: Node>(cond: &Cond, world: &World<N>) -> bool {
+pub fn holds_of<N: Node>(cond: &Cond, world: &World<N>) -> bool
+    ensures { result ≡ (is_none (fault_of world.now.scenario.setup.hosts N.PROBES cond.now)
+        && holds N.laws cond.now world.now.world) }
+{
     match cond.check(world.hosts(), N::PROBES) {
         Ok(()) => holds(cond, world),
         Err(_) => false,
@@ -14,7 +20,10 @@ pub(crate) fn holds_of<N: Node>(cond: &Cond, world: &World<N>) -> bool {
 }
 
 /// Returns whether a condition is usable in a world and fails there.
-pub(crate) fn fails_of<N: Node>(cond: &Cond, world: &World<N>) -> bool {
+pub fn fails_of<N: Node>(cond: &Cond, world: &World<N>) -> bool
+    ensures { result ≡ (is_none (fault_of world.now.scenario.setup.hosts N.PROBES cond.now)
+        && not (holds N.laws cond.now world.now.world)) }
+{
     match cond.check(world.hosts(), N::PROBES) {
         Ok(()) => !holds(cond, world),
         Err(_) => false,
