@@ -5,8 +5,8 @@
 //! by another implementation of these rules. They never come from the program's own output.
 //! `tests.rt` says what each test would catch.
 //!
-//! - `examples`, `torn`: each play of the folder `examples`, with its answers, but for that of the
-//!   counter, which is in `streams`.
+//! - `examples`: each play of the folder `examples`, with its answers, but for that of the counter,
+//!   which is in `streams`.
 //! - `rows`: small plays in both formats, for 15 pairs of checkpoint and window from the least to
 //!   the greatest. No pair may change a byte.
 //! - `lines`, `faults`, `probes`: lines of scripts, faults of scenarios, names of probes.

@@ -4,8 +4,8 @@
 //! What each test catches:
 //! - `examples`, `rows`: a command that is answered in other words, or by another world, of each
 //!   protocol, in both formats, for checkpoints and windows from the least to the greatest; a play
-//!   that wants memory for no reason. The examples are those of the folder `examples`; `torn` has
-//!   half of them, and `streams` that of the counter.
+//!   that wants memory for no reason. The examples are those of the folder `examples`, whose texts
+//!   are in `test_support`, and `streams` has that of the counter.
 //! - `full`: a table that is full early, or takes more than its limit; a trace of 5,000 events or
 //!   of a late branch that is cut off or has other events.
 //! - `faults`: a scenario that is read as another, or refused for another reason, or one that is
@@ -28,4 +28,3 @@ mod probes;
 mod rows;
 mod scenes;
 mod streams;
-mod torn;

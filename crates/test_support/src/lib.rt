@@ -9,7 +9,7 @@
 //! - [`applied`] and [`ran`] take events without rows.
 //! - [`Counts`] is a meter that counts at run time, which the program's own does not.
 //! - [`walks`], [`jobs`] and [`cases`] have the rows of `test_program`: inputs, and what is written
-//!   for them.
+//!   for them. [`examples`] has those of `test_play`, and [`scenes`] those of `test_runs`.
 //!
 //! A run there and back is one recursion: an event, the rest of the run, the undo. So no stack of
 //! records needs an invariant.
@@ -22,7 +22,9 @@ mod act;
 pub mod cases;
 mod counts;
 mod course;
+pub mod examples;
 pub mod jobs;
+pub mod scenes;
 mod setting;
 pub mod walks;
 

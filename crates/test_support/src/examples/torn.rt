@@ -1,5 +1,5 @@
 //! The plays of the folder `examples` in which a put comes to a host before its start, or a crash
-//! tears a write, laid out as in `examples`.
+//! tears a write, laid out as in `plain`.
 
 /// Plays, each after `^` and its name; after `~` its answers, which are separated by `; `.
 pub const TORN: &str = r#"^early-put
