@@ -1,8 +1,8 @@
 //! Scenarios, the protocols of a program, and scripts whose answers nobody wants.
 //!
 //! - A [`Subject`] is a protocol with its name, its type of nodes and the names of their probes. A
-//!   program plays a list of subjects: [`Shipped`], or a list of its own, made by [`With`] and
-//!   [`Only`].
+//!   program plays a list of subjects: `Shipped` of `sim_shipped`, or a list of its own, made by
+//!   [`With`] and [`Only`].
 //! - A [`Task`] is done over nodes of any type, as a play. [`Subjects`] carries it out over the
 //!   nodes of the protocol that a scenario names, and [`open`] reads that scenario.
 //! - [`turn_of`] takes the turn that a line of a script asks for.
@@ -41,7 +41,6 @@ mod opening;
 mod reasons;
 mod scenario;
 mod script_run;
-mod shipped;
 mod status;
 mod stop;
 mod subjects;
@@ -54,7 +53,6 @@ pub use opened::Opened;
 pub use opening::{open, write_text};
 pub use reasons::report_condition;
 pub use script_run::{given_events, played};
-pub use shipped::{AbdSubject, BackupSubject, CommitSubject, EchoSubject, Shipped};
 pub use sim_tally::{FreshMeter, Tally};
 pub use status::{Answered, Status};
 pub use stop::ScriptStop;

@@ -23,8 +23,8 @@
 //! libraries below.
 #![tactic(auto)]
 
-use sim_cli::Shipped;
 use sim_program::run;
+use sim_shipped::Shipped;
 use std::process::ExitCode;
 
 fn main(rt: HostRuntime) -> ExitCode {

@@ -1,9 +1,9 @@
 //! Carries out jobs over texts, for the protocols that ship.
 ghost use Rattle.sim_job.specs.CommandLine.{HasFewWorkers};
 
-use sim_cli::Shipped;
 use sim_job::request;
 use sim_program::{Job, Status, perform};
+use sim_shipped::Shipped;
 use std::alloc::Global;
 use std::io;
 use std::io::{ErrorKind, Read};
@@ -28,7 +28,7 @@ impl Read for Text<'_> {
 }
 
 /// Returns the status and the output of a job over what a reader gives. All tests call `perform`
-/// here: the prover takes two minutes for each call of it over the protocols that ship.
+/// here: the prover takes long for each call of it over the protocols that ship.
 pub fn performed_over<R: Threads + Wait + Sync + Clock + Eprint>(
     rt: &R,
     alloc: Global,

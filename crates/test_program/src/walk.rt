@@ -10,7 +10,8 @@
 //! - `a_prompt`: a prompt with another branch, place, number of events or clock, or none.
 //! - `a_state_with_long_lists`: a run of equal elements that stays, or that hides another element.
 //! - `a_fault_of_the_script`: a walk over a script at fault.
-use sim_cli::{Shipped, Status};
+use sim_cli::Status;
+use sim_shipped::Shipped;
 use sim_sight::shortened;
 use sim_walk::{Style, walk};
 use std::alloc::Global;
@@ -22,7 +23,7 @@ use test_support::walks::{
 };
 
 // Returns the status and the output of a walk of this input by these commands. All tests call
-// `walk` here: the prover takes a minute for each call of it over the protocols that ship.
+// `walk` here: the prover takes long for each call of it over the protocols that ship.
 fn walked<R: Eprint>(
     rt: &R,
     alloc: Global,

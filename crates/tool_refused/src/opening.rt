@@ -1,11 +1,12 @@
 //! The scenario, the script, and the names of both.
 use crate::Trouble;
 use sim_book::{Command, Entry, NotTaken, Refusal, Reply};
-use sim_cli::{BackupSubject, Only, Status, Tally, open};
+use sim_cli::{Only, Status, Tally, open};
 use sim_lines::Ahead;
 use sim_protocols::PrimaryBackup;
 use sim_replies::tell_turn;
 use sim_script::{Names, ScriptLine, line_of};
+use sim_shipped::BackupSubject;
 use sim_world::Scenario;
 use std::alloc::Global;
 use std::str;

@@ -1,7 +1,8 @@
 //! A scenario, plays of it, and plays of rows of text.
 use super::ports::{Narrow, Pieces, Quiet};
-use sim_cli::{Shipped, Status};
+use sim_cli::Status;
 use sim_play::play;
+use sim_shipped::Shipped;
 use std::alloc::Global;
 use std::process::Abort;
 use std::test::Fail;
@@ -24,8 +25,8 @@ ops = 2
 ---
 "#;
 
-/// Plays what a reader gives. All tests but one call `play` here: the prover takes half a minute
-/// for each call of it over the protocols that ship.
+/// Plays what a reader gives. All tests but one call `play` here: the prover takes long for each
+/// call of it over the protocols that ship.
 pub fn play_shipped(alloc: Global, reader: &mut Pieces<'_>, writer: &mut Narrow<'_>) -> Status {
     play::<Shipped, _, _, _>(&Quiet, alloc, reader, writer)
 }

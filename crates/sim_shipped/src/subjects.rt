@@ -1,15 +1,12 @@
-//! The four protocols that ship.
-ghost use Rattle.std.specs.Prelude.{codes};
+//! The four protocols that ship, as subjects.
 ghost use Rattle.sim_protocols.specs.Probes.{probe_names};
-ghost use Rattle.sim_protocols.specs.declared.Protocol.TheVariants as shipped;
+ghost use Rattle.sim_protocols.specs.declared.Protocol.TheVariants as which;
+ghost use Rattle.sim_shipped.specs.Shipped.{of_echo, of_backup, of_abd, of_commit};
 
-use crate::subjects::{Only, Subject, With};
+use sim_cli::Subject;
 use sim_node::Node;
 use sim_protocols::{AbdRegister, Echo, PrimaryBackup, TwoPhase};
 use sim_tally::Tally;
-
-/// The protocols that ship, in the order of their places.
-pub type Shipped = With<EchoSubject, With<BackupSubject, With<AbdSubject, Only<CommitSubject>>>>;
 
 /// Echo: a server answers pings.
 pub struct EchoSubject;
@@ -30,9 +27,9 @@ impl Subject for EchoSubject {
 
     type Undo = <Echo<Tally> as Node>::Undo;
 
-    ghost protocol = { record { name = codes "echo"; least_servers = 1 } };
+    ghost protocol = { of_echo };
 
-    ghost probes = { probe_names shipped.Echo };
+    ghost probes = { probe_names which.Echo };
 
     fn name() -> &'static str {
         "echo"
@@ -54,9 +51,9 @@ impl Subject for BackupSubject {
 
     type Undo = <PrimaryBackup<Tally> as Node>::Undo;
 
-    ghost protocol = { record { name = codes "primary_backup"; least_servers = 2 } };
+    ghost protocol = { of_backup };
 
-    ghost probes = { probe_names shipped.PrimaryBackup };
+    ghost probes = { probe_names which.PrimaryBackup };
 
     fn name() -> &'static str {
         "primary_backup"
@@ -78,9 +75,9 @@ impl Subject for AbdSubject {
 
     type Undo = <AbdRegister<Tally> as Node>::Undo;
 
-    ghost protocol = { record { name = codes "abd"; least_servers = 1 } };
+    ghost protocol = { of_abd };
 
-    ghost probes = { probe_names shipped.AbdRegister };
+    ghost probes = { probe_names which.AbdRegister };
 
     fn name() -> &'static str {
         "abd"
@@ -102,9 +99,9 @@ impl Subject for CommitSubject {
 
     type Undo = <TwoPhase<Tally> as Node>::Undo;
 
-    ghost protocol = { record { name = codes "two_phase"; least_servers = 2 } };
+    ghost protocol = { of_commit };
 
-    ghost probes = { probe_names shipped.TwoPhase };
+    ghost probes = { probe_names which.TwoPhase };
 
     fn name() -> &'static str {
         "two_phase"

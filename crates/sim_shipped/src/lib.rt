@@ -1,0 +1,18 @@
+//! The protocols that ship, as a program plays them.
+//!
+//! - [`Shipped`] is the list of the four. `simback` plays it.
+//! - [`EchoSubject`], [`BackupSubject`], [`AbdSubject`] and [`CommitSubject`] are its members, for
+//!   a program whose list has some of them beside protocols of its own.
+//!
+//! `specs/Shipped.antt` defines the list and the nodes of each place.
+//!
+//! Why it is built this way: `Shipped` is a type of its own, and not made by `With` and `Only`. A
+//! crate that names such a list proves again all that its four nodes owe to the traits, and how
+//! they are dropped. This crate proves it once.
+#![tactic(auto)]
+
+mod shipped;
+mod subjects;
+
+pub use shipped::Shipped;
+pub use subjects::{AbdSubject, BackupSubject, CommitSubject, EchoSubject};
