@@ -3,6 +3,7 @@ ghost use Rattle.std.specs.Prelude.{◌≤◌, length};
 ghost use Rattle.sim_job.specs.CommandLine.{HasFewWorkers};
 
 use crate::performing::perform;
+use either::Either;
 use sim_cli::{Status, Subjects};
 use sim_hunt::Searchable;
 use sim_job::{Job, LineError, Request, request};
@@ -81,45 +82,49 @@ fn tell_fault<R: Eprint, F: Read + Drop>(rt: &R, name: &str, input: &InputFile<F
     }
 }
 
-// Carries out a job over the file of this name.
-fn run_file<L: Searchable, R: Threads + Wait + Sync + Clock + Files + Print + Eprint + AllocGlobal>(
-    rt: &R,
-    job: &Job<'_>,
-    name: &str,
-) -> Status
-    requires workers { HasFewWorkers job.now }
-    requires few { length L.listed ≤ 8 }
-{
-    let mut reader = match opened(rt, name) {
-        Ok(input) => input,
-        Err(status) => return status,
-    };
-    let mut writer = io::writer(rt);
-    let ended = perform::<L, R, _, _>(rt, rt.alloc(), job, &mut reader, &mut writer);
-    tell_fault(rt, name, &reader, ended);
-    ended
-}
+// What a job reads: a file, or the standard input.
+type Source<R> = Either<InputFile<<R as Files>::File>, <R as Input>::Reader>;
 
-// Carries out a job over the standard input. Says so on standard error if that is a terminal: a
-// word that was meant as the file may have been taken for another, and the program would wait in
-// silence.
-fn run_input<
-    L: Searchable,
-    R: Threads + Wait + Sync + Clock + Input + Print + Eprint + AllocGlobal,
->(rt: &R, job: &Job<'_>) -> Status
+// Returns the file of this name, or the standard input if there is no name. Says on standard error
+// if that is a terminal: a word that was meant as the file may have been taken for another, and the
+// program would wait in silence.
+fn source<R: Files + Input + Eprint>(rt: &R, name: Option<&str>) -> Result<Source<R>, Status>
 where
     R::Reader: IsTerminal,
-    requires workers { HasFewWorkers job.now }
-    requires few { length L.listed ≤ 8 }
 {
-    let mut reader = rt.reader();
+    if let Some(name) = name {
+        return Ok(Either::Left(opened(rt, name)?));
+    }
+    let reader = rt.reader();
     if reader.is_terminal() {
         let _told = eprintln!(rt;
             "reading the input from the terminal; to read a file, give its name as the last word"
         );
     }
+    Ok(Either::Right(reader))
+}
+
+// Carries out a job over the file of this name, or over the standard input. All jobs but walks read
+// one type, so that the code of a job is proved and compiled once.
+fn run_job<
+    L: Searchable,
+    R: Threads + Wait + Sync + Clock + Files + Input + Print + Eprint + AllocGlobal,
+>(rt: &R, job: &Job<'_>, name: Option<&str>) -> Status
+where
+    R::Reader: IsTerminal,
+    requires workers { HasFewWorkers job.now }
+    requires few { length L.listed ≤ 8 }
+{
+    let mut source = match source(rt, name) {
+        Ok(source) => source,
+        Err(status) => return status,
+    };
     let mut writer = io::writer(rt);
-    perform::<L, R, _, _>(rt, rt.alloc(), job, &mut reader, &mut writer)
+    let ended = perform::<L, R, _, _>(rt, rt.alloc(), job, &mut source, &mut writer);
+    if let (Some(name), Either::Left(input)) = (name, &source) {
+        tell_fault(rt, name, input, ended);
+    }
+    ended
 }
 
 // Walks over the file of this name, by commands on the standard input.
@@ -176,8 +181,7 @@ where
     };
     let ended = match (job, file) {
         (Job::Walk, Some(name)) => walk_file::<L, R>(rt, name),
-        (job, Some(name)) => run_file::<L, R>(rt, &job, name),
-        (job, None) => run_input::<L, R>(rt, &job),
+        (job, name) => run_job::<L, R>(rt, &job, name),
     };
     ended.number()
 }
