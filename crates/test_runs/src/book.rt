@@ -49,10 +49,40 @@ fn number(word: Option<&str>) -> u8 {
     word.unwrap_or("0").parse::<u8>().unwrap_or(255)
 }
 
-// Returns the command of a name, on a branch and with two numbers more.
-fn command(alloc: Global, name: &str, branch: u32, first: u8, second: u8) -> Result<Command, Fail> {
-    let (count, host, other) = (u32::from(first), u16::from(first), u16::from(second));
-    Ok(match name {
+// An order of a row: its name, its branch, and two numbers more.
+#[derive(Clone, Copy)]
+struct Order<'a> {
+    name: &'a str,
+    branch: u32,
+    first: u8,
+    second: u8,
+}
+
+// Returns the order that is written so.
+fn order_of(written: &str) -> Order<'_> {
+    let mut words = written.split(' ');
+    Order {
+        name: words.next().unwrap_or(""),
+        branch: u32::from(number(words.next())),
+        first: number(words.next()),
+        second: number(words.next()),
+    }
+}
+
+// Returns the command to watch a branch.
+fn watch(alloc: Global, branch: u32, cond: Cond) -> Result<Command, Fail> {
+    Ok(Command::Watch(branch, SharedCond::new(alloc, cond)?))
+}
+
+// Returns the command of an order.
+fn command(alloc: Global, order: Order<'_>) -> Result<Command, Fail> {
+    let (branch, second) = (order.branch, order.second);
+    let (count, host, other) = (
+        u32::from(order.first),
+        u16::from(order.first),
+        u16::from(second),
+    );
+    Ok(match order.name {
         "step" => Command::Step(branch),
         "tick" => Command::Tick(branch),
         "run" => Command::Run(branch, count),
@@ -66,11 +96,8 @@ fn command(alloc: Global, name: &str, branch: u32, first: u8, second: u8) -> Res
         "rewind" => Command::Rewind(branch, count),
         "cut" => Command::Cut(branch),
         "branch" => Command::Branch(branch, count),
-        "watch" => Command::Watch(
-            branch,
-            SharedCond::new(alloc, Cond::new().and(IS_PAST_ONE)?)?,
-        ),
-        "watch_nothing" => Command::Watch(branch, SharedCond::new(alloc, Cond::new())?),
+        "watch" => return watch(alloc, branch, Cond::new().and(IS_PAST_ONE)?),
+        "watch_nothing" => return watch(alloc, branch, Cond::new()),
         "unwatch" => Command::Unwatch(branch, count),
         "summary" => Command::Look(branch, Query::Summary),
         "next" => Command::Look(branch, Query::Next),
@@ -93,35 +120,66 @@ fn tell(told: &mut String, reply: &Reply) -> Result<(), AllocError> {
     }
 }
 
+// Writes the clock of a branch's world, whether a step can happen there, and whether its tape is
+// warm.
+fn tell_here(told: &mut String, book: &EchoBook, branch: u32) -> Result<(), AllocError> {
+    let here = book
+        .here(branch)
+        .map(|world| (world.clock(), world.can(Event::Step)));
+    write!(told, "{here:?} {:?}", book.warm(branch))
+}
+
+// Gives a book a command, and writes what the reply says; of a jump, also the work that it took.
+fn tell_turn(
+    alloc: Global,
+    told: &mut String,
+    book: &mut EchoBook,
+    order: Order<'_>,
+) -> Result<(), Fail> {
+    let before = book.meter().counted();
+    let entry = book.turn(alloc, 0, command(alloc, order)?)?;
+    tell(told, &entry.reply)?;
+    if order.name == "goto" {
+        write!(told, " by {:?}", book.meter().since(before))?;
+    }
+    Ok(())
+}
+
+// Gives a book an order, and writes the answer.
+fn tell_answer(
+    alloc: Global,
+    told: &mut String,
+    book: &mut EchoBook,
+    order: Order<'_>,
+) -> Result<(), Fail> {
+    match order.name {
+        "count" => write!(told, "{:?}", book.meter().counted())?,
+        "here" => tell_here(told, book, order.branch)?,
+        _ => tell_turn(alloc, told, book, order)?,
+    }
+    Ok(())
+}
+
 // Gives a book the order of a row, and compares the answer.
 fn goes_by(rt: &impl Abort, alloc: Global, book: &mut EchoBook, row: &str) -> Result<(), Fail> {
     let Some((order, want)) = row.split_once(": ") else {
         return Err(Fail::from("no answer"));
     };
-    let mut words = order.split(' ');
-    let name = words.next().unwrap_or("");
-    let branch = u32::from(number(words.next()));
-    let (first, second) = (number(words.next()), number(words.next()));
     let mut told = String::new(alloc);
-    match name {
-        "count" => write!(told, "{:?}", book.meter().counted())?,
-        "here" => {
-            let here = book
-                .here(branch)
-                .map(|world| (world.clock(), world.can(Event::Step)));
-            write!(told, "{here:?} {:?}", book.warm(branch))?;
-        }
-        _ => {
-            let before = book.meter().counted();
-            let entry = book.turn(alloc, 0, command(alloc, name, branch, first, second)?)?;
-            tell(&mut told, &entry.reply)?;
-            if name == "goto" {
-                write!(told, " by {:?}", book.meter().since(before))?;
-            }
-        }
-    }
+    tell_answer(alloc, &mut told, book, order_of(order))?;
     assert_eq!(rt; told.as_str(), want, "{order}");
     Ok(())
+}
+
+// Returns a new book with the interval and the window of a title.
+fn book_of(alloc: Global, title: &str) -> Result<EchoBook, Fail> {
+    let mut words = title.split(' ');
+    let setting = Setting {
+        interval: u32::from(number(words.next())),
+        window: u32::from(number(words.next())),
+        ..TWO_ECHOES
+    };
+    Ok(Book::new(alloc, &setting.scenario()?, Counts::new())?)
 }
 
 // Gives a new book the orders of a scene, row by row.
@@ -129,13 +187,7 @@ fn all_go_by(rt: &impl Abort, alloc: Global, scene: &str) -> Result<(), Fail> {
     let Some((title, rows)) = scene.split_once('\n') else {
         return Err(Fail::from("no rows"));
     };
-    let mut words = title.split(' ');
-    let setting = Setting {
-        interval: u32::from(number(words.next())),
-        window: u32::from(number(words.next())),
-        ..TWO_ECHOES
-    };
-    let mut book = Book::new(alloc, &setting.scenario()?, Counts::new())?;
+    let mut book = book_of(alloc, title)?;
     for row in rows.lines() {
         goes_by(rt, alloc, &mut book, row)?;
     }
@@ -166,16 +218,23 @@ fn goes_back(
     Ok(is_there && (entry.session, entry.number) == (session, number))
 }
 
-#[test]
-fn sessions_are_numbered_apart(rt: HostRuntime) -> Result<(), Fail> {
-    let alloc = rt.alloc();
-    let mut book = EchoBook::new(alloc, &TWO_ECHOES.scenario()?, Counts::new())?;
+// Runs a book, and takes it back from two sessions. Returns whether each step back has its number
+// and its place, and the freeze of a session the next number.
+fn numbers_apart(alloc: Global, book: &mut EchoBook) -> Result<bool, Fail> {
     book.turn(alloc, 0, Command::Run(0, 100))?;
     for (session, number, place) in &BACKS {
-        assert!(rt; goes_back(alloc, &mut book, *session, *number, *place)?);
+        if !goes_back(alloc, book, *session, *number, *place)? {
+            return Ok(false);
+        }
     }
     let (entry, frozen) = book.freeze(alloc, 1, 0)?;
-    assert!(rt; entry.number == 3 && frozen.is_some());
+    Ok(entry.number == 3 && frozen.is_some())
+}
+
+#[test]
+fn sessions_are_numbered_apart(rt: HostRuntime) -> Result<(), Fail> {
+    let mut book = EchoBook::new(rt.alloc(), &TWO_ECHOES.scenario()?, Counts::new())?;
+    assert!(rt; numbers_apart(rt.alloc(), &mut book)?);
     assert!(rt; book.into_entries().len() == 6);
     Ok(())
 }

@@ -171,9 +171,8 @@ impl Listener for Last {
     }
 }
 
-#[test]
-fn four_faults_are_left(rt: HostRuntime) -> Result<(), Fail> {
-    let alloc = rt.alloc();
+// Returns what is left of the planned run of seed number 654, after two faults that heal nothing.
+fn left_of_654(alloc: Global, heard: &mut Last) -> Result<Option<Vec<Event>>, Fail> {
     let given = [
         Event::Fault(Fault::Release(0, 1)),
         Event::Fault(Fault::Repair(0, 2)),
@@ -182,11 +181,14 @@ fn four_faults_are_left(rt: HostRuntime) -> Result<(), Fail> {
     let scenario = scenario()?.numbered(654);
     let cond = Cond::new().and(AGREE)?;
     let meter = &mut Tally::new();
+    Ok(shrink::<TwoPhase<Tally>, Last>(alloc, &scenario, &events, &cond, meter, heard)?)
+}
+
+#[test]
+fn four_faults_are_left(rt: HostRuntime) -> Result<(), Fail> {
+    let alloc = rt.alloc();
     let mut heard = Last { faults: 0 };
-    let left = shrink::<TwoPhase<Tally>, Last>(
-        alloc, &scenario, &events, &cond, meter, &mut heard,
-    )?;
-    let Some(left) = left else {
+    let Some(left) = left_of_654(alloc, &mut heard)? else {
         return Err(Fail::from("no run"));
     };
     assert_eq!(&rt; format!(in alloc; "{left:?}")?.as_str(), RUN_654);
