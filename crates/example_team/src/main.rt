@@ -26,7 +26,7 @@ ghost use Rattle.sim_shared.specs.Sharing.{IsAt};
 
 use crate::told::Told;
 use anyhow::{Context, Result, ensure};
-use sim_book::{Book, Command};
+use sim_book::{Book, Command, Entry};
 use sim_links::{Way, Ways};
 use sim_node::Setup;
 use sim_shared::{Seat, Shared};
@@ -107,6 +107,16 @@ fn crash<R: Wait>(rt: &R, shared: &Shared<Node>, seat: &mut Seat<Node>)
     }
 }
 
+// Writes the entries of one session after the other.
+fn write_all<R: Print>(rt: &R, entries: &[Entry]) -> Result<()> {
+    for session in 0..SESSIONS {
+        for entry in entries.iter().filter(|e| e.session == session) {
+            println!(rt; "{}", Told(entry))?;
+        }
+    }
+    Ok(())
+}
+
 fn main(rt: HostRuntime) -> Result<()> {
     let alloc = rt.alloc();
     let book = Book::new(alloc, &scenario()?, Tally::new())?;
@@ -115,10 +125,5 @@ fn main(rt: HostRuntime) -> Result<()> {
     thread::for_each_mut(&rt, &mut seats, 4, &|_, seat| crash(&rt, &shared, seat));
     let history = shared.close(seats);
     ensure!(history.entries.len() == ENTRIES, "a command was not taken");
-    for session in 0..SESSIONS {
-        for entry in history.entries.iter().filter(|e| e.session == session) {
-            println!(rt; "{}", Told(entry))?;
-        }
-    }
-    Ok(())
+    write_all(&rt, &history.entries)
 }
