@@ -23,8 +23,9 @@
 //!   subjects gives the `Nodes` of each place, so one definition and one body serve every type of
 //!   nodes.
 //! - A list of subjects is a type and not a value. So each task is compiled for each type of nodes,
-//!   and no call goes through a pointer. `Subjects::carry_out` is the one place where a protocol
-//!   becomes a type of nodes: a new task needs no `match` over protocols.
+//!   and no call goes through a pointer. `Subjects::carry_out` is where a protocol becomes a type
+//!   of nodes: a new task needs no `match` over protocols. Searches and sweeps alone choose the
+//!   type themselves.
 //! - The crate needs no threads and no clock. Searches and sweeps, which do, are in `sim_hunt`.
 //! - A script that is followed without answers ends if a command wants memory. With the loop of a
 //!   play and a writer that drops its text, a search would go on over a run that the script does

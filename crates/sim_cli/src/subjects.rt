@@ -1,4 +1,4 @@
-//! The protocols of a program, and the one place where a protocol becomes a type of nodes.
+//! The protocols of a program, and how a task is carried out over the nodes of one of them.
 ghost use Rattle.std.specs.Prelude.{◌≡◌, ◌≤◌, ◌<◌, ℕ, List, [], ◌∷◌, length, map, vec_len};
 ghost use Rattle.std.specs.Prelude.{IfOk, slice_get, string_bytes};
 ghost use Rattle.std.specs.Option.{option_copied, option_map};
@@ -85,7 +85,8 @@ pub trait Subject {
         ensures few { length result.now ≤ 255 };
 }
 
-/// The protocols that a program plays: [`Only`] one, or a [`With`] of one and others.
+/// The protocols that a program plays: [`Only`] one, a [`With`] of one and others, or a type of its
+/// own, as `Shipped` of `sim_shipped`.
 pub trait Subjects: Protocols {
     /// The nodes of the protocol at a place, in a scenario.
     ghost nodes: { ℕ → ScenarioValue → Nodes };

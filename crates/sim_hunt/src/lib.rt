@@ -18,7 +18,7 @@
 //! Why it is built this way:
 //!
 //! - Hunts need threads and a clock, and a play needs neither. So they have a crate of their own
-//!   above the play, which does not wait for the pages and the shrinking of runs.
+//!   beside the play. It does not wait for plays, pages and the shrinking of runs.
 //! - A search follows its script by `sim_cli::played`, which writes nothing. If a command wants
 //!   memory, the search ends with status 4. With the loop of a play and a writer that drops its
 //!   text, the search would go on over a run that the script does not describe.

@@ -20,8 +20,8 @@
 //! - A play is session 0 of a book and has no state of its own. The history, the speed of a `back`
 //!   and what remains after want of memory are matters of the book's contracts.
 //! - It is a crate of its own, since searches, pages and walks use scenarios, protocols and scripts
-//!   (`sim_cli`) and no play. So their proofs need not wait for this one, nor for that of the
-//!   answers' text.
+//!   (`sim_cli`) and no play. So their proofs need not wait for this one. Those of searches and
+//!   pages need not wait for that of the answers' text either.
 //! - Want of memory before the first line of the script ends the play with status 4 before anything
 //!   is written.
 #![tactic(auto)]

@@ -6,9 +6,10 @@
 //!
 //! `specs/Shipped.antt` defines the list and the nodes of each place.
 //!
-//! Why it is built this way: `Shipped` is a type of its own, and not made by `With` and `Only`. A
-//! crate that names such a list proves again all that its four nodes owe to the traits, and how
-//! they are dropped. This crate proves it once.
+//! Why it is built this way: `Shipped` is a type of its own, and not made by `With` and `Only`. At
+//! each call over such a list the prover goes through its four protocols, and through what their
+//! nodes owe to the traits. Of `Shipped` it looks at the traits alone; only a call that may search
+//! still goes through the subjects.
 #![tactic(auto)]
 
 mod shipped;

@@ -1,5 +1,5 @@
-//! The protocols that the texts may name. `sim_cli` lists them too, but a dependency on that would
-//! prove the whole program before these few texts.
+//! The protocols that the texts may name. `sim_shipped` lists them too, but a dependency on that
+//! would prove most of the program before these few texts.
 ghost use Rattle.std.specs.Prelude.{codes, [], ◌∷◌};
 
 use sim_scenario::Protocols;
