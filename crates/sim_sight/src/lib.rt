@@ -2,15 +2,15 @@
 //!
 //! - [`Sight`]: pending occurrences, the hosts, their disks, and the links that are not open.
 //! - [`tell_failing`]: which terms of a condition fail, and the values that they name.
-//! - [`holds_of`] and [`fails_of`]: whether a condition that can be used in a world holds or fails
-//!   there.
+//! - [`holds_of`] and [`fails_of`]: whether a condition can be used in a world and holds there, or
+//!   fails there. One that cannot be used does neither.
 //! - [`shortened`]: shortens the text of a node's state, in which a long list is mostly the same
 //!   element.
 //!
 //! ```text
-//! let sight = Sight { alloc, names, places: &run.places, world: tape.here() };
+//! let sight = Sight { alloc, names, places: &places, world: &world };
 //! sight.tell_host(host, &mut said)?;
-//! tell_failing(names, tape.here(), &cond, &mut said)?;
+//! tell_failing(names, &world, &cond, &mut said)?;
 //! ```
 //!
 //! A place is shown by its world and by the places where its occurrences were queued. So nothing

@@ -1,12 +1,13 @@
-//! Scenes of a book. `test_runs` plays them. They stand here, since `rt ci` begins the check of the
-//! crate with the most lines, and the crates of the program are to come first.
+//! Scenes of a book. `test_runs` plays them. They stand here and not there: of the checks that can
+//! begin, `rt ci` begins the one with the most lines first, and the crates of the program are to
+//! begin before these tests.
 
 /// Scenes of a book of one server and one client with two operations. A title begins with the
 /// interval and the window of the scene. An order names its branch first. An answer has the place,
 /// the clock and why a command stopped; with a jump also the turns, copies and undos that it took.
 ///
-/// `here` shows the clock of a branch's world, whether a step can happen there, and whether its tape
-/// is warm. `count` shows all turns, copies and undos of the book so far.
+/// `here` shows the clock of a branch's world, whether a step can happen there, and whether its
+/// tape is warm. `count` shows all turns, copies and undos of the book so far.
 pub const SCENES: &str = "\
 #4 2 A run is walked back.
 step 0: 1 0 Asked

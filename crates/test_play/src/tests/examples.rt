@@ -4,7 +4,7 @@ use super::scenes::status_of;
 use sim_cli::Status;
 use std::alloc::Global;
 use std::process::Abort;
-use test_support::examples::{EXAMPLES, TORN};
+use test_support::examples::{EARLY_OR_TORN, PLAIN};
 
 /// Returns whether a play writes its answers, or `None` if it is not laid out as one.
 fn is_right(alloc: Global, example: &str) -> Option<bool> {
@@ -17,7 +17,7 @@ fn is_right(alloc: Global, example: &str) -> Option<bool> {
 
 #[test]
 fn plays_the_examples(rt: HostRuntime) {
-    for examples in [EXAMPLES, TORN] {
+    for examples in [PLAIN, EARLY_OR_TORN] {
         assert!(rt; examples.starts_with('^'));
         for example in examples.split('^').skip(1) {
             assert!(rt; is_right(rt.alloc(), example) == Some(true), "{example}");

@@ -2,7 +2,7 @@
 
 /// Plays, each after `^` and its name; after `~` its answers, which are separated by `; `. These
 /// are texts and no tables, since the prover takes a text as one value.
-pub const EXAMPLES: &str = r#"^first-run
+pub const PLAIN: &str = r#"^first-run
 # One server `a` and one client `w`, which sends two pings. Every message takes 10 ms.
 # It shows the smallest run: a step for each thing that happens, until nothing is pending.
 format = 1

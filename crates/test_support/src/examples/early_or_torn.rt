@@ -2,7 +2,7 @@
 //! tears a write, laid out as in `plain`.
 
 /// Plays, each after `^` and its name; after `~` its answers, which are separated by `; `.
-pub const TORN: &str = r#"^early-put
+pub const EARLY_OR_TORN: &str = r#"^early-put
 # Primary-backup with a primary a and a backup b. Every message takes 10 ms, and a sync 5 ms. w puts two values.
 # a restarts, and takes a put before its start: b never gets the put before that one, and w is never done.
 format = 2
