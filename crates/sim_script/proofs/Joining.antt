@@ -121,7 +121,3 @@ module _ (names : Names) (whole : List Text) where
 
     pub too_many : 8 ≤ turn → None ≡ condition names whole
     too_many h = let none : 8 - turn ≡ 0 = omega arith in sym (taken.is ∙ rw none refl)
-
-    -- the condition has room for a term
-    pub not_full : turn < 8 → length (all_terms so_far) ≡ 8 → ⊥
-    not_full h e = let many = taken.many in absurd (omega (arith, many, e, h))

@@ -1,5 +1,8 @@
 //! The command that a line gives.
-ghost use Rattle.std.specs.Prelude.{◌≡◌, IfOk};
+ghost use Rattle.std.specs.Prelude.{◌≡◌, [], IfOk};
+ghost use Rattle.std.specs.Option.{unwrap_or};
+ghost use Rattle.sim_script.specs.Words.{words};
+ghost use Rattle.sim_script.specs.Conditions.{condition};
 
 use crate::condition::condition_of;
 use crate::names::Names;
@@ -26,6 +29,17 @@ pub struct Ask<'a> {
     pub(crate) parsed: Parsed<'a>,
 }
 
+/// Returns the condition that a text writes, in its own memory. Fails only for want of memory.
+fn shared_condition(alloc: Global, names: &Names, text: &[u8]) -> Result<SharedCond, NoMemory>
+    ensures { IfOk result (λ c. c ≡ unwrap_or (condition names.now (words text.now)) []) }
+{
+    match condition_of(names, text) {
+        Some(cond) => SharedCond::new(alloc, cond),
+        // No line gives such a text.
+        None => SharedCond::new(alloc, Cond::new()),
+    }
+}
+
 impl<'a> Model for Ask<'a> {
     ghost use Rattle.sim_watch.specs.declared.command.Command.{Command};
 
@@ -46,8 +60,7 @@ impl<'a> Ask<'a> {
         match parsed {
             Parsed::Plain(command) => Ok(command),
             Parsed::Watch(branch, text) => {
-                let cond = condition_of(names, text).unwrap_or(Cond::new());
-                Ok(Command::Watch(branch, SharedCond::new(alloc, cond)?))
+                Ok(Command::Watch(branch, shared_condition(alloc, names, text)?))
             }
         }
     }

@@ -11,7 +11,7 @@ ghost use Rattle.sim_script.specs.Conditions.{term, begins_after, condition, IsW
 ghost use Rattle.sim_script.specs.Sorts.{state_term, quantified};
 
 use crate::names::Names;
-use crate::words::{next_word, parse_number};
+use crate::words::{is_keyword, next_word, parse_number};
 use sim_watch::{Comparison, Cond, Op, Term, Value};
 
 /// The greatest number of digits of the number in a term.
@@ -25,17 +25,17 @@ pub(crate) const MAX_TERMS: usize = 8;
 pub(crate) fn parse_op(word: &[u8]) -> Option<Op>
     ensures { result ≡ op_of word.now }
 {
-    if word == b"<".as_slice() {
+    if is_keyword(word, b"<") {
         Some(Op::Less)
-    } else if word == b"<=".as_slice() {
+    } else if is_keyword(word, b"<=") {
         Some(Op::LessOrEqual)
-    } else if word == b"=".as_slice() {
+    } else if is_keyword(word, b"=") {
         Some(Op::Equal)
-    } else if word == b"!=".as_slice() {
+    } else if is_keyword(word, b"!=") {
         Some(Op::NotEqual)
-    } else if word == b">=".as_slice() {
+    } else if is_keyword(word, b">=") {
         Some(Op::GreaterOrEqual)
-    } else if word == b">".as_slice() {
+    } else if is_keyword(word, b">") {
         Some(Op::Greater)
     } else {
         None
@@ -118,9 +118,9 @@ fn next_negation<'a>(names: &Names, text: &'a [u8]) -> Option<(Term, &'a [u8])>
         (λ r. negation names.now (words text.now) ≡ Some (r.0, words r.1.now)) }
 {
     let (word, rest) = next_word(text)?;
-    if word == b"up".as_slice() {
+    if is_keyword(word, b"up") {
         next_state(names, State::NotUp, rest)
-    } else if word == b"done".as_slice() {
+    } else if is_keyword(word, b"done") {
         next_state(names, State::NotDone, rest)
     } else {
         None
@@ -134,7 +134,7 @@ fn next_unless(text: &[u8]) -> Option<(u64, &[u8])>
 {
     let (unless, rest) = next_word(text)?;
     let (number, rest) = next_word(rest)?;
-    if unless != b"unless".as_slice() {
+    if !is_keyword(unless, b"unless") {
         return None;
     }
     let number = parse_bound(number)?;
@@ -172,7 +172,7 @@ fn next_agreement<'a>(names: &Names, text: &'a [u8]) -> Option<(Term, &'a [u8])>
     let (probe, text) = next_word(text)?;
     let (word, rest) = next_word(text)?;
     let probe = names.probe(probe)?;
-    if word == b"by".as_slice() {
+    if is_keyword(word, b"by") {
         let (by, number, rest) = next_probe_unless(names, rest)?;
         Some((Term::AgreeBy(probe, by, number), rest))
     } else {
@@ -250,21 +250,21 @@ fn next_term<'a>(names: &Names, text: &'a [u8]) -> Option<(Term, &'a [u8])>
         (λ r. term names.now (words text.now) ≡ Some (r.0, words r.1.now)) }
 {
     let (word, rest) = next_word(text)?;
-    if word == b"up".as_slice() {
+    if is_keyword(word, b"up") {
         next_state(names, State::Up, rest)
-    } else if word == b"done".as_slice() {
+    } else if is_keyword(word, b"done") {
         next_state(names, State::Done, rest)
-    } else if word == b"not".as_slice() {
+    } else if is_keyword(word, b"not") {
         next_negation(names, rest)
-    } else if word == b"agree".as_slice() {
+    } else if is_keyword(word, b"agree") {
         next_agreement(names, rest)
-    } else if word == b"differ".as_slice() {
+    } else if is_keyword(word, b"differ") {
         next_difference(names, rest)
-    } else if word == b"any".as_slice() {
+    } else if is_keyword(word, b"any") {
         next_quantified(names, false, rest)
-    } else if word == b"all".as_slice() {
+    } else if is_keyword(word, b"all") {
         next_quantified(names, true, rest)
-    } else if word == b"count".as_slice() {
+    } else if is_keyword(word, b"count") {
         next_count(names, rest)
     } else {
         next_compared(names, word, rest)
@@ -274,29 +274,49 @@ fn next_term<'a>(names: &Names, text: &'a [u8]) -> Option<(Term, &'a [u8])>
 /// Returns whether the term after a word starts a new alternative, or `None` if the word joins no
 /// terms.
 #[tactic(auto, unfolding(crate::specs::Conditions::begins_after))]
-fn begins_after(word: &[u8]) -> Option<bool>
+pub(crate) fn begins_after(word: &[u8]) -> Option<bool>
     ensures { result ≡ begins_after word.now }
 {
-    if word == b"and".as_slice() {
+    if is_keyword(word, b"and") {
         Some(false)
-    } else if word == b"or".as_slice() {
+    } else if is_keyword(word, b"or") {
         Some(true)
     } else {
         None
     }
 }
 
-/// Adds a term to the condition, in a new alternative if `begins`, else in the last one. Returns
-/// `None` if the condition has 8 terms already.
-fn with_term(cond: Cond, begins: bool, term: Term) -> Option<Cond>
-    ensures { MatchOption result (length (all_terms cond) ≡ 8)
-        (λ c. c ≡ join_term cond (record { begins = begins; term = term })) }
+/// Adds a term to a condition that has room for it, in a new alternative if `begins`, else in the
+/// last one.
+fn with_term(cond: Cond, begins: bool, term: Term) -> Cond
+    requires { length (all_terms cond) < 8 }
+    ensures { result ≡ join_term cond (record { begins = begins; term = term }) }
 {
-    if begins {
-        cond.or(term).ok()
+    let joined = if begins {
+        cond.or(term)
     } else {
-        cond.and(term).ok()
+        cond.and(term)
+    };
+    joined.unwrap()
+}
+
+/// Reads a condition, as [`condition_of`].
+fn read_condition(names: &Names, text: &[u8]) -> Option<Cond>
+    ensures { result ≡ condition names.now (words text.now) }
+{
+    let mut cond = Cond::new();
+    let mut begins = true;
+    let mut rest = text;
+    for turn in 0..MAX_TERMS {
+        let (term, after) = next_term(names, rest)?;
+        cond = with_term(cond, begins, term);
+        let Some((word, more)) = next_word(after) else {
+            return Some(cond);
+        };
+        begins = begins_after(word)?;
+        rest = more;
     }
+    None
 }
 
 /// Reads a condition: 1 to 8 terms, joined by `and` and `or`. Returns `None` if `text` writes none.
@@ -305,17 +325,5 @@ pub fn condition_of(names: &Names, text: &[u8]) -> Option<Cond>
     ensures is { result ≡ condition names.now (words text.now) }
     ensures written { IsWritten names.now (words text.now) result }
 {
-    let mut cond = Cond::new();
-    let mut begins = true;
-    let mut rest = text;
-    for turn in 0..MAX_TERMS {
-        let (term, after) = next_term(names, rest)?;
-        cond = with_term(cond, begins, term)?;
-        let Some((word, more)) = next_word(after) else {
-            return Some(cond);
-        };
-        begins = begins_after(word)?;
-        rest = more;
-    }
-    None
+    read_condition(names, text)
 }

@@ -7,11 +7,12 @@ ghost use Rattle.sim_script.specs.Script.{script_line};
 ghost use Rattle.sim_script.specs.Mistakes.{IsBetween, total};
 
 use crate::condition::{
-    MAX_DIGITS as MAX_TERM_DIGITS, MAX_TERMS, condition_of, parse_op, parse_probe, parse_value,
+    MAX_DIGITS as MAX_TERM_DIGITS, MAX_TERMS, begins_after, condition_of, parse_op, parse_probe,
+    parse_value,
 };
 use crate::names::Names;
-use crate::script::{MAX_DIGITS, MAX_LINE, ScriptLine, line_of};
-use crate::words::{next_word, parse_number};
+use crate::script::{MAX_DIGITS, MAX_LINE, Numbered, ScriptLine, line_of, link_fault};
+use crate::words::{is_keyword, next_word, parse_number};
 use std::fmt;
 
 /// What was expected at a word of a line.
@@ -71,7 +72,7 @@ impl fmt::Display for Expected {
             Expected::End => "the end of the line",
             Expected::ShorterLine => "at most 256 bytes in the line",
         };
-        write!(f, "{what}")
+        f.write_str(what)
     }
 }
 
@@ -91,36 +92,6 @@ impl fmt::Display for LineMistake {
     }
 }
 
-/// The commands of one word.
-static ALONE: [&[u8]; 4] = [b"step", b"tick", b"cut", b"trace"];
-
-/// The commands that take a number.
-static NUMBERED: [&[u8]; 7] = [
-    b"run", b"back", b"forward", b"goto", b"rewind", b"branch", b"unwatch",
-];
-
-/// The commands that take a host.
-static ON_HOST: [&[u8]; 2] = [b"crash", b"bounce"];
-
-/// The commands that take two hosts.
-static ON_LINK: [&[u8]; 6] = [
-    b"hold",
-    b"release",
-    b"partition",
-    b"repair",
-    b"cutoneway",
-    b"repaironeway",
-];
-
-/// What may follow `not`.
-static STATES: [&[u8]; 2] = [b"up", b"done"];
-
-/// What may follow the probe of an `agree`.
-static UNLESS_OR_BY: [&[u8]; 2] = [b"unless", b"by"];
-
-/// What joins terms.
-static JOINTS: [&[u8]; 2] = [b"and", b"or"];
-
 static NOTHING: [Expected; 0] = [];
 
 static A_NUMBER: [Expected; 1] = [Expected::Number];
@@ -129,7 +100,13 @@ static A_HOST: [Expected; 1] = [Expected::Host];
 
 static TWO_HOSTS: [Expected; 2] = [Expected::Host, Expected::Host];
 
-static A_PROBE: [Expected; 2] = [Expected::Host, Expected::Probe];
+static A_VIEW: [Expected; 1] = [Expected::View];
+
+static VIEW_OF_HOST: [Expected; 2] = [Expected::View, Expected::Host];
+
+static VIEW_OF_LINK: [Expected; 3] = [Expected::View, Expected::Host, Expected::Host];
+
+static VIEW_OF_PROBE: [Expected; 3] = [Expected::View, Expected::Host, Expected::Probe];
 
 static A_STATE: [Expected; 2] = [Expected::State, Expected::Host];
 
@@ -164,10 +141,6 @@ struct At<'a> {
     rest: &'a [u8],
 }
 
-fn is_one_of(word: &[u8], names: &[&[u8]]) -> bool {
-    names.iter().any(|name| word == *name)
-}
-
 /// Returns whether a word is what is expected.
 fn fits(names: &Names, expected: Expected, word: &[u8]) -> bool {
     match expected {
@@ -178,18 +151,15 @@ fn fits(names: &Names, expected: Expected, word: &[u8]) -> bool {
         Expected::Number => parse_number(word, MAX_DIGITS).is_some(),
         Expected::Host => names.host(word).is_some(),
         Expected::Probe => names.probe(word).is_some(),
-        Expected::State => is_one_of(word, &STATES),
-        Expected::Unless => word == b"unless".as_slice(),
-        Expected::UnlessOrBy => is_one_of(word, &UNLESS_OR_BY),
+        Expected::View => is_view(word),
+        Expected::State => is_keyword(word, b"up") || is_keyword(word, b"done"),
+        Expected::Unless => is_keyword(word, b"unless"),
+        Expected::UnlessOrBy => is_keyword(word, b"unless") || is_keyword(word, b"by"),
         Expected::Operator => parse_op(word).is_some(),
         Expected::Value => parse_value(names, word).is_some(),
         Expected::Bound => parse_number(word, MAX_TERM_DIGITS).is_some(),
-        Expected::Joint => is_one_of(word, &JOINTS),
-        Expected::Command
-        | Expected::View
-        | Expected::Term
-        | Expected::End
-        | Expected::ShorterLine => false,
+        Expected::Joint => begins_after(word).is_some(),
+        Expected::Command | Expected::Term | Expected::End | Expected::ShorterLine => false,
     }
 }
 
@@ -209,14 +179,13 @@ fn take<'a>(names: &Names, expected: Expected, at: At<'a>) -> Result<At<'a>, Lin
         × (length (words at.entry.rest.now) ≡ length (words next.rest.now) + 1)) }
     ensures mistake { IfErr result (λ m. m.word ≡ at.entry.taken + 1) }
 {
-    let Some((word, rest)) = next_word(at.rest) else {
-        return Err(mistake_at(at, expected));
-    };
-    if !fits(names, expected, word) {
-        return Err(mistake_at(at, expected));
+    match next_word(at.rest) {
+        Some((word, rest)) if fits(names, expected, word) => Ok(At {
+            taken: at.taken + 1,
+            rest,
+        }),
+        _ => Err(mistake_at(at, expected)),
     }
-    let taken = at.taken + 1;
-    Ok(At { taken, rest })
 }
 
 /// Returns the position after the next words. Fails at the first one that is not what is expected.
@@ -238,18 +207,12 @@ fn walk<'a>(names: &Names, shape: &[Expected], start: At<'a>) -> Result<At<'a>, 
 fn agreement_shape(rest: &[u8]) -> &'static [Expected]
     ensures { length result.now ≤ 5 }
 {
+    let Some((_probe, rest)) = next_word(rest) else {
+        return &AGREE;
+    };
     match next_word(rest) {
-        Some((_probe, rest)) => match next_word(rest) {
-            Some((word, _rest)) => {
-                if word == b"by".as_slice() {
-                    AGREE_BY.as_slice()
-                } else {
-                    AGREE.as_slice()
-                }
-            }
-            None => AGREE.as_slice(),
-        },
-        None => AGREE.as_slice(),
+        Some((word, _rest)) if is_keyword(word, b"by") => &AGREE_BY,
+        _ => &AGREE,
     }
 }
 
@@ -257,20 +220,20 @@ fn agreement_shape(rest: &[u8]) -> &'static [Expected]
 pub(crate) fn term_shape(names: &Names, word: &[u8], rest: &[u8]) -> Option<&'static [Expected]>
     ensures { IfSome result (λ shape. length shape.now ≤ 5) }
 {
-    if word == b"up".as_slice() || word == b"done".as_slice() {
-        Some(A_HOST.as_slice())
-    } else if word == b"not".as_slice() {
-        Some(A_STATE.as_slice())
-    } else if word == b"agree".as_slice() {
+    if is_keyword(word, b"up") || is_keyword(word, b"done") {
+        Some(&A_HOST)
+    } else if is_keyword(word, b"not") {
+        Some(&A_STATE)
+    } else if is_keyword(word, b"agree") {
         Some(agreement_shape(rest))
-    } else if word == b"differ".as_slice() {
-        Some(DIFFER.as_slice())
-    } else if word == b"any".as_slice() || word == b"all".as_slice() {
-        Some(VALUES.as_slice())
-    } else if word == b"count".as_slice() {
-        Some(COUNT.as_slice())
+    } else if is_keyword(word, b"differ") {
+        Some(&DIFFER)
+    } else if is_keyword(word, b"any") || is_keyword(word, b"all") {
+        Some(&VALUES)
+    } else if is_keyword(word, b"count") {
+        Some(&COUNT)
     } else if parse_probe(names, word).is_some() {
-        Some(COMPARISON.as_slice())
+        Some(&COMPARISON)
     } else {
         None
     }
@@ -314,54 +277,55 @@ fn walk_condition<'a>(names: &Names, start: At<'a>) -> Result<At<'a>, LineMistak
     walk_term(names, at)
 }
 
-/// Returns what must follow the first word of a query, or `None` if no query starts with it.
-fn view_shape(word: &[u8]) -> Option<&'static [Expected]>
-    ensures { IfSome result (λ shape. length shape.now ≤ 2) }
+/// Returns whether a query begins with a word.
+fn is_view(word: &[u8]) -> bool {
+    is_keyword(word, b"next")
+        || is_keyword(word, b"host")
+        || is_keyword(word, b"link")
+        || is_keyword(word, b"probe")
+}
+
+/// Returns what must follow `look`.
+fn view_shape(rest: &[u8]) -> &'static [Expected]
+    ensures { length result.now ≤ 3 }
 {
-    if word == b"next".as_slice() {
-        Some(NOTHING.as_slice())
-    } else if word == b"host".as_slice() {
-        Some(A_HOST.as_slice())
-    } else if word == b"link".as_slice() {
-        Some(TWO_HOSTS.as_slice())
-    } else if word == b"probe".as_slice() {
-        Some(A_PROBE.as_slice())
+    let Some((word, _rest)) = next_word(rest) else {
+        return &NOTHING;
+    };
+    if is_keyword(word, b"host") {
+        &VIEW_OF_HOST
+    } else if is_keyword(word, b"link") {
+        &VIEW_OF_LINK
+    } else if is_keyword(word, b"probe") {
+        &VIEW_OF_PROBE
     } else {
-        None
+        &A_VIEW
     }
 }
 
-/// Returns the position after the query that follows `look`.
-fn walk_view<'a>(names: &Names, at: At<'a>) -> Result<At<'a>, LineMistake>
-    requires { at.taken < 100 }
-    ensures next { IfOk result (λ next. (next.taken < 900)
-        × (total next.taken next.rest.now ≡ total at.entry.taken at.entry.rest.now)) }
-    ensures mistake { IfErr result (λ m.
-        IsBetween at.entry.taken m.word (total at.entry.taken at.entry.rest.now)) }
-{
-    let Some((word, rest)) = next_word(at.rest) else {
-        return Ok(at);
-    };
-    let Some(shape) = view_shape(word) else {
-        return Err(mistake_at(at, Expected::View));
-    };
-    let taken = at.taken + 1;
-    walk(names, shape, At { taken, rest })
+/// Returns whether a word is a command on its own.
+fn is_lone(word: &[u8]) -> bool {
+    is_keyword(word, b"step")
+        || is_keyword(word, b"tick")
+        || is_keyword(word, b"cut")
+        || is_keyword(word, b"trace")
 }
 
-/// Returns what must follow the first word of a command other than `look` and `watch`, or `None` if
-/// no such command starts with it.
-fn command_shape(word: &[u8]) -> Option<&'static [Expected]>
-    ensures { IfSome result (λ shape. length shape.now ≤ 2) }
+/// Returns what must follow the first word of a command other than `watch`, or `None` if no such
+/// command starts with it.
+fn command_shape(word: &[u8], rest: &[u8]) -> Option<&'static [Expected]>
+    ensures { IfSome result (λ shape. length shape.now ≤ 3) }
 {
-    if is_one_of(word, &ALONE) {
-        Some(NOTHING.as_slice())
-    } else if is_one_of(word, &NUMBERED) {
-        Some(A_NUMBER.as_slice())
-    } else if is_one_of(word, &ON_HOST) {
-        Some(A_HOST.as_slice())
-    } else if is_one_of(word, &ON_LINK) {
-        Some(TWO_HOSTS.as_slice())
+    if is_lone(word) {
+        Some(&NOTHING)
+    } else if is_keyword(word, b"look") {
+        Some(view_shape(rest))
+    } else if Numbered::of_word(word).is_some() {
+        Some(&A_NUMBER)
+    } else if is_keyword(word, b"crash") || is_keyword(word, b"bounce") {
+        Some(&A_HOST)
+    } else if link_fault(word, 0, 0).is_some() {
+        Some(&TWO_HOSTS)
     } else {
         None
     }
@@ -380,15 +344,12 @@ fn walk_command<'a>(names: &Names, at: At<'a>) -> Result<At<'a>, LineMistake>
     };
     let taken = at.taken + 1;
     let after = At { taken, rest };
-    if word == b"look".as_slice() {
-        walk_view(names, after)
-    } else if word == b"watch".as_slice() {
-        walk_condition(names, after)
-    } else {
-        match command_shape(word) {
-            Some(shape) => walk(names, shape, after),
-            None => Err(mistake_at(at, Expected::Command)),
-        }
+    if is_keyword(word, b"watch") {
+        return walk_condition(names, after);
+    }
+    match command_shape(word, rest) {
+        Some(shape) => walk(names, shape, after),
+        None => Err(mistake_at(at, Expected::Command)),
     }
 }
 

@@ -129,6 +129,16 @@ impl Names {
         }
     }
 
+    /// Returns the names of the hosts, in the order of their numbers.
+    pub(crate) fn hosts(&self) -> &[String] {
+        self.hosts.as_slice()
+    }
+
+    /// Returns the names of the probes, in the order of their numbers.
+    pub(crate) fn probes(&self) -> &[String] {
+        self.probes.as_slice()
+    }
+
     /// Returns the name of a host, or an empty text if there is no such host.
     pub fn host_name(&self, host: u16) -> &str
         ensures { result.now ≡ host_name self.now host }

@@ -11,7 +11,7 @@ ghost use Rattle.sim_script.specs.Parsed.{meant};
 use crate::ask::{Ask, Parsed};
 use crate::condition::condition_of;
 use crate::names::Names;
-use crate::words::{next_word, parse_number};
+use crate::words::{is_keyword, next_word, parse_number};
 use sim_watch::Command;
 use sim_world::{Fault, Query};
 
@@ -107,20 +107,20 @@ fn alone(text: &[u8], command: Command) -> Option<Command>
 
 /// Returns the fault of a link that the word names, or `None` if it names none.
 #[tactic(auto, unfolding(crate::specs::Sorts::link_fault))]
-fn link_fault(word: &[u8], a: u16, b: u16) -> Option<Fault>
+pub(crate) fn link_fault(word: &[u8], a: u16, b: u16) -> Option<Fault>
     ensures { result ≡ link_fault word.now a b }
 {
-    if word == b"hold".as_slice() {
+    if is_keyword(word, b"hold") {
         Some(Fault::Hold(a, b))
-    } else if word == b"release".as_slice() {
+    } else if is_keyword(word, b"release") {
         Some(Fault::Release(a, b))
-    } else if word == b"partition".as_slice() {
+    } else if is_keyword(word, b"partition") {
         Some(Fault::Cut(a, b))
-    } else if word == b"repair".as_slice() {
+    } else if is_keyword(word, b"repair") {
         Some(Fault::Repair(a, b))
-    } else if word == b"cutoneway".as_slice() {
+    } else if is_keyword(word, b"cutoneway") {
         Some(Fault::CutOneway(a, b))
-    } else if word == b"repaironeway".as_slice() {
+    } else if is_keyword(word, b"repaironeway") {
         Some(Fault::RepairOneway(a, b))
     } else {
         None
@@ -132,10 +132,10 @@ fn link_fault(word: &[u8], a: u16, b: u16) -> Option<Fault>
 fn parse_fault(names: &Names, word: &[u8], rest: &[u8]) -> Option<Fault>
     ensures { result ≡ fault_of names.now word.now (words rest.now) }
 {
-    if word == b"crash".as_slice() {
+    if is_keyword(word, b"crash") {
         return Some(Fault::Crash(one_host(names, rest)?));
     }
-    if word == b"bounce".as_slice() {
+    if is_keyword(word, b"bounce") {
         return Some(Fault::Bounce(one_host(names, rest)?));
     }
     let (a, b) = both_hosts(names, rest)?;
@@ -150,17 +150,17 @@ fn parse_query(names: &Names, text: &[u8]) -> Option<Query>
     let Some((word, rest)) = next_word(text) else {
         return Some(Query::Summary);
     };
-    if word == b"next".as_slice() {
+    if is_keyword(word, b"next") {
         match next_word(rest) {
             None => Some(Query::Next),
             Some(_) => None,
         }
-    } else if word == b"host".as_slice() {
+    } else if is_keyword(word, b"host") {
         Some(Query::HostView(one_host(names, rest)?))
-    } else if word == b"link".as_slice() {
+    } else if is_keyword(word, b"link") {
         let (a, b) = both_hosts(names, rest)?;
         Some(Query::Link(a, b))
-    } else if word == b"probe".as_slice() {
+    } else if is_keyword(word, b"probe") {
         let (host, probe) = host_and_probe(names, rest)?;
         Some(Query::Probe(host, probe))
     } else {
@@ -170,7 +170,7 @@ fn parse_query(names: &Names, text: &[u8]) -> Option<Query>
 
 /// A command that takes a number.
 #[derive(Clone, Copy)]
-enum Numbered {
+pub(crate) enum Numbered {
     Run,
     Back,
     Forward,
@@ -183,22 +183,22 @@ enum Numbered {
 impl Numbered {
     /// Returns the command that a word names, or `None` if it names none of these.
     #[tactic(auto, unfolding(crate::specs::Sorts::numbered_by))]
-    fn of_word(word: &[u8]) -> Option<Numbered>
+    pub(crate) fn of_word(word: &[u8]) -> Option<Numbered>
         ensures { result ≡ numbered_by word.now }
     {
-        if word == b"run".as_slice() {
+        if is_keyword(word, b"run") {
             Some(Numbered::Run)
-        } else if word == b"back".as_slice() {
+        } else if is_keyword(word, b"back") {
             Some(Numbered::Back)
-        } else if word == b"forward".as_slice() {
+        } else if is_keyword(word, b"forward") {
             Some(Numbered::Forward)
-        } else if word == b"goto".as_slice() {
+        } else if is_keyword(word, b"goto") {
             Some(Numbered::Goto)
-        } else if word == b"rewind".as_slice() {
+        } else if is_keyword(word, b"rewind") {
             Some(Numbered::Rewind)
-        } else if word == b"branch".as_slice() {
+        } else if is_keyword(word, b"branch") {
             Some(Numbered::Branch)
-        } else if word == b"unwatch".as_slice() {
+        } else if is_keyword(word, b"unwatch") {
             Some(Numbered::Unwatch)
         } else {
             None
@@ -275,17 +275,17 @@ fn parse_change(names: &Names, branch: u32, word: &[u8], rest: &[u8]) -> Option<
 fn parse_on<'a>(names: &Names, branch: u32, word: &[u8], rest: &'a [u8]) -> Option<Parsed<'a>>
     ensures { meant names.now result ≡ command_by names.now branch word.now (words rest.now) }
 {
-    if word == b"step".as_slice() {
+    if is_keyword(word, b"step") {
         plain(alone(rest, Command::Step(branch)))
-    } else if word == b"tick".as_slice() {
+    } else if is_keyword(word, b"tick") {
         plain(alone(rest, Command::Tick(branch)))
-    } else if word == b"cut".as_slice() {
+    } else if is_keyword(word, b"cut") {
         plain(alone(rest, Command::Cut(branch)))
-    } else if word == b"trace".as_slice() {
+    } else if is_keyword(word, b"trace") {
         plain(alone(rest, Command::Freeze(branch)))
-    } else if word == b"look".as_slice() {
+    } else if is_keyword(word, b"look") {
         plain(parse_look(names, branch, rest))
-    } else if word == b"watch".as_slice() {
+    } else if is_keyword(word, b"watch") {
         Some(Parsed::Watch(branch, rest))
     } else {
         plain(parse_change(names, branch, word, rest))

@@ -2,11 +2,8 @@
 use crate::mistake::{Expected, LineMistake, condition_mistake_of};
 use crate::names::Names;
 use crate::unknown::{Unknown, unknown_of};
-use crate::words::next_word;
-use sim_node::{MAX_HOSTS, NoMemory};
-
-/// The most probes of a host.
-const MAX_PROBES: u8 = 255;
+use crate::words::{is_keyword, next_word};
+use sim_node::NoMemory;
 
 /// How a condition is written: the forms of a term, on lines of their own. There is no end of line
 /// after the last.
@@ -19,32 +16,31 @@ COND is 1 to 8 terms, joined by `and` and `or`. A term is one of:
                                differ PROBE unless N
 OP is <, <=, =, !=, >= or >, between spaces; VALUE is a number or HOST.PROBE.";
 
-// Appends a name of a list, if it is one.
-fn tell_name(name: &str, said: &mut String) -> Result<(), NoMemory> {
-    if name.is_empty() {
-        return Ok(());
+// Appends some words and the names that follow them, between two texts.
+fn tell_part(
+    words: &str,
+    names: &[String],
+    (before, after): (&str, &str),
+    said: &mut String,
+) -> Result<(), NoMemory> {
+    said.push_str(before)?;
+    said.push_str(words)?;
+    for name in names {
+        said.push(' ')?;
+        said.push_str(name.as_str())?;
     }
-    said.push(' ')?;
-    said.push_str(name)
+    said.push_str(after)
 }
 
 impl Names {
     /// Appends the names of the hosts, as `hosts: a b w`. Fails only for want of memory.
     pub fn tell_hosts(&self, said: &mut String) -> Result<(), NoMemory> {
-        said.push_str("hosts:")?;
-        for host in 0..MAX_HOSTS {
-            tell_name(self.host_name(host), said)?;
-        }
-        Ok(())
+        tell_part("hosts:", self.hosts(), ("", ""), said)
     }
 
     /// Appends the names of the probes, as `probes: next first`. Fails only for want of memory.
     pub fn tell_probes(&self, said: &mut String) -> Result<(), NoMemory> {
-        said.push_str("probes:")?;
-        for probe in 0..MAX_PROBES {
-            tell_name(self.probe_name(probe), said)?;
-        }
-        Ok(())
+        tell_part("probes:", self.probes(), ("", ""), said)
     }
 }
 
@@ -86,7 +82,7 @@ fn hint_of(word: &[u8], expected: Expected) -> Option<&'static str> {
         Expected::Term | Expected::Operator | Expected::Value if joins_operator(word) => {
             Some("an operator stands between spaces, as in `w.next <= 3`")
         }
-        Expected::End if word == b"and".as_slice() || word == b"or".as_slice() => {
+        Expected::End if is_keyword(word, b"and") || is_keyword(word, b"or") => {
             Some("a condition has at most 8 terms")
         }
         _ => None,
@@ -115,31 +111,28 @@ fn tell_form(after: &str, said: &mut String) -> Result<(), NoMemory> {
 }
 
 /// Appends advice for a mistake in a text, if there is any, or else the names that are possible in
-/// place of the word, and for a term the forms of all terms. Puts `before` and `after` around each
-/// part; the forms begin on a new line. Fails only for want of memory.
+/// place of the word, and for a term the forms of all terms. Puts the two texts of `around` before
+/// and after each part; the forms begin on a new line. Fails only for want of memory.
 pub fn tell_advice(
     names: &Names,
     text: &[u8],
     mistake: LineMistake,
-    (before, after): (&str, &str),
+    around: (&str, &str),
     said: &mut String,
 ) -> Result<(), NoMemory> {
     let expected = mistake.expected;
     if let Some(hint) = hint_of(word_at(text, mistake.word), expected) {
-        return write!(said, "{before}{hint}{after}");
+        return tell_part(hint, &[], around, said);
     }
     let of_both = matches!(expected, Expected::Term | Expected::Value);
     if of_both || expected == Expected::Host {
-        said.push_str(before)?;
-        names.tell_hosts(said)?;
-        said.push_str(after)?;
+        tell_part("hosts:", names.hosts(), around, said)?;
     }
     if of_both || expected == Expected::Probe {
-        said.push_str(before)?;
-        names.tell_probes(said)?;
-        said.push_str(after)?;
+        tell_part("probes:", names.probes(), around, said)?;
     }
     if expected == Expected::Term {
+        let (_before, after) = around;
         tell_form(after, said)?;
     }
     Ok(())
@@ -147,17 +140,15 @@ pub fn tell_advice(
 
 // Appends that there is no host or probe of a name, and which there are.
 fn tell_unknown(names: &Names, unknown: Unknown<'_>, said: &mut String) -> Result<(), NoMemory> {
+    let (kind, word) = match unknown {
+        Unknown::Host(word) => ("host", word),
+        Unknown::Probe(word) => ("probe", word),
+    };
+    let name = shown(word);
+    write!(said, "there is no {kind} {name}; ")?;
     match unknown {
-        Unknown::Host(word) => {
-            let name = shown(word);
-            write!(said, "there is no host {name}; ")?;
-            names.tell_hosts(said)
-        }
-        Unknown::Probe(word) => {
-            let name = shown(word);
-            write!(said, "there is no probe {name}; ")?;
-            names.tell_probes(said)
-        }
+        Unknown::Host(_) => names.tell_hosts(said),
+        Unknown::Probe(_) => names.tell_probes(said),
     }
 }
 

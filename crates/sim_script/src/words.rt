@@ -1,6 +1,7 @@
 //! Reads the words of a line from its front, and the numbers that they write.
 ghost use Rattle.std.specs.Prelude.{◌≡◌, ℕ, List, ◌==◌, false, length, MatchOption, IfSome, ◌^◌};
 ghost use Rattle.std.specs.Prelude.{◌<◌, ◌≤◌, ◌∷◌, [], take, drop, ◌⊎◌};
+ghost use Rattle.std.specs.Str.{bytes_eq};
 ghost use Rattle.sim_script.specs.Words.{words, HasNoSpace, number};
 
 /// Returns the text without its leading spaces.
@@ -41,6 +42,14 @@ pub fn next_word(text: &[u8]) -> Option<(&[u8], &[u8])>
         return None;
     }
     Some(text.split_at(word_len(text)))
+}
+
+/// Returns whether a word is this keyword.
+#[inline(always)]
+pub fn is_keyword(word: &[u8], keyword: &[u8]) -> bool
+    ensures { result ≡ bytes_eq word.now keyword.now }
+{
+    word == keyword
 }
 
 /// Reads a number of 1 to `most` decimal digits; `most` is at most 19.
