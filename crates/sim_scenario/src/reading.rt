@@ -51,7 +51,7 @@ pub fn read<P: Protocols>(alloc: Global, text: &str) -> Result<ScenarioText, Sce
 
 /// The first part of a text: the seed, the protocol, the tick (ms), and the way of each pair
 /// without a link.
-#[derive(Drop)]
+#[derive(Clone, Copy)]
 struct Opening {
     seed: [u8; 32],
     protocol: usize,
@@ -60,7 +60,7 @@ struct Opening {
 }
 
 /// The numbers after the servers: two in events, one in milliseconds.
-#[derive(Drop)]
+#[derive(Clone, Copy)]
 struct Rest {
     checkpoint: u32,
     window: u32,

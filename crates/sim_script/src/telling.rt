@@ -26,6 +26,10 @@ fn tell_part(
     said.push_str(before)?;
     said.push_str(words)?;
     for name in names {
+        // A probe may have no name.
+        if name.is_empty() {
+            continue;
+        }
         said.push(' ')?;
         said.push_str(name.as_str())?;
     }
