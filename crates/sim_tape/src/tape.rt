@@ -538,26 +538,31 @@ impl<N: Node> Tape<N> {
         self.cut();
     }
 
-    // Returns a cold tape of these events and checkpoints.
+    // Returns a cold tape of the first `count` events of a run, which shares the full segments and
+    // the checkpoints. Fails only for want of memory.
     pub(crate) fn cold(
         alloc: Global,
-        log: Log,
-        checkpoints: SharedList<PackedWorld<N>>,
+        log: &Log,
+        checkpoints: &SharedList<PackedWorld<N>>,
+        count: usize,
         place: u32,
     ) -> Result<Tape<N>, NoMemory>
-        requires runs { IsRun (rules N.laws N.PROBES log.scenario) log.entries }
-        requires checkpoints { AreCheckpoints (rules N.laws N.PROBES log.scenario)
-            (events_of log.entries) checkpoints.items }
-        requires within { place ≤ length log.entries }
+        requires runs { IsRun (rules N.laws N.PROBES log.now.scenario) log.now.entries }
+        requires checkpoints { AreCheckpoints (rules N.laws N.PROBES log.now.scenario)
+            (events_of log.now.entries) checkpoints.now.items }
+        requires count { count ≤ length log.now.entries }
+        requires within { place ≤ count }
         ensures { IfOk result (λ t. t ≡
             record {
-              scenario = log.scenario;
-              events = events_of log.entries;
+              scenario = log.now.scenario;
+              events = take count (events_of log.now.entries);
               place = place;
               warm = false;
               reach = 0;
             }) }
     {
+        let log = log.split(alloc, count)?;
+        let checkpoints = checkpoints.share(alloc, count / log.interval() + 1)?;
         let walk = Walk::cold(alloc, log.window())?;
         Ok(Tape {
             log,
@@ -594,12 +599,7 @@ impl<N: Node> Tape<N> {
         requires { to ≤ length self.now.events }
         ensures { IfOk result (λ t. t ≡ with_world false 0 (at to (first_events to self.now))) }
     {
-        let count = to as usize;
-        let log = self.log.split(alloc, count)?;
-        let checkpoints = self
-            .checkpoints
-            .share(alloc, count / self.log.interval() + 1)?;
-        Tape::cold(alloc, log, checkpoints, to)
+        Tape::cold(alloc, &self.log, &self.checkpoints, to as usize, to)
     }
 
     /// Returns all kept events, shared. Fails only for want of memory.
@@ -615,10 +615,7 @@ impl<N: Node> Tape<N> {
         ensures { IfOk result (λ f. f ≡
             record { scenario = self.now.scenario; events = self.now.events }) }
     {
-        let checkpoints = self.checkpoints.share(alloc, self.checkpoints.len())?;
-        let log = self.log.split(alloc, self.log.len())?;
-        let list = self.log.events(alloc)?;
-        Ok(Frozen::of(log, list, checkpoints))
+        Frozen::of(alloc, &self.log, &self.checkpoints)
     }
 }
 

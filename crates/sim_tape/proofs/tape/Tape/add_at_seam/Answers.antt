@@ -15,7 +15,7 @@ use Rattle.sim_tape.specs.Tape.{Tape}
 use Rattle.sim_tape.specs.Places.{world_of, AreCheckpoints}
 use Rattle.sim_tape.specs.Works.{nodes_at_end}
 use Rattle.sim_tape.proofs.Growing.{run-push}
-use Rattle.sim_tape.proofs.Turning.{Inside, same_tape}
+use Rattle.sim_tape.proofs.Turning.{Inside, same_tape, at_end, many}
 use Rattle.sim_tape.proofs.Growing.{kept_checkpoints}
 use Rattle.sim_tape.proofs.tape.Tape.add_at_seam.Goals as goal
 
@@ -25,9 +25,42 @@ step-requires-clause-can g c =
     let log = c.make_room.new.log in
     let P : Tape → Type 0 = λ t. refusal_of (rules g.N.Node.laws g.N.Node.PROBES t.scenario) c.args.event (world_of (rules g.N.Node.laws g.N.Node.PROBES t.scenario) t) ≡ None in
     let G : LogView → ℕ → Type 0 = λ l q. refusal_of (rules g.N.Node.laws g.N.Node.PROBES l.scenario) c.args.event (world_at (rules g.N.Node.laws g.N.Node.PROBES l.scenario) q (events_of l.entries)) ≡ None in
-    let end : i.place ≡ length i.log.entries = ap (λ t. t.place) c.self.view_is ∙ c.requires.end ∙ ap (λ t. length t.events) (sym c.self.view_is) ∙ events-length i.log.entries in
+    let end : i.place ≡ length i.log.entries = at_end i.log.entries _ _ c.self.view_is refl c.requires.end in
     let place : i.place ≡ length log.entries = end ∙ ap (λ l. length l.entries) (sym c.make_room.ensures.same) in
     subst (λ (q : ℕ). G log q) place (subst (λ (l : LogView). G l i.place) (sym c.make_room.ensures.same) (subst P (sym c.self.view_is) c.requires.can))
+
+pub step-requires-clause-walk : goal.step-requires-clause-walk
+step-requires-clause-walk g c =
+    let i = c.self.inside in
+    let G : LogView → ℕ → Type 0 = λ l p. IsWalk g.N.Node.told g.N.Node.records (rules g.N.Node.laws g.N.Node.PROBES l.scenario) (events_of l.entries) p i.walk.world i.walk.ring.items in
+    let same = c.make_room.ensures.same in
+    let place = at_end i.log.entries _ _ c.self.view_is refl c.requires.end ∙ ap (λ l. length l.entries) (sym same) in
+    subst (G c.make_room.new.log) place (subst (λ (l : LogView). G l i.place) (sym same) c.self.invariant.2)
+
+pub step-requires-clause-room : goal.step-requires-clause-room
+step-requires-clause-room g c =
+    omega (arith, c.requires.room, many c.self.inside.log.entries _ _ c.self.view_is refl, ap (λ l. length l.entries) c.make_room.ensures.same)
+
+pub push-requires-clause-few : goal.push-requires-clause-few
+push-requires-clause-few g c =
+    omega (arith, c.requires.room, many c.self.inside.log.entries _ _ c.self.view_is refl, ap (λ l. length l.entries) c.make_room.ensures.same)
+
+pub invariant_of-self-in_err-clock : goal.invariant_of-self-in_err-clock
+invariant_of-self-in_err-clock g c =
+    let i = c.self.inside in
+    let same = c.make_room.ensures.same in
+    let told = g.N.Node.told in
+    let place = at_end i.log.entries _ _ c.self.view_is refl c.requires.end ∙ ap (λ l. length l.entries) (sym same) in
+    let ring = c.step.ensures.ring in
+    let window = c.step.ensures.capacity ∙ c.self.invariant.3 ∙ ap (λ l. l.scenario.window) (sym same) in (
+      subst (λ (l : LogView). IsRun (rules g.N.Node.laws g.N.Node.PROBES l.scenario) l.entries) (sym same) c.self.invariant.0,
+      subst (λ xs. AreCheckpoints (rules g.N.Node.laws g.N.Node.PROBES c.make_room.new.log.scenario) (events_of c.make_room.new.log.entries) xs) (sym c.make_room.ensures.items)
+          (subst (λ (l : LogView). AreCheckpoints (rules g.N.Node.laws g.N.Node.PROBES l.scenario) (events_of l.entries) i.checkpoints.items) (sym same) c.self.invariant.1),
+      subst (λ (p : ℕ). IsWalk told g.N.Node.records (rules g.N.Node.laws g.N.Node.PROBES c.make_room.new.log.scenario) (events_of c.make_room.new.log.entries) p c.step.new.self.world c.step.new.self.ring.items)
+          (sym place) c.in_err-clock.ensures.err,
+      window,
+      omega (arith, ring, window),
+    )
 
 pub invariant_of-self-2 : goal.invariant_of-self-2
 invariant_of-self-2 g c =
@@ -37,9 +70,9 @@ invariant_of-self-2 g c =
     let r = rules g.N.Node.laws g.N.Node.PROBES log.scenario in
     let x : Entry = record { event = c.args.event; clock = c.in_ok-clock.clock } in
     let v = c.in_ok-clock.ensures in
-    let end : i.place ≡ length i.log.entries = ap (λ t. t.place) c.self.view_is ∙ c.requires.end ∙ ap (λ t. length t.events) (sym c.self.view_is) ∙ events-length i.log.entries in
+    let end : i.place ≡ length i.log.entries = at_end i.log.entries _ _ c.self.view_is refl c.requires.end in
     let place : i.place ≡ length log.entries = end ∙ ap (λ l. length l.entries) (sym same) in
-    let room : length log.entries < 65536 = omega (arith, c.requires.room, ap (λ t. length t.events) c.self.view_is, events-length i.log.entries, end, place) in
+    let room : length log.entries < 65536 = omega (arith, c.requires.room, many i.log.entries _ _ c.self.view_is refl, ap (λ l. length l.entries) same) in
     let low = c.self.invariant.0.limits.interval.0 in
     let run0 = subst (λ (l : LogView). IsRun (rules g.N.Node.laws g.N.Node.PROBES l.scenario) l.entries) (sym same) c.self.invariant.0 in
     let marks0 = subst (λ (l : LogView). AreCheckpoints (rules g.N.Node.laws g.N.Node.PROBES l.scenario) (events_of l.entries) i.checkpoints.items) (sym same) c.self.invariant.1 in
@@ -89,7 +122,7 @@ returns-clause-work g c =
     let i = c.self.inside in
     let log = c.make_room.new.log in
     let same = c.make_room.ensures.same in
-    let end : i.place ≡ length i.log.entries = ap (λ t. t.place) c.self.view_is ∙ c.requires.end ∙ ap (λ t. length t.events) (sym c.self.view_is) ∙ events-length i.log.entries in
+    let end : i.place ≡ length i.log.entries = at_end i.log.entries _ _ c.self.view_is refl c.requires.end in
     let place : i.place ≡ length log.entries = end ∙ ap (λ l. length l.entries) (sym same) in
     let N : ℕ → LogView → ℕ = λ q l. cond (nat_eq ((q + 1) % l.scenario.interval) 0) (running (world_at (rules g.N.Node.laws g.N.Node.PROBES l.scenario) (q + 1) (events_of l.entries ++ c.args.event ∷ []))) 0 in
     let whole = c.in_ok-is_whole.ensures.whole ∙ ap {B = Bool} (λ (l : LogView). nat_eq ((length l.entries + 1) % l.scenario.interval) 0) (sym same) in
@@ -105,7 +138,7 @@ returns-clause-clock g c =
     let i = c.self.inside in
     let log = c.make_room.new.log in
     let same = c.make_room.ensures.same in
-    let end : i.place ≡ length i.log.entries = ap (λ t. t.place) c.self.view_is ∙ c.requires.end ∙ ap (λ t. length t.events) (sym c.self.view_is) ∙ events-length i.log.entries in
+    let end : i.place ≡ length i.log.entries = at_end i.log.entries _ _ c.self.view_is refl c.requires.end in
     let place : i.place ≡ length log.entries = end ∙ ap (λ l. length l.entries) (sym same) in
     let G : ℕ → LogView → Type 0 = λ q l.
     let r = rules g.N.Node.laws g.N.Node.PROBES l.scenario in
@@ -123,7 +156,7 @@ returns-clause-on g c =
     let i = c.self.inside in
     let log = c.make_room.new.log in
     let same = c.make_room.ensures.same in
-    let end : i.place ≡ length i.log.entries = ap (λ t. t.place) c.self.view_is ∙ c.requires.end ∙ ap (λ t. length t.events) (sym c.self.view_is) ∙ events-length i.log.entries in
+    let end : i.place ≡ length i.log.entries = at_end i.log.entries _ _ c.self.view_is refl c.requires.end in
     let place : i.place ≡ length log.entries = end ∙ ap (λ l. length l.entries) (sym same) in
     let G : ℕ → LogView → Type 0 = λ q l.
     let r = rules g.N.Node.laws g.N.Node.PROBES l.scenario in

@@ -1,5 +1,9 @@
-use Rattle.std.proofs.Common.{◌≡◌, ◌≢◌, ◌≤◌, ℕ, ◌+◌, ◌%◌, ◌<◌, ◌++◌, ◌∷◌, [], None, length, min, refl, sym, ap, ◌∙◌, subst, arith, eq-eqb}
+use Rattle.std.proofs.Common.{Bool, cond, ◌≡◌, ◌≢◌, ◌≤◌, ℕ, ◌+◌, ◌%◌, ◌<◌, ◌++◌, ◌∷◌, [], None, length, min, refl, sym, ap, ◌∙◌, subst, arith, eq-eqb}
+use Rattle.std.specs.Prelude.{nat_eq}
 use Rattle.std.proofs.lemmas.Bool.{false≢true}
+use Rattle.sim_world.specs.Acts.{running}
+use Rattle.sim_moves.specs.Works.{Plays}
+use Rattle.sim_tape.specs.Works.{nodes_at_end}
 use Rattle.sim_events.specs.Scenario.{Scenario}
 use Rattle.sim_world.specs.Clock.{clock_after}
 use Rattle.sim_world.specs.Events.{rules, refusal_of}
@@ -11,7 +15,7 @@ use Rattle.sim_moves.specs.Walk.{IsWalk}
 use Rattle.sim_tape.specs.Tape.{Tape}
 use Rattle.sim_tape.specs.Places.{world_of, AreCheckpoints}
 use Rattle.sim_tape.proofs.Growing.{run-push, checkpoints-more}
-use Rattle.sim_tape.proofs.Turning.{Inside, same_tape}
+use Rattle.sim_tape.proofs.Turning.{Inside, same_tape, at_end, many}
 use Rattle.sim_tape.proofs.tape.Tape.add_warm.Goals as goal
 
 pub step-requires-clause-can : goal.step-requires-clause-can
@@ -19,8 +23,35 @@ step-requires-clause-can g c =
     let i = c.self.inside in
     let P : Tape → Type 0 = λ t. refusal_of (rules g.N.Node.laws g.N.Node.PROBES t.scenario) c.args.event (world_of (rules g.N.Node.laws g.N.Node.PROBES t.scenario) t) ≡ None in
     let r = rules g.N.Node.laws g.N.Node.PROBES i.log.scenario in
-    let place : i.place ≡ length i.log.entries = ap (λ t. t.place) c.self.view_is ∙ c.requires.end ∙ ap (λ t. length t.events) (sym c.self.view_is) ∙ events-length i.log.entries in
+    let place : i.place ≡ length i.log.entries = at_end i.log.entries _ _ c.self.view_is refl c.requires.end in
     subst (λ (q : ℕ). refusal_of r c.args.event (world_at r q (events_of i.log.entries)) ≡ None) place (subst P (sym c.self.view_is) c.requires.can)
+
+pub step-requires-clause-walk : goal.step-requires-clause-walk
+step-requires-clause-walk g c =
+    let i = c.self.inside in
+    let r = rules g.N.Node.laws g.N.Node.PROBES i.log.scenario in
+    subst (λ (p : ℕ). IsWalk g.N.Node.told g.N.Node.records r (events_of i.log.entries) p i.walk.world i.walk.ring.items)
+    (at_end i.log.entries _ _ c.self.view_is refl c.requires.end) c.self.invariant.2
+
+pub step-requires-clause-room : goal.step-requires-clause-room
+step-requires-clause-room g c = omega (arith, c.requires.room, many c.self.inside.log.entries _ _ c.self.view_is refl)
+
+pub push-requires-clause-few : goal.push-requires-clause-few
+push-requires-clause-few g c = omega (arith, c.requires.room, many c.self.inside.log.entries _ _ c.self.view_is refl)
+
+pub invariant_of-self : goal.invariant_of-self
+invariant_of-self g c =
+    let i = c.self.inside in
+    let r = rules g.N.Node.laws g.N.Node.PROBES i.log.scenario in
+    let ring = c.step.ensures.ring in
+    let window = c.step.ensures.capacity ∙ c.self.invariant.3 in (
+      c.self.invariant.0,
+      c.self.invariant.1,
+      subst (λ (p : ℕ). IsWalk g.N.Node.told g.N.Node.records r (events_of i.log.entries) p c.step.new.self.world c.step.new.self.ring.items)
+          (sym (at_end i.log.entries _ _ c.self.view_is refl c.requires.end)) c.in_err-clock.ensures.err,
+      window,
+      omega (arith, ring, window),
+    )
 
 pub invariant_of-self-2 : goal.invariant_of-self-2
 invariant_of-self-2 g c =
@@ -31,9 +62,8 @@ invariant_of-self-2 g c =
     let x : Entry = record { event = c.args.event; clock = c.in_ok-clock.clock } in
     let v = c.in_ok-clock.ensures in
     let len = events-length log.entries in
-    let events = ap (λ t. length t.events) c.self.view_is in
-    let place : i.place ≡ length log.entries = ap (λ t. t.place) c.self.view_is ∙ c.requires.end ∙ sym events ∙ len in
-    let room : length log.entries < 65536 = omega (arith, c.requires.room, events, len) in
+    let place = at_end log.entries _ _ c.self.view_is refl c.requires.end in
+    let room : length log.entries < 65536 = omega (arith, c.requires.room, many log.entries _ _ c.self.view_is refl) in
     let none = c.if-not-goes_on.ensures.part refl in
     let part : (length (events_of log.entries) + 1) % k ≢ 0 = λ (z : (length (events_of log.entries) + 1) % k ≡ 0).
     false≢true (sym none ∙ eq-eqb ((length log.entries + 1) % k) 0 (ap (λ (n : ℕ). (n + 1) % k) (sym len) ∙ z)) in
@@ -75,7 +105,7 @@ pub returns-clause-clock : goal.returns-clause-clock
 returns-clause-clock g c =
     let i = c.self.inside in
     let r = rules g.N.Node.laws g.N.Node.PROBES i.log.scenario in
-    let place : i.place ≡ length i.log.entries = ap (λ t. t.place) c.self.view_is ∙ c.requires.end ∙ ap (λ t. length t.events) (sym c.self.view_is) ∙ events-length i.log.entries in
+    let place : i.place ≡ length i.log.entries = at_end i.log.entries _ _ c.self.view_is refl c.requires.end in
     let G : ℕ → Type 0 = λ q. (world_at r (q + 1) (events_of i.log.entries ++ c.args.event ∷ [])).clock ≡ clock_after c.args.event (world_at r q (events_of i.log.entries)) in
     let T : Tape → Type 0 = λ t.
     let r = rules g.N.Node.laws g.N.Node.PROBES t.scenario in
@@ -89,7 +119,7 @@ pub returns-clause-on : goal.returns-clause-on
 returns-clause-on g c =
     let i = c.self.inside in
     let r = rules g.N.Node.laws g.N.Node.PROBES i.log.scenario in
-    let place : i.place ≡ length i.log.entries = ap (λ t. t.place) c.self.view_is ∙ c.requires.end ∙ ap (λ t. length t.events) (sym c.self.view_is) ∙ events-length i.log.entries in
+    let place : i.place ≡ length i.log.entries = at_end i.log.entries _ _ c.self.view_is refl c.requires.end in
     let G : ℕ → Type 0 = λ q. (world_at r q (events_of i.log.entries)).clock ≤ (world_at r (q + 1) (events_of i.log.entries ++ c.args.event ∷ [])).clock in
     let T : Tape → Type 0 = λ t.
     let r = rules g.N.Node.laws g.N.Node.PROBES t.scenario in
@@ -98,3 +128,14 @@ returns-clause-on g c =
     let r = rules g.N.Node.laws g.N.Node.PROBES c.args.self.now.scenario in
     (world_of r c.args.self.now).clock ≤ (world_of r t).clock in
     subst P (sym (returns-clause-ok g c)) (subst T c.self.view_is (subst G (sym place) c.in_ok-clock.ensures.on))
+
+pub returns-clause-work : goal.returns-clause-work
+returns-clause-work g c =
+    let i = c.self.inside in
+    let r = rules g.N.Node.laws g.N.Node.PROBES i.log.scenario in
+    let place = at_end i.log.entries _ _ c.self.view_is refl c.requires.end in
+    let part = ap {B = Bool} (λ (q : ℕ). nat_eq ((q + 1) % i.log.scenario.interval) 0) place ∙ c.if-not-goes_on.ensures.part refl in
+    let nodes =
+    ap {B = ℕ} (λ (b : Bool). cond b (running (world_at r (i.place + 1) (events_of i.log.entries ++ c.args.event ∷ []))) 0) (sym part)
+    ∙ ap {B = ℕ} (λ (t : Tape). nodes_at_end (rules g.N.Node.laws g.N.Node.PROBES t.scenario) c.args.event t) c.self.view_is in
+    subst (λ (n : ℕ). Plays 1 n (g.N.Meter.Meter.work c.args.meter.now) (g.N.Meter.Meter.work c.step.new.meter)) nodes c.in_ok-clock.ensures.work
