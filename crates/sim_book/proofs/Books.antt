@@ -27,7 +27,7 @@ use Rattle.sim_book.specs.Works.{Works}
 use Rattle.sim_book.specs.Kept.{Kept, shown, all_shown}
 use Rattle.sim_runs.specs.Branch.{branch_with}
 use Rattle.sim_book.specs.OnBranch.{IsTurnOn, refusal_on, reply_on, after_on}
-use Rattle.sim_book.specs.BookOf.{AllKept}
+use Rattle.sim_book.specs.BookOf.{AllKept, IsKept}
 
 module _ {State Msg : Type 0} (r : Rules State Msg) where
   pub made_none : (c : Command) (x : Branch) → makes_branch c ≡ false → branches_made r c x ≡ []
@@ -122,6 +122,14 @@ module _ {State Msg : Type 0} (node : NodeLaws State Msg) (probes : ℕ) where
       → Works node probes c given k.tape u a b
   kept_works k t u ws c c' given a b is_k is_c works =
       subst (λ (v : Kept). Works node probes c given v.tape u a b) is_k (subst (λ (d : Command). Works node probes d given t u a b) (sym is_c) works)
+
+-- a command on a tape keeps its scenario, and so what is known of its branch
+pub kept_same : (probes : ℕ) (s : Scenario) (k : Kept) (t u : Tape) (ws : List (Option Cond)) → record { tape = t; watches = ws } ≡ k → u.scenario ≡ t.scenario → IsKept probes s k
+    → IsKept probes s (record { tape = u; watches = ws })
+kept_same probes s k t u ws is_k same h = record {
+  scenario = same ∙ ap (λ v. v.tape.scenario) is_k ∙ h.scenario;
+  checked = subst (λ (v : Kept). AreChecked s.setup.hosts probes v.watches) (sym is_k) h.checked;
+}
 
 -- nothing hinders a branch of the first events of another
 branch_free : {State Msg : Type 0} (r : Rules State Msg) (ks : List Kept) (d : Kept) (b p : ℕ) → b < length ks → p ≤ length (get_or ks b d).tape.events → length ks < 64

@@ -1,6 +1,6 @@
 use Rattle.std.proofs.Common.{sym, ap, ◌∙◌, refl}
 use Rattle.sim_watch.specs.declared.command.Command.TheVariants as command
-use Rattle.sim_book.proofs.Books.{kept_turn, kept_keeps}
+use Rattle.sim_book.proofs.Books.{kept_turn, kept_keeps, kept_same}
 use Rattle.sim_book.proofs.carry.on_branch.Goals as goal
 
 pub returns-in-Step-clause-turn : goal.returns-in-Step-clause-turn
@@ -43,3 +43,33 @@ returns-in-Watch-clause-keeps g c =
 pub returns-in-Unwatch-clause-keeps : goal.returns-in-Unwatch-clause-keeps
 returns-in-Unwatch-clause-keeps g c =
     kept_keeps g.N.Node.laws g.N.Node.PROBES c.args.kept.now c.kept.inside.tape c.kept.inside.tape c.kept.inside.watches c.args.command.now _ c.unwatch.result c.kept.view_is c.in-Unwatch.is (c.unwatch.ensures.keeps c.kept.inside.tape)
+
+pub returns-in-Step-clause-kept : goal.returns-in-Step-clause-kept
+returns-in-Step-clause-kept g c = kept_same g.N.Node.PROBES c.args.scenario.now _ _ _ _ c.kept.view_is c.step.ensures.same c.requires.kept
+
+pub returns-in-Tick-clause-kept : goal.returns-in-Tick-clause-kept
+returns-in-Tick-clause-kept g c = kept_same g.N.Node.PROBES c.args.scenario.now _ _ _ _ c.kept.view_is c.tick.ensures.same c.requires.kept
+
+pub returns-in-Run-clause-kept : goal.returns-in-Run-clause-kept
+returns-in-Run-clause-kept g c = kept_same g.N.Node.PROBES c.args.scenario.now _ _ _ _ c.kept.view_is c.run.ensures.same c.requires.kept
+
+pub returns-in-Fault-clause-kept : goal.returns-in-Fault-clause-kept
+returns-in-Fault-clause-kept g c = kept_same g.N.Node.PROBES c.args.scenario.now _ _ _ _ c.kept.view_is c.fault.ensures.same c.requires.kept
+
+pub returns-in-Back-clause-kept : goal.returns-in-Back-clause-kept
+returns-in-Back-clause-kept g c = kept_same g.N.Node.PROBES c.args.scenario.now _ _ _ _ c.kept.view_is c.back.ensures.same c.requires.kept
+
+pub returns-in-Forward-clause-kept : goal.returns-in-Forward-clause-kept
+returns-in-Forward-clause-kept g c = kept_same g.N.Node.PROBES c.args.scenario.now _ _ _ _ c.kept.view_is c.forward.ensures.same c.requires.kept
+
+pub returns-in-Goto-clause-kept : goal.returns-in-Goto-clause-kept
+returns-in-Goto-clause-kept g c = kept_same g.N.Node.PROBES c.args.scenario.now _ _ _ _ c.kept.view_is c.goto.ensures.same c.requires.kept
+
+pub returns-in-Rewind-clause-kept : goal.returns-in-Rewind-clause-kept
+returns-in-Rewind-clause-kept g c = kept_same g.N.Node.PROBES c.args.scenario.now _ _ _ _ c.kept.view_is c.rewind.ensures.same c.requires.kept
+
+pub returns-in-Cut-clause-kept : goal.returns-in-Cut-clause-kept
+returns-in-Cut-clause-kept g c = kept_same g.N.Node.PROBES c.args.scenario.now _ _ _ _ c.kept.view_is c.cut.ensures.same c.requires.kept
+
+pub returns-in-Look-clause-kept : goal.returns-in-Look-clause-kept
+returns-in-Look-clause-kept g c = kept_same g.N.Node.PROBES c.args.scenario.now _ _ _ _ c.kept.view_is c.look.ensures.same c.requires.kept
