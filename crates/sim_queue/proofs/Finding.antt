@@ -103,6 +103,11 @@ module _ {B : Type 0} (p : B → Bool) where
   not_accepted from (Some key) body b is test =
       sym (ap (λ x. taken_serial p from (Some key) x) is ∙ either_none (nat_lt key.1 from) _ (ap (λ t. if t then Some key.1 else None) test))
 
+  pub too_early : (from d s : ℕ) (key : Option (ℕ × ℕ)) (body : Option B) (b : B) → key ≡ Some (d, s) → s < from → body ≡ Some b → None ≡ taken_serial p from key body
+  too_early from d s key body b h low is =
+      sym (ap (λ k. taken_serial p from k body) h ∙ ap (λ x. taken_serial p from (Some (d, s)) x) is
+      ∙ ap (λ c. if c then None else (if p b then Some s else None)) (lt-ltb s from low))
+
   pub by_test : (from d s : ℕ) (key : Option (ℕ × ℕ)) (body : Option B) (b : B) (t : Bool) → key ≡ Some (d, s) → from ≤ s → body ≡ Some b → p b ≡ t
       → (if t then Some s else None) ≡ taken_serial p from key body
   by_test from d s key body b t h high is test =

@@ -1,10 +1,10 @@
 -- A node joins a list.
-use Rattle.std.proofs.Common.{◌≡◌, ◌≢◌, ℕ, ◌^◌, ◌<◌, ◌≤◌, ◌%◌, List, sym, ap, ◌∙◌, subst, arith, length, inl, inr, ⊎_elim}
+use Rattle.std.proofs.Common.{◌≡◌, ◌≢◌, ℕ, ◌^◌, ◌<◌, ◌≤◌, ◌%◌, List, sym, ap, ◌∙◌, subst, arith, length, inl, inr, ⊎_elim, refl}
 use Rattle.std.proofs.Math.ListN.{set, length-set}
 use Rattle.std.proofs.lemmas.Bool.{cases_eq}
 use Rattle.sim_queue.specs.declared.lists.Node.{Node}
 use Rattle.sim_queue.specs.inside.Lists.{node, day, list_of, order_of, key_order, IsLinked, IsLists, IsBehind, IsAhead, IsFree, IsSpot, KeepsOthers}
-use Rattle.sim_queue.proofs.Nodes.{node_set, node_other, SetsAfter, SetsBefore}
+use Rattle.sim_queue.proofs.Nodes.{linked_within, read_at, node_read_at, node_set, node_other, SetsAfter, SetsBefore, sets_after, sets_before}
 
 -- the node p stands between b and a
 pub record IsJoined (old new : List Node) (p b a d s : ℕ) : Type 0 where
@@ -198,3 +198,39 @@ module _ (w : ℕ) (old new : List Node) (p b a due serial : ℕ) (lists : IsLis
         (cases_eq i b))
         (cases_eq i p);
   }
+
+-- the key is given to the free node p of the lists that a slice shows, right after the node b
+module _ (w : ℕ) (old seen : List Node) (p b due serial : ℕ) (lists : IsLists w old) (free : IsFree p old) (small : serial < 2 ^ 40) (spot : IsSpot w due serial b old) (value : seen ≡ old) where
+  spot_within : b < length old
+  spot_within = linked_within old b spot.linked
+
+  next_is : (read_at seen b).after ≡ (node old b).after
+  next_is = ap (λ (y : Node). y.after) (sym (node_read_at old seen b spot_within value))
+
+  next_linked : IsLinked old (read_at seen b).after
+  next_linked = after_linked w old b (read_at seen b).after lists spot.linked next_is
+
+  pub next_within : (read_at seen b).after < length old
+  next_within = linked_within old (read_at seen b).after next_linked
+
+  abbrev pub given : Node
+  given = record { due = due; serial = serial; before = b; after = (read_at seen b).after }
+
+  -- the three writes
+  module _ (two new : List Node)
+      (second : two ≡ set (set seen p given) b (record (node (set seen p given) b) { after = p }))
+      (third : new ≡ set two (read_at seen b).after (record (node two (read_at seen b).after) { before = p })) where
+    pub joined_by : IsJoined old new p b (read_at seen b).after due serial
+    joined_by =
+        let a = (read_at seen b).after in
+        let x = given in
+        let one : length (set old p x) ≡ length old = length-set old p x in
+        let b_in = spot_within in
+        let a_in = next_within in
+        let f = sets_after (set old p x) two b p (omega arith) (subst (λ (xs : List Node). two ≡ set (set xs p x) b (record (node (set xs p x) b) { after = p })) value second) in
+        let size = f.size in
+        let g = sets_before two new a p (omega arith) third in
+        joined old (set old p x) two new p b a due serial free (not_free p b old free spot.linked) (not_free p a old free next_linked) refl f g
+
+    pub lists_joined : IsLists w new
+    lists_joined = joined_lists w old new p b (read_at seen b).after due serial lists free small spot next_is joined_by

@@ -4,7 +4,7 @@ use Rattle.std.proofs.Math.ListN.{set, length-set}
 use Rattle.std.proofs.lemmas.Bool.{cases_eq, cases_lt}
 use Rattle.sim_queue.specs.declared.lists.Node.{Node}
 use Rattle.sim_queue.specs.inside.Lists.{node, day, list_of, order_of, key_order, HasKey, IsLinked, IsLists, IsBehind, IsAhead, KeepsOthers, IsEmptyList}
-use Rattle.sim_queue.proofs.Nodes.{key_from, linked_within, node_set, node_other, SetsAfter, SetsBefore}
+use Rattle.sim_queue.proofs.Nodes.{key_from, key_within, linked_within, read_at, node_read_at, node_set, node_other, SetsAfter, SetsBefore, sets_after, sets_before}
 use Rattle.sim_queue.proofs.Heads.{no_head}
 
 -- b stands before a, and p has no key
@@ -198,3 +198,44 @@ module _ (w : ℕ) (old new : List Node) (p b a : ℕ) (lists : IsLists w old) (
       let here : list_of w (node old p) ≡ b = sym b_list ∙ lists.lists b low (linked_within old b b_linked) in
       let after : (node new (list_of w (node old p))).after ≡ a = ap (λ (n : ℕ). (node new n).after) here ∙ l.b_after in
       no_head w new (list_of w (node old p)) left_lists (λ within. omega arith)
+
+-- the nodes of lists that a slice shows, of which p has a key
+module _ (w : ℕ) (old seen : List Node) (p : ℕ) (lists : IsLists w old) (key : HasKey (node old p)) (value : seen ≡ old) where
+  pub read_is : node old p ≡ read_at seen p
+  read_is = node_read_at old seen p (key_within old p key) value
+
+  before_is : (read_at seen p).before ≡ (node old p).before
+  before_is = ap (λ (y : Node). y.before) (sym read_is)
+
+  after_is : (read_at seen p).after ≡ (node old p).after
+  after_is = ap (λ (y : Node). y.after) (sym read_is)
+
+  pub before_within : (read_at seen p).before < length old
+  before_within = subst (λ (n : ℕ). n < length old) (sym before_is) (linked_within old (node old p).before (lists.behind p (inr key)).linked)
+
+  pub after_within : (read_at seen p).after < length old
+  after_within = subst (λ (n : ℕ). n < length old) (sym after_is) (linked_within old (node old p).after (lists.ahead p (inr key)).linked)
+
+  -- the three writes by which p leaves its list and becomes free
+  module _ (one two new : List Node) (free : ℕ)
+      (first : one ≡ set seen (read_at seen p).before (record (node seen (read_at seen p).before) { after = (read_at seen p).after }))
+      (second : two ≡ set one (read_at seen p).after (record (node one (read_at seen p).after) { before = (read_at seen p).before }))
+      (third : new ≡ set two p (record (node two p) { serial = 18446744073709551615; after = free })) where
+    pub left_by : IsLeft old new p (read_at seen p).before (read_at seen p).after
+    left_by =
+        let b = (read_at seen p).before in
+        let a = (read_at seen p).after in
+        let within = key_within old p key in
+        let a_in = after_within in
+        let f = sets_after old one b a before_within (subst (λ (xs : List Node). one ≡ set xs b (record (node xs b) { after = a })) value first) in
+        let size = f.size in
+        let g = sets_before one two a b (omega arith) second in
+        left old one two new p b a (record (node two p) { serial = 18446744073709551615; after = free }) within
+        (λ q. apart_before w old p lists key (sym before_is ∙ q)) (λ q. apart_after w old p lists key (sym after_is ∙ q)) f g third (omega arith)
+
+    pub lists_left : IsLists w new
+    lists_left = left_lists w old new p (read_at seen p).before (read_at seen p).after lists key before_is after_is left_by
+
+    pub empty_left : (read_at seen p).before ≡ (read_at seen p).after → IsEmptyList w (list_of w (read_at seen p)) new
+    empty_left same = subst (λ (y : Node). IsEmptyList w (list_of w y) new) read_is
+        (left_empty w old new p (read_at seen p).before (read_at seen p).after lists key before_is after_is left_by same)

@@ -44,6 +44,14 @@ node_set nodes i x within = get_or-set_same nodes i x no_node within
 pub node_other : (nodes : List Node) (i j : ℕ) (x : Node) → j ≢ i → node (set nodes i x) j ≡ node nodes j
 node_other nodes i j x apart = get_or-set_other nodes i j x no_node apart
 
+-- a node as code reads it out of a slice
+abbrev pub read_at : List Node → ℕ → Node
+read_at nodes i = get_or nodes i (record { due = 0; serial = 0; before = 0; after = 0 })
+
+pub node_read_at : (old seen : List Node) (i : ℕ) → i < length old → seen ≡ old → node old i ≡ read_at seen i
+node_read_at old seen i within value =
+    get_or_default old i no_node (record { due = 0; serial = 0; before = 0; after = 0 }) within ∙ ap (λ (xs : List Node). read_at xs i) (sym value)
+
 -- what a vector holds after its elements were written as a slice
 past_end : {X : Type 0} (n : ℕ) (xs : List X) → length xs ≤ n → drop n xs ≡ []
 past_end zero [] h = refl

@@ -1,8 +1,8 @@
 -- No key of a list comes between another one and the key after it, and no two are equal.
-use Rattle.std.proofs.Common.{◌≡◌, ℕ, zero, suc, ◌<◌, ◌≤◌, List, sym, ap, ◌∙◌, subst, arith, length, inl, inr, ◌⊎◌, ⊎_elim}
-use Rattle.std.proofs.lemmas.Bool.{cases_eq, cases_lt}
+use Rattle.std.proofs.Common.{◌≡◌, ℕ, zero, suc, ◌<◌, ◌≤◌, nat_lt, cond, List, sym, ap, ◌∙◌, subst, arith, length, inl, inr, ◌⊎◌, ⊎_elim}
+use Rattle.std.proofs.lemmas.Bool.{cases_eq, cases_lt, lt-ltb, le-ltb}
 use Rattle.sim_queue.specs.declared.lists.Node.{Node}
-use Rattle.sim_queue.specs.inside.Lists.{node, list_of, order_of, HasKey, IsLists}
+use Rattle.sim_queue.specs.inside.Lists.{node, list_of, order_of, HasKey, IsLinked, IsLists}
 use Rattle.sim_queue.proofs.Nodes.{key_from, linked_within, linked_key}
 use Rattle.sim_queue.proofs.Heads.{IsLeastIn, head_least}
 
@@ -181,3 +181,14 @@ module _ (w : ℕ) (nodes : List Node) (lists : IsLists w nodes) where
       let back : after (before b) ≡ b = x.back in
       absurd (omega arith))
       (cases_lt (before b) 256)
+
+  -- a search from the end of a list has less before it at each node
+  pub passes : (a next : ℕ) → 256 ≤ a → IsLinked nodes a → before a ≡ next → cond (nat_lt next 256) 0 (suc (order next)) < cond (nat_lt a 256) 0 (suc (order a))
+  passes a next from linked is =
+      rw (le-ltb a 256 from) (⊎_elim
+      (λ (lt : next < 256). rw (lt-ltb next 256 lt) (omega arith))
+      (λ (ge : 256 ≤ next). rw (le-ltb next 256 ge) (
+      let up : order (before a) < order a = (lists.behind a linked).rising from (omega arith) in
+      let e : order (before a) ≡ order next = ap (λ (n : ℕ). order n) is in
+      omega arith))
+      (cases_lt next 256))

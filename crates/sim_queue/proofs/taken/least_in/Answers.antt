@@ -4,8 +4,8 @@ use Rattle.sim_queue.specs.inside.Lists.{node, list_of, order_of, IsLinked}
 use Rattle.sim_queue.specs.inside.Sparse.{body_at}
 use Rattle.sim_queue.specs.inside.Taken.{taken_serial, IsLeastAmong}
 use Rattle.sim_queue.specs.inside.Wheel.{key_of, keys_of, key_at}
-use Rattle.sim_queue.proofs.Nodes.{key_within, linked_key, node_read}
-use Rattle.sim_queue.proofs.Ordered.{IsPast, earlier, last_key}
+use Rattle.sim_queue.proofs.Nodes.{key_within, linked_within, linked_key, node_read}
+use Rattle.sim_queue.proofs.Ordered.{IsPast, earlier, last_key, passes}
 use Rattle.sim_queue.proofs.Turning.{key_there}
 use Rattle.sim_queue.proofs.Finding.{least_none, least_here, least_both, least_fewer}
 use Rattle.sim_queue.proofs.taken.least_in.Goals as goal
@@ -63,3 +63,25 @@ returns g c p tests =
     let low : c.loop-at.at < 256 = omega arith in
     least_fewer p nodes c.args.bodies.now.items c.args.from (λ k. IsPast w nodes l c.loop-at.at (k + 256)) (λ k. list_of w (node nodes (k + 256)) ≡ l) c.loop-at.least
     (c.loop-at.invariant.seen p tests) (λ k key here. (here, λ ge. absurd (omega arith)))
+
+pub loop-at-smaller : goal.loop-at-smaller
+loop-at-smaller g c =
+    let nodes = c.args.lists.now.nodes.items in
+    let at = c.loop-at.at in
+    let key = linked_key nodes at c.loop-at.invariant.linked c.loop-at-test.true in
+    let before = ap (λ (x : Node). x.before) (node_read nodes at c.index.result.now (key_within nodes at key) c.index.ensures) in
+    passes c.args.lists.now.width nodes c.requires.lists at c.index.result.now.before c.loop-at-test.true c.loop-at.invariant.linked before
+
+pub index-requires : goal.index-requires
+index-requires g c =
+    let nodes = c.args.lists.now.nodes.items in
+    let within : c.loop-at.at < length nodes = linked_within nodes c.loop-at.at c.loop-at.invariant.linked in
+    subst (λ (n : ℕ). c.loop-at.at < n) (sym c.args.lists.now.nodes.ok.0) within
+
+pub taken_at-requires : goal.taken_at-requires
+taken_at-requires g c = record {
+  callable = c.requires.callable;
+  lists = c.requires.lists;
+  bodies = c.requires.bodies;
+  key = linked_key c.args.lists.now.nodes.items c.loop-at.at c.loop-at.invariant.linked c.loop-at-test.true;
+}

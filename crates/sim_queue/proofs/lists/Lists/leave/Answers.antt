@@ -1,65 +1,87 @@
-use Rattle.std.proofs.Common.{◌≡◌, ℕ, ◌<◌, List, length, sym, ap, subst, ◌∙◌, arith, inr}
-use Rattle.std.proofs.Math.ListN.{get_or, set}
-use Rattle.std.proofs.lemmas.List.{get_or_default}
+use Rattle.std.proofs.Common.{◌≡◌, ◌<◌, List, length, sym, ap, ◌∙◌, subst, arith}
 use Rattle.sim_queue.specs.declared.lists.Node.{Node}
-use Rattle.sim_queue.specs.inside.Lists.{node, no_node, list_of, IsLists, IsEmptyList}
-use Rattle.sim_queue.proofs.Nodes.{key_within, linked_within, sets_after, sets_before, written_back}
-use Rattle.sim_queue.proofs.Leaving.{left, left_lists, left_empty, apart_before, apart_after}
+use Rattle.sim_queue.specs.inside.Lists.{list_of, IsLists, IsEmptyList, KeepsOthers}
+use Rattle.sim_queue.proofs.Nodes.{key_within, read_at, written_back}
+use Rattle.sim_queue.proofs.Leaving.{read_is, before_within, after_within, left_by, lists_left, empty_left}
 use Rattle.sim_queue.proofs.lists.Lists.leave.Goals as goal
+
+pub set_after-requires : goal.set_after-requires
+set_after-requires c =
+    let old = c.args.self.now.nodes.items in
+    let seen = c.as_mut_slice-nodes.result.now in
+    let value : seen ≡ old = c.as_mut_slice-nodes.ensures.value in
+    let within = before_within c.args.self.now.width old seen c.args.place c.requires.lists c.requires.key value in
+    subst (λ (xs : List Node). (read_at seen c.args.place).before < length xs) (sym value) within
+
+pub set_before-requires : goal.set_before-requires
+set_before-requires c =
+    let old = c.args.self.now.nodes.items in
+    let seen = c.as_mut_slice-nodes.result.now in
+    let value : seen ≡ old = c.as_mut_slice-nodes.ensures.value in
+    let size : length seen ≡ length old = ap (λ (xs : List Node). length xs) value in
+    let within = after_within c.args.self.now.width old seen c.args.place c.requires.lists c.requires.key value in
+    omega arith
+
+pub free_at-requires : goal.free_at-requires
+free_at-requires c =
+    let old = c.args.self.now.nodes.items in
+    let seen = c.as_mut_slice-nodes.result.now in
+    let size : length seen ≡ length old = ap (λ (xs : List Node). length xs) c.as_mut_slice-nodes.ensures.value in
+    let within = key_within old c.args.place c.requires.key in
+    omega arith
+
+pub returns-clause-node : goal.returns-clause-node
+returns-clause-node c =
+    sym (read_is c.args.self.now.width c.args.self.now.nodes.items c.as_mut_slice-nodes.result.now c.args.place c.requires.lists c.requires.key c.as_mut_slice-nodes.ensures.value)
 
 pub returns-clause-lists : goal.returns-clause-lists
 returns-clause-lists c =
-    let old : List Node = c.args.self.now.nodes.items in
-    let seen : List Node = c.as_mut_slice-nodes.result.now in
-    let value : seen ≡ old = c.as_mut_slice-nodes.ensures.value in
+    let old = c.args.self.now.nodes.items in
+    let seen = c.as_mut_slice-nodes.result.now in
     let w = c.args.self.now.width in
     let p = c.args.place in
-    let x : Node = get_or seen p (record { due = 0; serial = 0; before = 0; after = 0 }) in
-    let b = x.before in
-    let a = x.after in
+    let value : seen ≡ old = c.as_mut_slice-nodes.ensures.value in
     let one = c.set_after.new.nodes in
     let two = c.set_before.new.nodes in
     let new = c.free_at.new.nodes in
-    let within = key_within old p c.requires.key in
-    let read : node old p ≡ x = get_or_default old p no_node (record { due = 0; serial = 0; before = 0; after = 0 }) within ∙ ap (λ (xs : List Node). get_or xs p (record { due = 0; serial = 0; before = 0; after = 0 })) (sym value) in
-    let is_b : b ≡ (node old p).before = ap (λ (y : Node). y.before) (sym read) in
-    let is_a : a ≡ (node old p).after = ap (λ (y : Node). y.after) (sym read) in
-    let b_in : b < length old = subst (λ (n : ℕ). n < length old) (sym is_b) (linked_within old (node old p).before (c.requires.lists.behind p (inr c.requires.key)).linked) in
-    let a_in : a < length old = subst (λ (n : ℕ). n < length old) (sym is_a) (linked_within old (node old p).after (c.requires.lists.ahead p (inr c.requires.key)).linked) in
-    let f = sets_after old one b a b_in (subst (λ (xs : List Node). one ≡ set xs b (record (node xs b) { after = a })) value c.set_after.ensures) in
-    let size = f.size in
-    let g = sets_before one two a b (omega arith) c.set_before.ensures in
-    let free : Node = record (node two p) { serial = 18446744073709551615; after = c.args.self.now.free } in
-    let l = left old one two new p b a free within
-    (λ q. apart_before w old p c.requires.lists c.requires.key (sym is_b ∙ q)) (λ q. apart_after w old p c.requires.lists c.requires.key (sym is_a ∙ q)) f g c.free_at.ensures (omega arith) in
-    let back = written_back old new c.args.self.now.nodes.len c.args.self.now.nodes.ok.0 l.size in
-    subst (λ (xs : List Node). IsLists w xs) (sym back) (left_lists w old new p b a c.requires.lists c.requires.key is_b is_a l)
+    let l = left_by w old seen p c.requires.lists c.requires.key value one two new c.args.self.now.free c.set_after.ensures c.set_before.ensures c.free_at.ensures in
+    subst (λ (xs : List Node). IsLists w xs) (sym (written_back old new c.args.self.now.nodes.len c.args.self.now.nodes.ok.0 l.size))
+    (lists_left w old seen p c.requires.lists c.requires.key value one two new c.args.self.now.free c.set_after.ensures c.set_before.ensures c.free_at.ensures)
+
+pub returns-clause-gone : goal.returns-clause-gone
+returns-clause-gone c =
+    let old = c.args.self.now.nodes.items in
+    let new = c.free_at.new.nodes in
+    let l = left_by c.args.self.now.width old c.as_mut_slice-nodes.result.now c.args.place c.requires.lists c.requires.key c.as_mut_slice-nodes.ensures.value c.set_after.new.nodes c.set_before.new.nodes new
+    c.args.self.now.free c.set_after.ensures c.set_before.ensures c.free_at.ensures in
+    rw (written_back old new c.args.self.now.nodes.len c.args.self.now.nodes.ok.0 l.size) l.gone
+
+pub returns-clause-others : goal.returns-clause-others
+returns-clause-others c =
+    let old = c.args.self.now.nodes.items in
+    let new = c.free_at.new.nodes in
+    let l = left_by c.args.self.now.width old c.as_mut_slice-nodes.result.now c.args.place c.requires.lists c.requires.key c.as_mut_slice-nodes.ensures.value c.set_after.new.nodes c.set_before.new.nodes new
+    c.args.self.now.free c.set_after.ensures c.set_before.ensures c.free_at.ensures in
+    subst (λ (xs : List Node). KeepsOthers c.args.place old xs) (sym (written_back old new c.args.self.now.nodes.len c.args.self.now.nodes.ok.0 l.size)) l.keys
 
 pub returns-clause-last : goal.returns-clause-last
 returns-clause-last c same =
-    let old : List Node = c.args.self.now.nodes.items in
-    let seen : List Node = c.as_mut_slice-nodes.result.now in
-    let value : seen ≡ old = c.as_mut_slice-nodes.ensures.value in
+    let old = c.args.self.now.nodes.items in
+    let seen = c.as_mut_slice-nodes.result.now in
     let w = c.args.self.now.width in
     let p = c.args.place in
-    let x : Node = get_or seen p (record { due = 0; serial = 0; before = 0; after = 0 }) in
-    let b = x.before in
-    let a = x.after in
+    let value : seen ≡ old = c.as_mut_slice-nodes.ensures.value in
     let one = c.set_after.new.nodes in
     let two = c.set_before.new.nodes in
     let new = c.free_at.new.nodes in
-    let within = key_within old p c.requires.key in
-    let read : node old p ≡ x = get_or_default old p no_node (record { due = 0; serial = 0; before = 0; after = 0 }) within ∙ ap (λ (xs : List Node). get_or xs p (record { due = 0; serial = 0; before = 0; after = 0 })) (sym value) in
-    let is_b : b ≡ (node old p).before = ap (λ (y : Node). y.before) (sym read) in
-    let is_a : a ≡ (node old p).after = ap (λ (y : Node). y.after) (sym read) in
-    let b_in : b < length old = subst (λ (n : ℕ). n < length old) (sym is_b) (linked_within old (node old p).before (c.requires.lists.behind p (inr c.requires.key)).linked) in
-    let a_in : a < length old = subst (λ (n : ℕ). n < length old) (sym is_a) (linked_within old (node old p).after (c.requires.lists.ahead p (inr c.requires.key)).linked) in
-    let f = sets_after old one b a b_in (subst (λ (xs : List Node). one ≡ set xs b (record (node xs b) { after = a })) value c.set_after.ensures) in
-    let size = f.size in
-    let g = sets_before one two a b (omega arith) c.set_before.ensures in
-    let free : Node = record (node two p) { serial = 18446744073709551615; after = c.args.self.now.free } in
-    let l = left old one two new p b a free within
-    (λ q. apart_before w old p c.requires.lists c.requires.key (sym is_b ∙ q)) (λ q. apart_after w old p c.requires.lists c.requires.key (sym is_a ∙ q)) f g c.free_at.ensures (omega arith) in
-    let back = written_back old new c.args.self.now.nodes.len c.args.self.now.nodes.ok.0 l.size in
-    let empty = left_empty w old new p b a c.requires.lists c.requires.key is_b is_a l same in
-    subst (λ (xs : List Node). IsEmptyList w (list_of w x) xs) (sym back) (subst (λ (y : Node). IsEmptyList w (list_of w y) new) read empty)
+    let l = left_by w old seen p c.requires.lists c.requires.key value one two new c.args.self.now.free c.set_after.ensures c.set_before.ensures c.free_at.ensures in
+    subst (λ (xs : List Node). IsEmptyList w (list_of w (read_at seen p)) xs) (sym (written_back old new c.args.self.now.nodes.len c.args.self.now.nodes.ok.0 l.size))
+    (empty_left w old seen p c.requires.lists c.requires.key value one two new c.args.self.now.free c.set_after.ensures c.set_before.ensures c.free_at.ensures same)
+
+pub returns-clause-size : goal.returns-clause-size
+returns-clause-size c =
+    let old = c.args.self.now.nodes.items in
+    let new = c.free_at.new.nodes in
+    let l = left_by c.args.self.now.width old c.as_mut_slice-nodes.result.now c.args.place c.requires.lists c.requires.key c.as_mut_slice-nodes.ensures.value c.set_after.new.nodes c.set_before.new.nodes new
+    c.args.self.now.free c.set_after.ensures c.set_before.ensures c.free_at.ensures in
+    ap (λ (xs : List Node). length xs) (written_back old new c.args.self.now.nodes.len c.args.self.now.nodes.ok.0 l.size) ∙ l.size

@@ -1,7 +1,7 @@
 use Rattle.std.proofs.Common.{◌≡◌, ◌+◌, ◌-◌, ℕ, [], ◌∷◌, ◌++◌, Some, ap, sym, subst, ◌∙◌, arith, length}
 use Rattle.sim_queue.specs.Items.{items_from}
 use Rattle.sim_queue.specs.inside.Sparse.{SlotList, slots_of, IsSparse}
-use Rattle.sim_queue.proofs.Sparse.{items_within, index_past, fresh_next, kept_sparse, pushed_slots, pushed_sparse}
+use Rattle.sim_queue.proofs.Sparse.{length_slots, items_within, index_past, fresh_next, kept_sparse, pushed_slots, pushed_sparse}
 use Rattle.sim_queue.proofs.slots.Slots.push.Goals as goal
 
 pub put_in-requires-clause-fresh : goal.put_in-requires-clause-fresh
@@ -61,3 +61,39 @@ returns-clause-ok g c =
     ap (λ xs. slots_of c.put_in.new.wheel c.put_in.new.bodies.items xs) is
     ∙ pushed_slots keys c.put_in.new.wheel bodies c.put_in.new.bodies.items c.in_ok-at.at c.args.due (base + c.len.result) c.args.body c.in_ok-at.ensures.put places base count c.self.invariant
     ∙ ap (λ s. s ++ Some (c.args.due, c.args.body) ∷ []) slots
+
+pub overflow_add-serial : goal.overflow_add-serial
+overflow_add-serial g c =
+    let keys = c.self.inside.wheel in
+    let bodies = c.self.inside.bodies.items in
+    let places = c.self.inside.places.items in
+    let len : c.len.result ≡ length places = c.len.ensures ∙ c.self.inside.places.ok.0 in
+    let slots : length (slots_of keys bodies places) ≡ length c.args.self.now.items = ap (λ (s : SlotList _). length s.items) c.self.view_is in
+    let size = length_slots keys bodies places in
+    let base : c.self.inside.base ≡ c.args.self.now.base = ap (λ (s : SlotList _). s.base) c.self.view_is in
+    let small = c.requires in
+    omega arith
+
+pub put_in-requires-clause-small : goal.put_in-requires-clause-small
+put_in-requires-clause-small g c =
+    let keys = c.self.inside.wheel in
+    let bodies = c.self.inside.bodies.items in
+    let places = c.self.inside.places.items in
+    let len : c.len.result ≡ length places = c.len.ensures ∙ c.self.inside.places.ok.0 in
+    let slots : length (slots_of keys bodies places) ≡ length c.args.self.now.items = ap (λ (s : SlotList _). length s.items) c.self.view_is in
+    let size = length_slots keys bodies places in
+    let base : c.self.inside.base ≡ c.args.self.now.base = ap (λ (s : SlotList _). s.base) c.self.view_is in
+    let small = c.requires in
+    omega arith
+
+pub returns-clause-serial : goal.returns-clause-serial
+returns-clause-serial g c =
+    let keys = c.self.inside.wheel in
+    let bodies = c.self.inside.bodies.items in
+    let places = c.self.inside.places.items in
+    let len : c.len.result ≡ length places = c.len.ensures ∙ c.self.inside.places.ok.0 in
+    let slots : length (slots_of keys bodies places) ≡ length c.args.self.now.items = ap (λ (s : SlotList _). length s.items) c.self.view_is in
+    let size = length_slots keys bodies places in
+    let base : c.self.inside.base ≡ c.args.self.now.base = ap (λ (s : SlotList _). s.base) c.self.view_is in
+    let small = c.requires in
+    omega arith

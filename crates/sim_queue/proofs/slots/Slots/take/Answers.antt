@@ -96,3 +96,19 @@ returns-clause-rest g c =
     rw c.none.ensures
     (taken_slots keys c.take_out.new.wheel bodies c.take_out.new.bodies.items places base count c.args.place c.in_ok-at.at c.take_out.ensures.taken c.self.invariant here
     ∙ ap (λ s. set s c.args.place None) slots)
+
+pub index-requires : goal.index-requires
+index-requires g c =
+    let keys = c.self.inside.wheel in
+    let bodies = c.self.inside.bodies.items in
+    let places = c.self.inside.places.items in
+    let slots = ap (λ (s : SlotList _). s.items) c.self.view_is in
+    rw c.self.inside.places.ok.0 (within_slots keys bodies places c.args.self.now.items c.args.place slots c.requires)
+
+pub index_mut-requires : goal.index_mut-requires
+index_mut-requires g c =
+    let keys = c.self.inside.wheel in
+    let bodies = c.self.inside.bodies.items in
+    let places = c.self.inside.places.items in
+    let slots = ap (λ (s : SlotList _). s.items) c.self.view_is in
+    rw c.self.inside.places.ok.0 (within_slots keys bodies places c.args.self.now.items c.args.place slots c.requires)

@@ -1,8 +1,9 @@
-use Rattle.std.proofs.Common.{◌≡◌, ◌⊎◌, ℕ, ◌+◌, ◌%◌, ◌<◌, ◌≤◌, min, sym, ap, ◌∙◌, arith, inl, inr, ⊎_elim, refl}
+use Rattle.std.proofs.Common.{◌≡◌, ◌⊎◌, ℕ, ◌+◌, ◌%◌, ◌^◌, ◌<◌, ◌≤◌, List, Some, min, sym, ap, ◌∙◌, arith, inl, inr, ⊎_elim, refl}
 use Rattle.std.proofs.lemmas.Bool.{cases_lt}
-use Rattle.sim_queue.specs.inside.Lists.{day}
+use Rattle.sim_queue.specs.declared.lists.Node.{Node}
+use Rattle.sim_queue.specs.inside.Lists.{node, day}
 use Rattle.sim_queue.specs.inside.Wheel.{keys_of, key_at, IsPlace}
-use Rattle.sim_queue.proofs.Turning.{fresh_node, free_place, put_wheel, behind_key, kept_keys}
+use Rattle.sim_queue.proofs.Turning.{key_of_node, fresh_node, free_place, put_wheel, behind_key, kept_keys}
 use Rattle.sim_queue.proofs.wheel.Wheel.put.Goals as goal
 
 lesser : (a b m : ℕ) → m ≡ min a b → (m ≡ a) ⊎ (m ≡ b)
@@ -47,3 +48,40 @@ returns-then-before-lt-LISTS-clause-others c k apart =
 pub returns-else-before-lt-LISTS-clause-others : goal.returns-else-before-lt-LISTS-clause-others
 returns-else-before-lt-LISTS-clause-others c k apart =
     kept_keys c.self.inside.lists.nodes.items c.join.new.self.nodes.items c.args.place c.join.ensures.others k apart ∙ ap (λ xs. key_at xs k) c.self.view_is
+
+pub overflow_add-place : goal.overflow_add-place
+overflow_add-place c =
+    let nodes = c.self.inside.lists.nodes.items in
+    let place : IsPlace c.args.place (keys_of nodes) = rw c.self.view_is c.requires.place in
+    let free = free_place nodes c.args.place place in
+    let within = free.within in
+    let small = c.self.invariant.small in
+    omega arith
+
+pub spot-before-requires-clause-made : goal.spot-before-requires-clause-made
+spot-before-requires-clause-made c =
+    let nodes = c.self.inside.lists.nodes.items in
+    let place : IsPlace c.args.place (keys_of nodes) = rw c.self.view_is c.requires.place in
+    let free = free_place nodes c.args.place place in
+    let within = free.within in
+    omega arith
+
+pub join-requires-clause-free : goal.join-requires-clause-free
+join-requires-clause-free c =
+    let nodes = c.self.inside.lists.nodes.items in
+    let place : IsPlace c.args.place (keys_of nodes) = rw c.self.view_is c.requires.place in
+    let free = free_place nodes c.args.place place in
+    free
+
+-- the key that a node was given
+given : (nodes : List Node) (p due serial : ℕ) → (node nodes (p + 256)).due ≡ due → (node nodes (p + 256)).serial ≡ serial → serial < 2 ^ 40 → key_at (keys_of nodes) p ≡ Some (due, serial)
+given nodes p due serial is_due is_serial small =
+    key_of_node nodes p (omega arith) ∙ ap (λ (d : ℕ). Some (d, (node nodes (p + 256)).serial)) is_due ∙ ap (λ (s : ℕ). Some (due, s)) is_serial
+
+pub returns-then-before-lt-LISTS-clause-there : goal.returns-then-before-lt-LISTS-clause-there
+returns-then-before-lt-LISTS-clause-there c =
+    given c.join.new.self.nodes.items c.args.place c.args.due c.args.serial c.join.ensures.due c.join.ensures.serial c.requires.small
+
+pub returns-else-before-lt-LISTS-clause-there : goal.returns-else-before-lt-LISTS-clause-there
+returns-else-before-lt-LISTS-clause-there c =
+    given c.join.new.self.nodes.items c.args.place c.args.due c.args.serial c.join.ensures.due c.join.ensures.serial c.requires.small

@@ -1,10 +1,11 @@
-use Rattle.std.proofs.Common.{◌≡◌, ℕ, ◌+◌, ◌%◌, ◌==◌, true, is_some, ap, ◌∙◌, subst}
+use Rattle.std.proofs.Common.{◌≡◌, ℕ, ◌+◌, ◌%◌, ◌==◌, true, is_some, Some, ap, sym, ◌∙◌, subst, arith}
 use Rattle.std.proofs.lemmas.Bool.{eqb-true}
 use Rattle.sim_queue.specs.declared.lists.Node.{Node}
 use Rattle.sim_queue.specs.declared.marks.Marks.{Marks}
 use Rattle.sim_queue.specs.inside.Lists.{node, day, list_of, IsEmptyList}
 use Rattle.sim_queue.specs.inside.Wheel.{keys_of, key_at}
-use Rattle.sim_queue.proofs.Turning.{key_of_some, left_marked, left_from, left_floor, left_wheel, kept_keys, on_false}
+use Rattle.sim_queue.proofs.Nodes.{key_within}
+use Rattle.sim_queue.proofs.Turning.{key_there, key_none, key_of_some, key_of_node, left_marked, left_from, left_floor, left_wheel, kept_keys, on_false}
 use Rattle.sim_queue.proofs.wheel.Wheel.remove.Goals as goal
 
 pub floor_after-self-inside-requires-clause-marked : goal.floor_after-self-inside-requires-clause-marked
@@ -72,3 +73,31 @@ invariant_of-self c =
 pub returns-clause-others : goal.returns-clause-others
 returns-clause-others c k apart =
     kept_keys c.self.inside.lists.nodes.items c.leave-node.new.self.nodes.items c.args.place c.leave-node.ensures.others k apart ∙ ap (λ xs. key_at xs k) c.self.view_is
+
+pub overflow_add-place : goal.overflow_add-place
+overflow_add-place c =
+    let nodes = c.self.inside.lists.nodes.items in
+    let some : is_some (key_at (keys_of nodes) c.args.place) ≡ true = rw c.self.view_is c.requires in
+    let key = key_of_some nodes c.args.place some in
+    let within = key_within nodes (c.args.place + 256) key in
+    let small = c.self.invariant.small in
+    omega arith
+
+pub leave-node-requires-clause-key : goal.leave-node-requires-clause-key
+leave-node-requires-clause-key c =
+    let nodes = c.self.inside.lists.nodes.items in
+    let some : is_some (key_at (keys_of nodes) c.args.place) ≡ true = rw c.self.view_is c.requires in
+    let key = key_of_some nodes c.args.place some in
+    key
+
+pub returns-clause-key : goal.returns-clause-key
+returns-clause-key c =
+    let nodes = c.self.inside.lists.nodes.items in
+    let some : is_some (key_at (keys_of nodes) c.args.place) ≡ true = rw c.self.view_is c.requires in
+    let key = key_of_some nodes c.args.place some in
+    rw (← c.self.view_is) (key_of_node nodes c.args.place key ∙ ap (λ (x : Node). Some (x.due, x.serial)) (sym c.leave-node.ensures.node))
+
+pub returns-clause-gone : goal.returns-clause-gone
+returns-clause-gone c =
+    let new = c.leave-node.new.self.nodes.items in
+    key_there new c.args.place ∙ key_none (node new (c.args.place + 256)) c.leave-node.ensures.gone

@@ -1,10 +1,11 @@
-use Rattle.std.proofs.Common.{◌≡◌, ℕ, ◌+◌, ◌%◌, ◌==◌, ap, sym, ◌∙◌, subst}
+use Rattle.std.proofs.Common.{◌≡◌, ℕ, ◌+◌, ◌%◌, ◌==◌, Some, ap, sym, ◌∙◌, subst, arith}
 use Rattle.std.proofs.lemmas.Bool.{eqb-true}
 use Rattle.sim_queue.specs.declared.lists.Node.{Node}
 use Rattle.sim_queue.specs.declared.marks.Marks.{Marks}
 use Rattle.sim_queue.specs.inside.Lists.{node, day, list_of, IsEmptyList}
 use Rattle.sim_queue.specs.inside.Wheel.{keys_of, key_at, IsFirst, IsFrom}
-use Rattle.sim_queue.proofs.Turning.{first_at_floor, left_marked, left_from, left_wheel, kept_keys, on_false}
+use Rattle.sim_queue.proofs.Nodes.{key_within}
+use Rattle.sim_queue.proofs.Turning.{key_there, key_none, key_of_node, first_at_floor, left_marked, left_from, left_wheel, kept_keys, on_false}
 use Rattle.sim_queue.proofs.wheel.Wheel.remove_first.Goals as goal
 
 pub next_floor-self-inside-requires-clause-marked : goal.next_floor-self-inside-requires-clause-marked
@@ -75,3 +76,44 @@ invariant_of-self c =
 pub returns-clause-others : goal.returns-clause-others
 returns-clause-others c k apart =
     kept_keys c.self.inside.lists.nodes.items c.leave-node.new.self.nodes.items c.args.place c.leave-node.ensures.others k apart ∙ ap (λ xs. key_at xs k) c.self.view_is
+
+pub overflow_add-place : goal.overflow_add-place
+overflow_add-place c =
+    let nodes = c.self.inside.lists.nodes.items in
+    let l = c.self.inside.lists in
+    let first : IsFirst c.args.place (keys_of nodes) = rw c.self.view_is c.requires in
+    let key = (first_at_floor l.width c.self.inside.floor c.self.inside.marks.words nodes c.self.invariant c.args.place first).key in
+    let within = key_within nodes (c.args.place + 256) key in
+    let small = c.self.invariant.small in
+    omega arith
+
+pub leave-node-requires-clause-key : goal.leave-node-requires-clause-key
+leave-node-requires-clause-key c =
+    let nodes = c.self.inside.lists.nodes.items in
+    let l = c.self.inside.lists in
+    let first : IsFirst c.args.place (keys_of nodes) = rw c.self.view_is c.requires in
+    let key = (first_at_floor l.width c.self.inside.floor c.self.inside.marks.words nodes c.self.invariant c.args.place first).key in
+    key
+
+pub returns-clause-key : goal.returns-clause-key
+returns-clause-key c =
+    let nodes = c.self.inside.lists.nodes.items in
+    let l = c.self.inside.lists in
+    let first : IsFirst c.args.place (keys_of nodes) = rw c.self.view_is c.requires in
+    let key = (first_at_floor l.width c.self.inside.floor c.self.inside.marks.words nodes c.self.invariant c.args.place first).key in
+    rw (← c.self.view_is) (key_of_node nodes c.args.place key ∙ ap (λ (x : Node). Some (x.due, x.serial)) (sym c.leave-node.ensures.node))
+
+pub returns-clause-gone : goal.returns-clause-gone
+returns-clause-gone c =
+    let new = c.leave-node.new.self.nodes.items in
+    key_there new c.args.place ∙ key_none (node new (c.args.place + 256)) c.leave-node.ensures.gone
+
+pub next_floor-self-inside-requires-clause-made : goal.next_floor-self-inside-requires-clause-made
+next_floor-self-inside-requires-clause-made c =
+    let nodes = c.self.inside.lists.nodes.items in
+    let l = c.self.inside.lists in
+    let first : IsFirst c.args.place (keys_of nodes) = rw c.self.view_is c.requires in
+    let key = (first_at_floor l.width c.self.inside.floor c.self.inside.marks.words nodes c.self.invariant c.args.place first).key in
+    let within = key_within nodes (c.args.place + 256) key in
+    let size = c.leave-node.ensures.size in
+    omega arith
