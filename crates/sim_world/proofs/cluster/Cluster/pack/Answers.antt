@@ -1,4 +1,4 @@
-use Rattle.std.proofs.Common.{◌∙◌, ap, is_some}
+use Rattle.std.proofs.Common.{◌∙◌, ap, sym, length, is_some}
 use Rattle.std.specs.List.{count_by}
 use Rattle.sim_world.specs.Acts.{copied_by}
 use Rattle.sim_world.specs.inside.Held.{in_hand}
@@ -35,3 +35,9 @@ returns-clause-work g c =
     let work = g.N.Meter.Meter.work c.args.meter.now in
     let hosts = c.as_slice.ensures.value ∙ (ap (λ p. p.world.hosts) c.parts.view_is ∙ ap (λ k. k.parts.world.hosts) c.self.view_is) in
     c.in_ok-hosts.ensures.work ∙ ap (λ hs. copied_by (count_by (λ host. is_some host.node) hs) work) hosts
+
+pub pack-requires-3 : goal.pack-requires-3
+pack-requires-3 g c =
+    let timers = c.as_slice-timers.ensures.value ∙ ap (λ x. x.index.timers.items) c.self.view_is in
+    let hosts = c.as_slice.ensures.value ∙ (ap (λ p. p.world.hosts) c.parts.view_is ∙ ap (λ k. k.parts.world.hosts) c.self.view_is) in
+    ap (λ xs. length xs) timers ∙ (c.requires.index.hosts ∙ sym (ap (λ xs. length xs) hosts))

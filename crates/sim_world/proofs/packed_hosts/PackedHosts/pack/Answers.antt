@@ -1,3 +1,5 @@
+use Rattle.std.proofs.Common.{length, ap, sym, ◌∙◌}
+use Rattle.std.proofs.lemmas.List.{length-map}
 use Rattle.sim_world.proofs.Packing.{hosts-same}
 use Rattle.sim_world.proofs.packed_hosts.PackedHosts.pack.Goals as goal
 
@@ -8,3 +10,6 @@ returns-clause-hosts g c =
 
 pub returns-clause-work : goal.returns-clause-work
 returns-clause-work g c = c.in_ok-kept.ensures.work
+
+pub invariant_of-result : goal.invariant_of-result
+invariant_of-result g c = ap (λ ds. length ds) c.in_ok-disks.ensures ∙ (length-map c.args.hosts.now _ ∙ sym c.in_ok-kept.ensures.count)
