@@ -1,4 +1,4 @@
-use Rattle.std.proofs.Common.{◌≡◌, ◌+◌, ◌-◌, Some, None, is_some, ap, sym, subst, arith, length}
+use Rattle.std.proofs.Common.{◌≡◌, ◌+◌, ◌-◌, ◌≤◌, Some, None, is_some, ap, sym, subst, arith, length}
 use Rattle.std.proofs.Math.ListN.{set}
 use Rattle.sim_queue.specs.inside.Slots.{at, HasNoItem, IsFirstSlot}
 use Rattle.sim_queue.specs.Items.{items_from}
@@ -113,3 +113,11 @@ returns-clause-rest g c =
     rw c.none.ensures
     (subst (λ (s : SlotList _). slots_of c.remove_first-due.new.self c.take_body-body.new.bodies.items (set places (serial - base) None) ≡ set s.items (serial - s.base) None) c.self.view_is
     (taken_slots keys c.remove_first-due.new.self bodies c.take_body-body.new.bodies.items places base count (serial - base) k taken c.self.invariant here))
+
+pub overflow_sub-serial : goal.overflow_sub-serial
+overflow_sub-serial g c = c.self.invariant.from c.in_ok-at.at c.remove_first-due.result.0 c.remove_first-due.result.1 c.remove_first-due.ensures.key
+
+pub returns-clause-from : goal.returns-clause-from
+returns-clause-from g c =
+    subst (λ (s : SlotList _). s.base ≤ c.remove_first-due.result.1) c.self.view_is
+    (c.self.invariant.from c.in_ok-at.at c.remove_first-due.result.0 c.remove_first-due.result.1 c.remove_first-due.ensures.key)
