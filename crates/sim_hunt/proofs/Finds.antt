@@ -1,17 +1,20 @@
 -- What a hunt finds is its answer by the definitions.
 use Rattle.std.proofs.Common.{◌≡◌, ◌∙◌, ◌<◌, ℕ, zero, suc, Bool, true, false, not, cond, ◌&&◌, List, [], ◌∷◌, length, arith, Option, Some, None, refl, ap, sym, subst, Result, Ok, Err, IfOk}
-use Rattle.std.specs.Prelude.{IfErr}
+use Rattle.std.specs.Prelude.{IfErr, OnOk}
 use Rattle.std.specs.Str.Lines.{lines}
 use Rattle.sim_node.specs.Node.{NodeLaws}
 use Rattle.sim_events.specs.declared.Event.{Event}
 use Rattle.sim_events.specs.Scenario.{Scenario}
 use Rattle.sim_world.specs.Events.{Rules, rules}
 use Rattle.sim_watch.specs.Condition.{Cond}
+use Rattle.sim_search.specs.declared.SearchFault.{SearchFault}
+use Rattle.sim_search.specs.declared.SearchFault.TheVariants as fault
+use Rattle.sim_search.specs.Faults.{reason}
 use Rattle.sim_script.specs.Script.{Text, Names, words}
 use Rattle.sim_script.specs.Conditions.{condition}
 use Rattle.sim_cli.specs.Play.{Nodes}
 use Rattle.sim_hunt.specs.declared.answer.Answer.{Answer}
-use Rattle.sim_hunt.specs.declared.answer.Answer.TheVariants.{BadCondition, BadScript}
+use Rattle.sim_hunt.specs.declared.answer.Answer.TheVariants.{BadRange, BadCondition, BadScript}
 use Rattle.sim_hunt.specs.declared.hunting.Area.{Area}
 use Rattle.sim_hunt.specs.declared.hunting.Area.TheVariants.{Places, Planned}
 use Rattle.sim_hunt.specs.declared.hunting.PlannedRuns.{PlannedRuns}
@@ -24,13 +27,36 @@ use Rattle.sim_cli.specs.declared.stop.ScriptStop.TheVariants as stops
 use Rattle.sim_cli.specs.Statuses.{Stops}
 use Rattle.sim_cli.specs.Following.{StopsScript}
 use Rattle.sim_scenario.specs.Scenario.{Protocol}
+use Rattle.sim_hunt.specs.Answers.{Tells}
 use Rattle.sim_cli.specs.Played.{IsFault, IsWellIf, first_events, given_events}
-use Rattle.sim_hunt.specs.Hunts.{Has, Serves, StopIs, if_well, planned_answer, search_answer, found_on, found_for, hunt_answer}
+use Rattle.sim_hunt.specs.Hunts.{Has, Serves, StopIs, answer_by, if_well, planned_answer, search_answer, found_on, found_for, hunt_answer}
 
 -- a result that is passed on
 pub passed_on : {A E F : Type 0} (P : A → Type 0) (r : Result A E) (t : Result A F) → IfOk r P → IfOk t (λ a. r ≡ Ok a) → IfOk t P
 passed_on P r (Ok a) p is = subst (λ x. IfOk x P) is p
 passed_on P r (Err e) p is = is
+
+-- the answer of a fault, by the reason that was told
+by_range : (f : Option SearchFault) (found : Answer) → fault.BadRange ≡ reason f → BadRange ≡ answer_by f found
+by_range None found e = absurd (let x : fault.BadRange ≡ fault.NoMemory = e in cc)
+by_range (Some fault.BadRange) found e = refl
+by_range (Some fault.BadCondition) found e = absurd (let x : fault.BadRange ≡ fault.BadCondition = e in cc)
+by_range (Some fault.NoMemory) found e = absurd (let x : fault.BadRange ≡ fault.NoMemory = e in cc)
+
+by_condition : (f : Option SearchFault) (found : Answer) → fault.BadCondition ≡ reason f → BadCondition ≡ answer_by f found
+by_condition None found e = absurd (let x : fault.BadCondition ≡ fault.NoMemory = e in cc)
+by_condition (Some fault.BadRange) found e = absurd (let x : fault.BadCondition ≡ fault.BadRange = e in cc)
+by_condition (Some fault.BadCondition) found e = refl
+by_condition (Some fault.NoMemory) found e = absurd (let x : fault.BadCondition ≡ fault.NoMemory = e in cc)
+
+-- the answer of a search or a sweep, by its fault or by what it found
+pub told_by : {A E : Type 0} (tell : A → Answer) (r : Result A SearchFault) (t : Result Answer E) (f : Option SearchFault) (found : A)
+    → IfOk r (λ s. s ≡ found) → OnOk r (f ≡ None) → IfErr r (λ why. why ≡ reason f) → IfOk t (Tells tell r) → IfOk t (λ a. a ≡ answer_by f (tell found))
+told_by tell r (Err e) f found is none why tells = tt
+told_by tell (Ok s) (Ok a) f found is none why tells = tells ∙ (ap tell is ∙ sym (ap (λ (x : Option SearchFault). answer_by x (tell found)) none))
+told_by tell (Err fault.BadRange) (Ok a) f found is none why tells = tells ∙ by_range f (tell found) why
+told_by tell (Err fault.BadCondition) (Ok a) f found is none why tells = tells ∙ by_condition f (tell found) why
+told_by tell (Err fault.NoMemory) (Ok a) f found is none why tells = absurd tells
 
 -- where all lines are well, or that is not asked, what was found is told
 not_ill : (strict well : Bool) → (strict ≡ true → well ≡ true) → (strict && not well) ≡ false
@@ -106,19 +132,26 @@ module _ {State Msg : Type 0} (r : Rules State Msg) (names : Names) (script : Te
       subst (λ (w : Text). BadCondition ≡ found_for r names o script (condition names (words w))) text
       (subst (λ (x : Option Cond). BadCondition ≡ found_for r names o script x) read refl)
 
-module _ (script : Text) (o : Area) where
-  -- over the nodes at a place of a list
-  pub found_at : {State Msg F : Type 0} (nodes : ℕ → Scenario → Nodes) (node : NodeLaws State Msg) (probes k place : ℕ)
-      (protocols : List Protocol) (t : Result Answer F) (s : Scenario) (names : Names) (c : Cond) → place ≡ k → Has k protocols
-      → (Has k protocols → Serves (nodes k) node probes)
-      → IfOk t (λ a. a ≡ found_on (rules node probes s) names o script c)
-      → IfOk t (λ a. a ≡ found_on (nodes place s).rules names o script c)
-  found_at nodes node probes k place protocols t s names c same has serves is =
-      subst (λ (x : ℕ). IfOk t (λ a. a ≡ found_on (nodes x s).rules names o script c)) (sym same)
-      (subst (λ (x : Answer). IfOk t (λ a. a ≡ x)) (sym (serves has s names o script c)) is)
-
 -- a list that is longer than a number has that place
-pub has_place : (protocols : List Protocol) (k : ℕ) → k < length protocols → Has k protocols
+has_place : (protocols : List Protocol) (k : ℕ) → k < length protocols → Has k protocols
 has_place [] k less = absurd (omega (arith, less))
 has_place (p ∷ ps) zero less = tt
 has_place (p ∷ ps) (suc k) less = has_place ps k (omega (arith, less))
+
+module _ (script : Text) (o : Area) where
+  -- over nodes that serve, whether the words are a condition or not
+  served : {State Msg : Type 0} (nodes : Scenario → Nodes) (node : NodeLaws State Msg) (probes : ℕ) (s : Scenario) (names : Names) (c : Option Cond) → Serves nodes node probes
+      → found_for (rules node probes s) names o script c ≡ found_for (nodes s).rules names o script c
+  served nodes node probes s names None serves = refl
+  served nodes node probes s names (Some c) serves = sym (serves s names o script c)
+
+  -- over the nodes at a place of a list
+  pub found_at : {State Msg F : Type 0} (nodes : ℕ → Scenario → Nodes) (node : NodeLaws State Msg) (probes k place : ℕ)
+      (protocols : List Protocol) (t : Result Answer F) (s : Scenario) (names : Names) (word : Text) → place ≡ k → place < length protocols
+      → (Has k protocols → Serves (nodes k) node probes)
+      → IfOk t (λ a. a ≡ hunt_answer (rules node probes s) names o word script)
+      → IfOk t (λ a. a ≡ hunt_answer (nodes place s).rules names o word script)
+  found_at nodes node probes k place protocols t s names word same known serves is =
+      let has = has_place protocols k (subst (λ (x : ℕ). x < length protocols) same known) in
+      subst (λ (x : ℕ). IfOk t (λ a. a ≡ hunt_answer (nodes x s).rules names o word script)) (sym same)
+      (subst (λ (x : Answer). IfOk t (λ a. a ≡ x)) (served (nodes k) node probes s names (condition names (words word)) (serves has)) is)

@@ -97,13 +97,12 @@ fn swept_value(
 ) -> Result<Value, NoMemory>
     ensures { IfOk result (λ v. view v ≡ swept_value swept seed place) }
 {
-    let (seed, place) = (optional(seed), optional(place));
     json!(in alloc; {
         "count": swept.count,
         "events": swept.events,
         "first": swept.first,
-        "place": place,
-        "seed": seed,
+        "place": optional(place),
+        "seed": optional(seed),
     })
 }
 

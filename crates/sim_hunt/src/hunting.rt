@@ -3,7 +3,8 @@ ghost use Rattle.std.specs.Prelude.{◌≡◌, ◌<◌, ℕ, List, IfOk, IfErr, 
 ghost use Rattle.std.specs.Io.KnownBytes.{prepend_known};
 ghost use Rattle.sim_world.specs.Events.{rules};
 ghost use Rattle.sim_cli.specs.Statuses.{Stops};
-ghost use Rattle.sim_hunt.specs.Hunts.{IsTeam, StopIs, found_on, search_answer, sweep_answer};
+ghost use Rattle.sim_hunt.specs.Hunts.{IsTeam, StopIs, found_on, hunt_answer};
+ghost use Rattle.sim_hunt.specs.Hunts.{search_answer, sweep_answer};
 
 use crate::Status;
 use crate::answer::{Answer, of_search, of_sweep};
@@ -15,7 +16,8 @@ use sim_job::{FaultPlan, Team};
 use sim_lines::Ahead;
 use sim_node::{NoMemory, Node};
 use sim_scan::pieces;
-use sim_search::{OpenGate, search, sweep};
+use sim_script::condition_of;
+use sim_search::{search, sweep};
 use sim_tally::FreshMeter;
 use sim_tape::Frozen;
 use sim_watch::Cond;
@@ -67,10 +69,10 @@ pub struct PlannedRuns {
 /// A hunt in a scenario that was read, with the condition, read by the names of the scenario's
 /// hosts and probes.
 #[derive(Drop)]
-pub struct Quest<'a> {
-    pub opened: &'a Opened,
-    pub cond: Cond,
-    pub hunt: &'a Hunt<'a>,
+pub(crate) struct Quest<'a> {
+    pub(crate) opened: &'a Opened,
+    pub(crate) cond: Cond,
+    pub(crate) hunt: &'a Hunt<'a>,
 }
 
 /// Returns a meter for each worker. Fails only for want of memory.
@@ -113,12 +115,8 @@ where
 {
     report_places(rt, lo, hi, frozen.events().len());
     let meters = meters(alloc, quest.hunt.team.workers)?;
-    if quest.hunt.team.progress {
-        let gate = Progress::new(rt, pieces_of(frozen, lo, hi));
-        of_search(search(rt, alloc, frozen, lo, hi, &quest.cond, meters, &gate))
-    } else {
-        of_search(search(rt, alloc, frozen, lo, hi, &quest.cond, meters, &OpenGate))
-    }
+    let gate = Progress::new(rt, quest.hunt.team.progress, pieces_of(frozen, lo, hi));
+    of_search(search(rt, alloc, frozen, lo, hi, &quest.cond, meters, &gate))
 }
 
 // Searches for the first seed under which the condition fails.
@@ -146,16 +144,10 @@ where
     let scenario = &quest.opened.scenario;
     let cond = &quest.cond;
     let meters = meters(alloc, quest.hunt.team.workers)?;
-    if quest.hunt.team.progress {
-        let gate = Progress::new(rt, count);
-        of_sweep(sweep::<N, _, _>(
-            rt, alloc, scenario, first, count, events, cond, meters, &gate,
-        ))
-    } else {
-        of_sweep(sweep::<N, _, _>(
-            rt, alloc, scenario, first, count, events, cond, meters, &OpenGate,
-        ))
-    }
+    let gate = Progress::new(rt, quest.hunt.team.progress, count);
+    of_sweep(sweep::<N, _, _>(
+        rt, alloc, scenario, first, count, events, cond, meters, &gate,
+    ))
 }
 
 // Returns the answer; after want of memory fails with its status.
@@ -183,9 +175,9 @@ fn at_stop<H: Eprint>(rt: &H, opened: &Opened, stop: ScriptStop) -> Result<Answe
     }
 }
 
-/// Hunts over nodes of one type. Writes no answers of the script; a sweep without `script` reads
-/// none.
-pub fn hunt_nodes<
+// Hunts over nodes of one type. Writes no answers of the script; a sweep without `script` reads
+// none.
+fn hunt_quest<
     N: Node<Meter: FreshMeter + Send> + Send + Sync,
     H: Threads + Wait + Sync + Clock + Eprint,
     R: Read,
@@ -229,4 +221,35 @@ where
             }
         }
     }
+}
+
+/// Hunts over nodes of one type, in a scenario that was read. Reads the words of the condition
+/// first.
+pub(crate) fn hunt_nodes<
+    N: Node<Meter: FreshMeter + Send> + Send + Sync,
+    H: Threads + Wait + Sync + Clock + Eprint,
+    R: Read,
+>(
+    rt: &H,
+    alloc: Global,
+    opened: &Opened,
+    hunt: &Hunt<'_>,
+    reader: &mut R,
+    ahead: &mut Ahead,
+) -> Result<Answer, Status>
+where
+    N::Msg: Send + Sync,
+    N::Undo: Send + Sync,
+    requires { IsTeam hunt.now.team.workers }
+    ensures answer { (script : List ℕ) →
+        prepend_known ahead.old.bytes (R.remaining reader.old) ≡ Some script →
+        IfOk result (λ a. a ≡ hunt_answer (rules N.laws N.PROBES opened.now.scenario)
+        opened.now.names hunt.now.area hunt.now.cond.now script) }
+    ensures stops { IfErr result Stops }
+{
+    let Some(cond) = condition_of(&opened.names, hunt.cond.as_bytes()) else {
+        return Ok(Answer::BadCondition);
+    };
+    let quest = Quest { opened, cond, hunt };
+    hunt_quest::<N, H, R>(rt, alloc, &quest, reader, ahead)
 }

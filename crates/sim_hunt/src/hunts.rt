@@ -4,17 +4,16 @@ ghost use Rattle.std.specs.Io.KnownBytes.{prepend_known};
 ghost use Rattle.sim_cli.specs.Play.{Ended};
 ghost use Rattle.sim_cli.specs.Subjects.{nodes_by};
 ghost use Rattle.sim_cli.specs.Statuses.{Stops};
-ghost use Rattle.sim_hunt.specs.Hunts.{IsTeam, found_on, hunt_answer};
+ghost use Rattle.sim_hunt.specs.Hunts.{IsTeam, hunt_answer};
 ghost use Rattle.sim_hunt.specs.Outcomes.{Hunted, WritesAnswer, WritesOutcome};
 
 use crate::Status;
 use crate::answer::{Answer, Form, line_of};
-use crate::hunting::{Hunt, Quest, hunt_nodes};
+use crate::hunting::{Hunt, hunt_nodes};
 use crate::reasons::report_answer;
 use crate::searchable::Searchable;
 use sim_cli::{Answered, Opened, Subject, open, write_text};
 use sim_lines::Ahead;
-use sim_script::condition_of;
 use std::alloc::Global;
 use std::io::{Read, Write};
 use std::rt::Clock;
@@ -23,44 +22,6 @@ use std::thread::Threads;
 
 // Hunts over the nodes of the scenario's protocol.
 fn hunt_protocol<L: Searchable, H: Threads + Wait + Sync + Clock + Eprint, R: Read>(
-    rt: &H,
-    alloc: Global,
-    quest: &Quest<'_>,
-    reader: &mut R,
-    ahead: &mut Ahead,
-) -> Result<Answer, Status>
-    requires team { IsTeam quest.now.hunt.now.team.workers }
-    requires few { length L.listed ≤ 8 }
-    requires known { quest.now.opened.now.protocol < length L.listed }
-    ensures answer { (script : List ℕ) →
-        prepend_known ahead.old.bytes (R.remaining reader.old) ≡ Some script →
-        IfOk result (λ a. a ≡ found_on (L.nodes quest.now.opened.now.protocol
-        quest.now.opened.now.scenario).rules
-        quest.now.opened.now.names quest.now.hunt.now.area script quest.now.cond) }
-    ensures stops { IfErr result Stops }
-{
-    let place = quest.opened.protocol;
-    if place == 0 {
-        hunt_nodes::<<L::Subject0 as Subject>::Node, H, R>(rt, alloc, quest, reader, ahead)
-    } else if place == 1 {
-        hunt_nodes::<<L::Subject1 as Subject>::Node, H, R>(rt, alloc, quest, reader, ahead)
-    } else if place == 2 {
-        hunt_nodes::<<L::Subject2 as Subject>::Node, H, R>(rt, alloc, quest, reader, ahead)
-    } else if place == 3 {
-        hunt_nodes::<<L::Subject3 as Subject>::Node, H, R>(rt, alloc, quest, reader, ahead)
-    } else if place == 4 {
-        hunt_nodes::<<L::Subject4 as Subject>::Node, H, R>(rt, alloc, quest, reader, ahead)
-    } else if place == 5 {
-        hunt_nodes::<<L::Subject5 as Subject>::Node, H, R>(rt, alloc, quest, reader, ahead)
-    } else if place == 6 {
-        hunt_nodes::<<L::Subject6 as Subject>::Node, H, R>(rt, alloc, quest, reader, ahead)
-    } else {
-        hunt_nodes::<<L::Subject7 as Subject>::Node, H, R>(rt, alloc, quest, reader, ahead)
-    }
-}
-
-// Hunts in the runs of a scenario that was read. Reads the words of the condition first.
-fn hunt_runs<L: Searchable, H: Threads + Wait + Sync + Clock + Eprint, R: Read>(
     rt: &H,
     alloc: Global,
     opened: &Opened,
@@ -78,11 +39,24 @@ fn hunt_runs<L: Searchable, H: Threads + Wait + Sync + Clock + Eprint, R: Read>(
         opened.now.names hunt.now.area hunt.now.cond.now script) }
     ensures stops { IfErr result Stops }
 {
-    let Some(cond) = condition_of(&opened.names, hunt.cond.as_bytes()) else {
-        return Ok(Answer::BadCondition);
-    };
-    let quest = Quest { opened, cond, hunt };
-    hunt_protocol::<L, H, R>(rt, alloc, &quest, reader, ahead)
+    let place = opened.protocol;
+    if place == 0 {
+        hunt_nodes::<<L::Subject0 as Subject>::Node, H, R>(rt, alloc, opened, hunt, reader, ahead)
+    } else if place == 1 {
+        hunt_nodes::<<L::Subject1 as Subject>::Node, H, R>(rt, alloc, opened, hunt, reader, ahead)
+    } else if place == 2 {
+        hunt_nodes::<<L::Subject2 as Subject>::Node, H, R>(rt, alloc, opened, hunt, reader, ahead)
+    } else if place == 3 {
+        hunt_nodes::<<L::Subject3 as Subject>::Node, H, R>(rt, alloc, opened, hunt, reader, ahead)
+    } else if place == 4 {
+        hunt_nodes::<<L::Subject4 as Subject>::Node, H, R>(rt, alloc, opened, hunt, reader, ahead)
+    } else if place == 5 {
+        hunt_nodes::<<L::Subject5 as Subject>::Node, H, R>(rt, alloc, opened, hunt, reader, ahead)
+    } else if place == 6 {
+        hunt_nodes::<<L::Subject6 as Subject>::Node, H, R>(rt, alloc, opened, hunt, reader, ahead)
+    } else {
+        hunt_nodes::<<L::Subject7 as Subject>::Node, H, R>(rt, alloc, opened, hunt, reader, ahead)
+    }
 }
 
 // Writes a line and flushes the writer. Returns this status, unless the writer fails.
@@ -138,7 +112,7 @@ pub fn hunt_scenario<L: Searchable, H: Threads + Wait + Sync + Clock + Eprint, R
         Ok(opened) => opened,
         Err(status) => return status,
     };
-    match hunt_runs::<L, H, R>(rt, alloc, &opened, hunt, reader, &mut ahead) {
+    match hunt_protocol::<L, H, R>(rt, alloc, &opened, hunt, reader, &mut ahead) {
         Ok(answer) => {
             report_answer(rt, alloc, &opened, hunt, answer);
             write_answer(alloc, writer, form, answer)

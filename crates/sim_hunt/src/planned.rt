@@ -9,7 +9,7 @@ use crate::progress::Progress;
 use crate::reasons::report_seeds;
 use sim_node::{NoMemory, Node};
 use sim_plan::{Plan, report_plan};
-use sim_sweep::{Course, OpenGate, sweep_planned};
+use sim_sweep::{Course, sweep_planned};
 use sim_tally::FreshMeter;
 use sim_world::Event;
 use std::alloc::Global;
@@ -51,10 +51,6 @@ where
     let seeds = (runs.first, runs.count);
     let cond = &quest.cond;
     let meters = meters(alloc, quest.hunt.team.workers)?;
-    if quest.hunt.team.progress {
-        let gate = Progress::new(rt, runs.count);
-        of_sweep(sweep_planned::<N, _, _>(rt, alloc, &course, seeds, cond, meters, &gate))
-    } else {
-        of_sweep(sweep_planned::<N, _, _>(rt, alloc, &course, seeds, cond, meters, &OpenGate))
-    }
+    let gate = Progress::new(rt, quest.hunt.team.progress, runs.count);
+    of_sweep(sweep_planned::<N, _, _>(rt, alloc, &course, seeds, cond, meters, &gate))
 }

@@ -11,10 +11,11 @@ use std::time::Instant;
 const PAUSE: u64 = 500;
 
 /// A gate that reports on standard error how many pieces are done and how long the work has taken,
-/// at most twice a second.
+/// at most twice a second, if that is asked for.
 #[derive(Drop)]
 pub struct Progress<'a, H: Clock + Eprint> {
     host: &'a H,
+    // when the work began, if progress is reported
     start: Option<Instant>,
     pieces: u64,
     done: AtomicU64,
@@ -23,20 +24,26 @@ pub struct Progress<'a, H: Clock + Eprint> {
 }
 
 impl<'a, H: Clock + Eprint> Progress<'a, H> {
-    /// Begins the work. If the clock cannot be read, nothing is reported.
-    pub fn new(host: &'a H, pieces: u64) -> Self {
+    /// Begins the work. If progress is not asked for, or the clock cannot be read, nothing is
+    /// reported.
+    pub fn new(host: &'a H, is_asked: bool, pieces: u64) -> Self {
+        let start = if is_asked {
+            Instant::now(host).ok()
+        } else {
+            None
+        };
         Progress {
             host,
-            start: Instant::now(host).ok(),
+            start,
             pieces,
             done: AtomicU64::new(0),
             told: AtomicU64::new(0),
         }
     }
 
-    // Returns how long the work has taken (ms), or `None` if the clock cannot be read.
-    fn so_far(&self) -> Option<u64> {
-        let start = self.start?;
+    // Returns how long the work has taken (ms) since it began, or `None` if the clock cannot be
+    // read.
+    fn so_far(&self, start: Instant) -> Option<u64> {
         let passed = start.elapsed(self.host).ok()?;
         u64::try_from(passed.as_millis()).ok()
     }
@@ -63,8 +70,11 @@ impl<'a, H: Clock + Eprint> Gate for Progress<'a, H> {
     fn enter<R: Wait>(&self, _rt: &R, _piece: u64) {}
 
     fn leave<R: Wait>(&self, _rt: &R, _piece: u64) {
+        let Some(start) = self.start else {
+            return;
+        };
         let done = self.done.fetch_add(1, SeqCst).saturating_add(1);
-        if let Some(now) = self.so_far() {
+        if let Some(now) = self.so_far(start) {
             if self.claims_line(now) {
                 self.tell(done, now);
             }

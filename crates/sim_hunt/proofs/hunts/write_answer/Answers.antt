@@ -1,4 +1,4 @@
-use Rattle.std.proofs.Common.{inl, ◌∙◌, sym}
+use Rattle.std.proofs.Common.{inl, ◌∙◌}
 use Rattle.sim_hunt.specs.Outcomes.{answered}
 use Rattle.sim_hunt.proofs.Ends.{line_is, same_outcome}
 use Rattle.sim_hunt.proofs.hunts.write_answer.Goals as goal
