@@ -33,11 +33,13 @@ def hashed(text):
 
 
 def literal(text):
-    """A string literal, with several lines of the template on each of its own.
+    """A literal of bytes, with several lines of the template on each of its own.
 
+    It is one of bytes and not a text, since the proof that a text of this length is UTF-8 takes seconds.
     The gate reserves memory for the proof of a crate by the number of its lines: two thousand of them would keep other
     crates waiting.
     """
+    assert text.isascii(), "a literal of bytes has only ASCII"
     assert "\r" not in text, "a carriage return would be another text in a literal"
     rows = [""]
     for line in text.split("\n"):
@@ -48,12 +50,12 @@ def literal(text):
         else:
             rows[-1] += escaped
         rows[-1] += "\\n"
-    return '"' + "\\\n".join(rows)[:-2] + '"'
+    return 'b"' + "\\\n".join(rows)[:-2] + '"'
 
 
 def constants(text):
     before, after = text.split(PLACEHOLDER)
-    return f"{HEAD}pub const BEFORE: &str =\n    {literal(before)};\n\npub const AFTER: &str =\n    {literal(after)};\n"
+    return f"{HEAD}pub const BEFORE: &[u8] =\n    {literal(before)};\n\npub const AFTER: &[u8] =\n    {literal(after)};\n"
 
 
 def main():

@@ -78,13 +78,13 @@ impl Data {
     }
 
     /// Puts the data between two texts. The data has no `<`.
-    pub(crate) fn between(&self, before: &str, after: &str) -> Result<Vec<u8>, NoMemory>
+    pub(crate) fn between(&self, before: &[u8], after: &[u8]) -> Result<Vec<u8>, NoMemory>
         ensures { IfOk result (λ text. IsBetween before.now after.now text.items) }
     {
         let mut text = Vec::new(self.alloc);
-        text.extend_from_slice(before.as_bytes())?;
+        text.extend_from_slice(before)?;
         text.extend_from_slice(self.bytes.as_slice())?;
-        text.extend_from_slice(after.as_bytes())?;
+        text.extend_from_slice(after)?;
         Ok(text)
     }
 }

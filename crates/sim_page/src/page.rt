@@ -107,6 +107,7 @@ struct Rows<'a, N: Node> {
     data: Data,
     // It is at the place before the event whose rows come next.
     tape: Tape<N>,
+    meter: N::Meter,
     watched: Vec<Watched<'a>>,
 }
 
@@ -116,7 +117,7 @@ where
 {
     // Adds the rows before the first event. There is a host, so there is a first row.
     fn start(&mut self) -> Result<(), NoMemory> {
-        self.tape.make_warm(self.alloc, &mut N::Meter::fresh())?;
+        self.tape.make_warm(self.alloc, &mut self.meter)?;
         let rows = first_rows(self.alloc, self.tape.here())?;
         if let [first, others @ ..] = rows.as_slice() {
             self.data.json(first.as_str())?;
@@ -128,13 +129,13 @@ where
     // Adds the rows of the next event, and walks the tape past it.
     fn event(&mut self, event: Event) -> Result<(), NoMemory> {
         let alloc = self.alloc;
-        self.tape.make_warm(alloc, &mut N::Meter::fresh())?;
-        let rows = rows_before(alloc, self.tape.here(), event, &mut N::Meter::fresh())?;
+        self.tape.make_warm(alloc, &mut self.meter)?;
+        let rows = rows_before(alloc, self.tape.here(), event, &mut self.meter)?;
         self.data.more_rows(rows.as_slice())?;
         if self.tape.place() < self.tape.len() {
-            self.tape.forward(alloc, 1, &mut N::Meter::fresh())?;
+            self.tape.forward(alloc, 1, &mut self.meter)?;
         }
-        self.tape.make_warm(alloc, &mut N::Meter::fresh())?;
+        self.tape.make_warm(alloc, &mut self.meter)?;
         let rows = rows_after(alloc, event, self.tape.here())?;
         self.data.more_rows(rows.as_slice())?;
         self.note_holding()
@@ -142,7 +143,7 @@ where
 
     // Notes for each condition whether it holds in the tape's world.
     fn note_holding(&mut self) -> Result<(), NoMemory> {
-        self.tape.make_warm(self.alloc, &mut N::Meter::fresh())?;
+        self.tape.make_warm(self.alloc, &mut self.meter)?;
         let world = self.tape.here();
         for watched in self.watched.iter_mut() {
             let is_held = is_held(&watched.cond, world);
@@ -152,26 +153,46 @@ where
     }
 
     // Writes the members after the rows.
-    fn end(self) -> Result<Data, NoMemory> {
-        let Rows {
-            alloc,
-            mut data,
-            tape: _,
-            mut watched,
-        } = self;
-        let mut conditions = Vec::new(alloc);
-        let mut holds = Vec::new(alloc);
-        for watched in watched.iter_mut() {
-            conditions.push(string(alloc, watched.words)?)?;
-            let holding = mem::replace(&mut watched.holding, Vec::new(alloc));
-            holds.push(Value::Array(holding))?;
-        }
-        data.put("\n]")?;
-        add(&mut data, "conditions", Ok(Value::Array(conditions)))?;
-        add(&mut data, "holds", Ok(Value::Array(holds)))?;
-        data.put("\n}\n")?;
-        Ok(data)
+    fn end(&mut self) -> Result<(), NoMemory> {
+        self.data.put("\n]")?;
+        let conditions = words_of(self.alloc, self.watched.as_slice());
+        add(&mut self.data, "conditions", conditions)?;
+        let holds = holding_of(self.alloc, self.watched.as_mut_slice());
+        add(&mut self.data, "holds", holds)?;
+        self.data.put("\n}\n")
     }
+
+    // Returns the page of the run.
+    fn page(&mut self, frame: &Frame<'_>, events: &EventList) -> Result<Vec<u8>, NoMemory> {
+        frame.head(&mut self.data, events, N::PROBES)?;
+        self.start()?;
+        for place in 0..events.len() {
+            if let Some(event) = events.get(place) {
+                self.event(event)?;
+            }
+        }
+        self.end()?;
+        in_page(&self.data)
+    }
+}
+
+// Returns the words of conditions.
+fn words_of(alloc: Global, watched: &[Watched<'_>]) -> Result<Value, NoMemory> {
+    let mut words = Vec::new(alloc);
+    for watched in watched {
+        words.push(string(alloc, watched.words)?)?;
+    }
+    Ok(Value::Array(words))
+}
+
+// Takes from each condition whether it holds at each place.
+fn holding_of(alloc: Global, watched: &mut [Watched<'_>]) -> Result<Value, NoMemory> {
+    let mut holds = Vec::new(alloc);
+    for watched in watched {
+        let holding = mem::replace(&mut watched.holding, Vec::new(alloc));
+        holds.push(Value::Array(holding))?;
+    }
+    Ok(Value::Array(holds))
 }
 
 // Returns whether a condition holds in a world. If it names a host or a probe that does not exist,
@@ -183,6 +204,12 @@ fn is_held<N: Node>(cond: &Cond, world: &World<N>) -> bool {
     }
 }
 
+// Puts data into the text of the page. It does nothing else: a proof carries the long text through
+// each block of the function that names it.
+fn in_page(data: &Data) -> Result<Vec<u8>, NoMemory> {
+    data.between(BEFORE, AFTER)
+}
+
 /// Returns the page of a run. Fails only for want of memory.
 pub(crate) fn page_of<N: Node<Meter: FreshMeter> + Debug>(
     frame: &Frame<'_>,
@@ -192,20 +219,14 @@ pub(crate) fn page_of<N: Node<Meter: FreshMeter> + Debug>(
 where
     N::Msg: Debug,
 {
-    let alloc = frame.alloc;
-    let mut data = Data::new(alloc);
-    frame.head(&mut data, run.events(), N::PROBES)?;
+    let mut meter = N::Meter::fresh();
+    let tape = run.tape(frame.alloc, 0, &mut meter)?;
     let mut rows = Rows {
-        alloc,
-        data,
-        tape: run.tape(alloc, 0, &mut N::Meter::fresh())?,
+        alloc: frame.alloc,
+        data: Data::new(frame.alloc),
+        tape,
+        meter,
         watched,
     };
-    rows.start()?;
-    for place in 0..run.events().len() {
-        if let Some(event) = run.events().get(place) {
-            rows.event(event)?;
-        }
-    }
-    rows.end()?.between(BEFORE, AFTER)
+    rows.page(frame, run.events())
 }

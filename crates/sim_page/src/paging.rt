@@ -121,14 +121,25 @@ fn watched_by<'a, H: Eprint>(
             report_condition(host, alloc, &opened.names, words);
             return Err(WatchError::BadCondition);
         };
-        let watching = Watched {
-            words,
-            cond,
-            holding: Vec::new(alloc),
-        };
-        watched.push(watching).map_err(AllocError::from)?;
+        watch(alloc, words, cond, &mut watched)?;
     }
     Ok(watched)
+}
+
+// Adds a condition to those that are watched.
+fn watch<'a>(
+    alloc: Global,
+    words: &'a str,
+    cond: Cond,
+    watched: &mut Vec<Watched<'a>>,
+) -> Result<(), AllocError> {
+    let holding = Vec::new(alloc);
+    watched.push(Watched {
+        words,
+        cond,
+        holding,
+    })?;
+    Ok(())
 }
 
 // Reads the condition that these words write, if the scenario has its hosts and probes.
