@@ -19,7 +19,6 @@ use std::alloc::Global;
 use std::fmt::Debug;
 
 /// The kept events of a branch, and the places where each occurrence was queued and happened.
-#[derive(Drop)]
 pub struct Run<'a, N: Node> {
     /// Where texts are allocated.
     pub alloc: Global,
@@ -28,6 +27,18 @@ pub struct Run<'a, N: Node> {
     pub frozen: Frozen<N>,
     /// Where each occurrence was queued and happened.
     pub places: Places,
+}
+
+// Not derived: a crate that drops a run would prove the drop of its parts again.
+impl<'a, N: Node> Drop for Run<'a, N> {
+    fn drop(self) {
+        let Run {
+            alloc: _alloc,
+            names: _names,
+            frozen: _frozen,
+            places: _places,
+        } = self;
+    }
 }
 
 /// Returns all kept events of a branch, or `None` if there is no such branch. Fails only for want

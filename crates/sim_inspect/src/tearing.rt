@@ -1,7 +1,7 @@
 //! The writes that a crash tears or drops, and the events that made them.
 use crate::run::{Run, pass};
+use sim_account::tears;
 use sim_disk::Disk;
-use sim_log::Told;
 use sim_node::{NoMemory, Node};
 use sim_tally::FreshMeter;
 use sim_tape::{Frozen, Tape};
@@ -84,12 +84,17 @@ fn tell_write(disk: &Disk, at: usize, kept: u32, said: &mut String) -> Result<bo
     if kept as usize >= len {
         return Ok(false);
     }
-    let verb = if kept == 0 { "drops" } else { "tears" };
-    write!(said, "{verb} write {number} of {count} (")?;
-    if kept > 0 {
-        write!(said, "keeps {kept} of ")?;
+    if kept == 0 {
+        write!(
+            said,
+            "drops write {number} of {count} ({len} bytes at {offset})"
+        )?;
+    } else {
+        write!(
+            said,
+            "tears write {number} of {count} (keeps {kept} of {len} bytes at {offset})"
+        )?;
     }
-    write!(said, "{len} bytes at {offset})")?;
     Ok(true)
 }
 
@@ -126,6 +131,23 @@ where
         Ok(())
     }
 
+    // Appends the writes that the crash of a host tears or drops in the world at a place, if the
+    // host runs there, with the events that made them.
+    fn tell_crash(
+        &self,
+        world: &World<N>,
+        place: u32,
+        host: u16,
+        said: &mut String,
+    ) -> Result<(), NoMemory> {
+        if host >= world.hosts() || !world.is_up(host) {
+            return Ok(());
+        }
+        let tears = tears(self.alloc, world, host)?;
+        let writers = writers_of(self.alloc, &self.frozen, place, host)?;
+        self.tell_tears(world.disk(host), tears.as_slice(), writers.as_slice(), said)
+    }
+
     /// Appends the writes that the event that leads to a place tears or drops, if it is the crash
     /// or the bounce of a running host, with the events that made them. Fails only for want of
     /// memory.
@@ -139,15 +161,9 @@ where
             return Ok(());
         };
         let before = place.saturating_sub(1).min(self.len());
-        let mut meter = N::Meter::fresh();
-        let tape = self.frozen.tape(self.alloc, before, &mut meter)?;
-        let world = tape.here();
-        if host >= world.hosts() {
-            return Ok(());
-        }
-        let told = Told::new(self.alloc, world, event, &mut meter)?;
-        let writers = writers_of(self.alloc, &self.frozen, before, host)?;
-        let tears = told.tears.as_slice();
-        self.tell_tears(world.disk(host), tears, writers.as_slice(), said)
+        let tape = self
+            .frozen
+            .tape(self.alloc, before, &mut N::Meter::fresh())?;
+        self.tell_crash(tape.here(), before, host, said)
     }
 }
