@@ -53,6 +53,16 @@ fn plural(count: usize) -> &'static str {
     if count == 1 { "" } else { "s" }
 }
 
+// Returns whether a host runs, and whether it is done, in words.
+fn host_words(is_up: bool, is_done: bool) -> &'static str {
+    match (is_up, is_done) {
+        (true, true) => "up, done",
+        (true, false) => "up, not done",
+        (false, true) => "down, done",
+        (false, false) => "down, not done",
+    }
+}
+
 // Returns the state of a link in a word.
 fn state_name(state: LinkState) -> &'static str {
     match state {
@@ -62,29 +72,23 @@ fn state_name(state: LinkState) -> &'static str {
     }
 }
 
-// Appends bytes in hexadecimal, 16 in a row after the number of the first.
-fn tell_bytes(bytes: &[u8], said: &mut String) -> Result<(), NoMemory> {
-    for (offset, byte) in bytes.iter().enumerate() {
-        if offset % 16 == 0 {
-            if offset > 0 {
-                said.push('\n')?;
-            }
-            write!(said, "{offset:>6} ")?;
-        }
-        write!(said, " {byte:02x}")?;
-    }
-    if !bytes.is_empty() {
-        said.push('\n')?;
-    }
-    Ok(())
-}
-
 // Appends bytes in hexadecimal, in a line.
 fn tell_row(bytes: &[u8], said: &mut String) -> Result<(), NoMemory> {
     for byte in bytes {
         write!(said, " {byte:02x}")?;
     }
     said.push('\n')
+}
+
+// Appends bytes in hexadecimal, 16 in a row after the number of the first.
+fn tell_bytes(bytes: &[u8], said: &mut String) -> Result<(), NoMemory> {
+    let mut offset: usize = 0;
+    for row in bytes.chunks(16) {
+        write!(said, "{offset:>6} ")?;
+        tell_row(row, said)?;
+        offset = offset.saturating_add(16);
+    }
+    Ok(())
 }
 
 // Appends the writes of a disk that are not stable.
@@ -134,26 +138,24 @@ impl<N: Node + Debug> Sight<'_, N>
 where
     N::Msg: Debug,
 {
-    // Appends what happens at an occurrence.
+    // Appends what happens at an occurrence, after the name of its host.
     fn tell_input(
         &self,
         occurrence: &Occurrence<N::Msg>,
         said: &mut String,
     ) -> Result<(), NoMemory> {
-        let host = self.names.host_name(occurrence.host());
-        let words = match occurrence.input() {
-            Input::Start => " starts",
-            Input::Timer => "'s timer ends",
+        match occurrence.input() {
+            Input::Start => said.push_str(" starts"),
+            Input::Timer => said.push_str("'s timer ends"),
             Input::Synced => {
                 let count = occurrence.sync_count().unwrap_or(0);
-                return write!(said, "{host}'s sync of {count} is done");
+                write!(said, "'s sync of {count} is done")
             }
             Input::Message { sender, msg } => {
                 let sender = self.names.host_name(*sender);
-                return write!(said, "{host} gets {msg:?} from {sender}");
+                write!(said, " gets {msg:?} from {sender}")
             }
-        };
-        write!(said, "{host}{words}")
+        }
     }
 
     // Appends the occurrence with a serial, if it is pending.
@@ -161,7 +163,8 @@ where
         let Some((due, occurrence)) = self.world.pending(serial) else {
             return Ok(());
         };
-        write!(said, "due {due}: ")?;
+        let host = self.names.host_name(occurrence.host());
+        write!(said, "due {due}: {host}")?;
         self.tell_input(occurrence, said)?;
         match self.places.queued_by(serial) {
             Some(place) => writeln!(said, " (queued at {place})"),
@@ -208,13 +211,8 @@ where
             return Ok(());
         }
         let name = self.names.host_name(host);
-        let up = if self.world.is_up(host) { "up" } else { "down" };
-        let done = if self.world.is_done(host) {
-            "done"
-        } else {
-            "not done"
-        };
-        writeln!(said, "{name}: {up}, {done}")?;
+        let words = host_words(self.world.is_up(host), self.world.is_done(host));
+        writeln!(said, "{name}: {words}")?;
         if let Some(node) = self.world.node(host) {
             self.tell_node(node, said)?;
         }
@@ -238,49 +236,45 @@ where
         tell_writes(disk, said)
     }
 
-    // Appends a direction if it is not open. Returns whether it is open.
-    fn tell_direction(&self, from: u16, to: u16, said: &mut String) -> Result<bool, NoMemory>
+    // Appends a direction, if it is not open.
+    fn tell_direction(&self, from: u16, to: u16, said: &mut String) -> Result<(), NoMemory>
         requires from { from < 32 }
         requires to { to < 32 }
     {
         let state = self.world.link(from, to);
         if state == LinkState::Through {
-            return Ok(true);
+            return Ok(());
         }
         let (a, b) = (self.names.host_name(from), self.names.host_name(to));
         let held = self.world.held(from, to);
         let (word, count) = (state_name(state), held.len());
         let plural = plural(count);
         writeln!(said, "{a} to {b}: {word}, {count} message{plural}")?;
-        tell_held(held, said)?;
-        Ok(false)
+        tell_held(held, said)
     }
 
-    // Appends the directions from a host that are not open. Returns whether all are open.
-    fn tell_links_of(&self, from: u16, said: &mut String) -> Result<bool, NoMemory>
+    // Appends the directions from a host that are not open.
+    fn tell_links_of(&self, from: u16, said: &mut String) -> Result<(), NoMemory>
         requires { from < 32 }
     {
-        let mut are_open = true;
         for to in 0..self.world.hosts().min(32) {
-            if from != to && !self.tell_direction(from, to, said)? {
-                are_open = false;
+            if from != to {
+                self.tell_direction(from, to, said)?;
             }
         }
-        Ok(are_open)
+        Ok(())
     }
 
     /// Appends the links that are not open, with the messages that they hold. Fails only for want
     /// of memory.
     pub fn tell_links(&self, said: &mut String) -> Result<(), NoMemory> {
-        let mut are_open = true;
+        let before = said.len();
         for from in 0..self.world.hosts().min(32) {
-            if !self.tell_links_of(from, said)? {
-                are_open = false;
-            }
+            self.tell_links_of(from, said)?;
         }
-        if are_open {
-            said.push_str("all links are open\n")?;
+        if said.len() > before {
+            return Ok(());
         }
-        Ok(())
+        said.push_str("all links are open\n")
     }
 }

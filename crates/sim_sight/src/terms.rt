@@ -1,5 +1,5 @@
 //! Finds which terms of a condition fail, and shows the values that they name.
-ghost use Rattle.std.specs.Prelude.{◌≡◌, ◌&&◌, is_none, not};
+ghost use Rattle.std.specs.Prelude.{◌≡◌, ◌<◌, ◌&&◌, is_none, not};
 ghost use Rattle.sim_watch.specs.Condition.{fault_of, holds};
 
 use sim_input::push_condition;
@@ -58,24 +58,43 @@ fn probes_of(term: Term) -> (Option<u8>, Option<u8>) {
     }
 }
 
-// Appends the values of a probe of the hosts that a condition names.
+// Appends the value of a probe of a host, or that the host is down.
+fn tell_value<N: Node>(
+    names: &Names,
+    world: &World<N>,
+    host: u16,
+    probe: u8,
+    said: &mut String,
+) -> Result<(), NoMemory>
+    requires host { host < world.now.scenario.setup.hosts }
+    requires probe { probe < N.PROBES }
+{
+    let by = names.host_name(host);
+    match world.probe(host, probe) {
+        Some(value) => {
+            let name = names.probe_name(probe);
+            write!(said, " {by}.{name} {value}")
+        }
+        None => write!(said, " {by} down"),
+    }
+}
+
+// Appends the values of a probe, if there is one, of the hosts that a condition names.
 fn tell_values<N: Node>(
     names: &Names,
     world: &World<N>,
     cond: &Cond,
-    probe: u8,
+    probe: Option<u8>,
     said: &mut String,
 ) -> Result<(), NoMemory> {
+    let probe = match probe {
+        Some(probe) if probe < N::PROBES => probe,
+        _ => return Ok(()),
+    };
     let concerned = cond.concerned();
-    let name = names.probe_name(probe);
     for host in 0..world.hosts() {
-        let is_concerned = concerned.get(host as usize).copied().unwrap_or(false);
-        if is_concerned && probe < N::PROBES {
-            let by = names.host_name(host);
-            match world.probe(host, probe) {
-                Some(value) => write!(said, " {by}.{name} {value}")?,
-                None => write!(said, " {by} down")?,
-            }
+        if concerned.get(host as usize).copied().unwrap_or(false) {
+            tell_value(names, world, host, probe, said)?;
         }
     }
     Ok(())
@@ -94,13 +113,9 @@ fn tell_term<N: Node>(
         said.push('?')?;
     }
     let (first, second) = probes_of(term);
-    if let Some(probe) = first {
-        said.push(':')?;
-        tell_values(names, world, cond, probe, said)?;
-    }
-    if let Some(probe) = second {
-        tell_values(names, world, cond, probe, said)?;
-    }
+    said.push_str(if first.is_some() { ":" } else { "" })?;
+    tell_values(names, world, cond, first, said)?;
+    tell_values(names, world, cond, second, said)?;
     said.push('\n')
 }
 
