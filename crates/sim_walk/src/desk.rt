@@ -97,8 +97,8 @@ fn turn_on<N: Node>(alloc: Global, book: &mut Book<N>, command: Command) -> Resu
 }
 
 impl Desk<'_> {
-    // Returns the names of the scenario, with this number of probes.
-    fn known(&self, probes: u8) -> Known<'_> {
+    /// Returns the names of the scenario, with this number of probes.
+    pub(crate) fn known(&self, probes: u8) -> Known<'_> {
         Known {
             alloc: self.alloc,
             names: &self.opened.names,

@@ -17,7 +17,7 @@ use sim_cli::{
 use sim_inspect::{kept_of, whereabouts};
 use sim_lines::{Ahead, Next, NextLine, next_byte, next_line};
 use sim_node::{NoMemory, Node};
-use sim_orders::{Known, Order, Request, order_of};
+use sim_orders::{Order, Request, order_of};
 use std::alloc::Global;
 use std::fmt::Debug;
 use std::io::{Read, Write};
@@ -147,18 +147,12 @@ where
 
     // Returns the request of a line, or the words that say why it makes none.
     fn request(&self, line: &[u8]) -> Result<Request, String> {
-        let (alloc, opened) = (self.desk.alloc, self.desk.opened);
-        match order_of(alloc, &opened.names, self.branch, line) {
+        let desk = &self.desk;
+        match order_of(desk.alloc, &desk.opened.names, self.branch, line) {
             Ok(request) => Ok(request),
             Err(error) => {
-                let known = Known {
-                    alloc,
-                    names: &opened.names,
-                    hosts: opened.scenario.hosts(),
-                    probes: N::PROBES,
-                };
-                let mut said = String::new(alloc);
-                let _told = known.tell_error(line, error, &mut said);
+                let mut said = String::new(desk.alloc);
+                let _told = desk.known(N::PROBES).tell_error(line, error, &mut said);
                 Err(said)
             }
         }
