@@ -7,7 +7,8 @@
 
 The programs are then crates/NAME/out/NAME. What is proved is kept in the folders out/, so a later
 run proves only what has changed. At a crate that is not proved, this prints what its check said and
-ends with its status. Each crate has a line at its end with its seconds on the clock.
+ends with its status. Each crate has a line at its end with its seconds on the clock, and the last
+line has the time of the whole run.
 
 The option --cpu changes what a program is compiled for, not what is proved. A program for x86-64-v3
 takes 3 to 8 percent fewer instructions, and ends at once by an illegal instruction on a processor
@@ -22,8 +23,10 @@ back what it proved as soon as a crate ends.
 import argparse
 import concurrent.futures
 import functools
+import math
 import os
 import pathlib
+import resource
 import shutil
 import subprocess
 import sys
@@ -119,7 +122,10 @@ class Lanes:
             (lane / ".git").mkdir()
 
     def prove(self, crate, below, jobs):
-        """Proves a library in a free lane. Returns rt's status, what it said, and its seconds."""
+        """Proves a library in a free lane. Returns rt's status, what it said, and its seconds.
+
+        A crate with one job gives way to those with more, which are wanted sooner.
+        """
         with self.lock:
             lane = self.free.pop()
         start = time.monotonic()
@@ -127,7 +133,7 @@ class Lanes:
             hand_over(ROOT, lane, name, "rlib")
         for part in PARTS_KEPT:
             hand_over(ROOT, lane, crate, part)
-        words = ["rt", "lib", "--jobs", str(jobs)]
+        words = ["nice", "-n", "0" if jobs > 1 else "5", "rt", "lib", "--jobs", str(jobs)]
         ended = subprocess.run(words, cwd=lane / "crates" / crate, stdin=subprocess.DEVNULL,
                                stdout=subprocess.PIPE, stderr=subprocess.STDOUT, text=True)
         for part in PARTS_KEPT:
@@ -147,14 +153,15 @@ def longest_chains(libraries, cited):
 
 
 def jobs_for(share, others, idle, count):
-    """Returns the number of jobs for the check of a crate, which are at most the idle processors.
+    """Returns the number of jobs for the check of a crate.
 
     `share` is how much of the work that is left is the crate and the longest chain of those above
-    it: as large a share of all processors keeps the end of that chain from being late. `others`
-    crates can begin beside it, and share with it what would idle otherwise.
+    it. With as large a share of all processors the end of that chain is not late. So the crate gets
+    these jobs even if fewer processors idle: the checks beside it give way. `others` crates can
+    begin beside it, and share with it what would idle otherwise.
     """
-    wanted = min(count - 1, round(count * share))
-    return min(idle, max(1, wanted, idle // (1 + others)))
+    wanted = min(count - 1, math.ceil(count * share))
+    return max(1, wanted, idle // (1 + others))
 
 
 def prove_all(libraries, cited):
@@ -171,7 +178,7 @@ def prove_all(libraries, cited):
             # What is running is taken to be half done.
             rest = sum(map(work_of, left)) + sum(work_of(it) for it, _ in running.values()) / 2
             for number, crate in enumerate(ready):
-                if idle == 0:
+                if idle <= 0:
                     break
                 others = len(ready) - 1 - number
                 jobs = jobs_for(chain[crate] / max(rest, 1), others, idle, count)
@@ -221,7 +228,7 @@ def request():
 
 
 def main():
-    asked, cited = request(), cited_crates()
+    start, asked, cited = time.monotonic(), request(), cited_crates()
     if lacks := lacking(asked.cpu):
         print(f"build.py: this processor has no {', '.join(lacks)}, which {asked.cpu} needs",
               file=sys.stderr)
@@ -235,6 +242,9 @@ def main():
     prove_all(list(below), cited)
     for program in asked.programs:
         build(program, asked.cpu)
+    used = resource.getrusage(resource.RUSAGE_CHILDREN)
+    print(f"{(time.monotonic() - start) / 60:.0f} minutes on the clock, "
+          f"{(used.ru_utime + used.ru_stime) / 60:.0f} processor minutes")
 
 
 if __name__ == "__main__":
