@@ -58,6 +58,10 @@ module _ {U : Type 0} where
       let none : length xs - k ≡ 0 = omega (arith, le) in
       ap {B = List U} (λ (n : ℕ). drop n xs) none
 
+  -- the last none
+  pub none-kept : (xs : List U) → keep_last 0 xs ≡ []
+  none-kept xs = drop_all (length xs - 0) xs (omega arith)
+
   keep-keep : (k n : ℕ) (xs : List U) → k ≤ n → n ≤ length xs → keep_last k (keep_last n xs) ≡ keep_last k xs
   keep-keep k n xs le within =
       let len : length xs - n + (length (drop (length xs - n) xs) - k) ≡ length xs - k = omega (arith, length-drop (length xs - n) xs, le, within) in

@@ -5,6 +5,20 @@ use Rattle.sim_moves.specs.Circle.{around}
 use Rattle.sim_moves.proofs.Circling.{filled, length-around}
 use Rattle.sim_moves.proofs.ring.Ring.apply.Goals as goal
 
+pub invariant_of-self : goal.invariant_of-self
+invariant_of-self g c =
+    let i = c.self.inside in
+    let same = length-set i.slots.items i.free c.apply_over.new.undo in (
+      omega (arith, same, c.self.invariant.0),
+      omega (arith, same, c.self.invariant.1),
+      omega (arith, same, c.self.invariant.2),
+      c.self.invariant.3,
+      λ small. c.self.invariant.4 (omega (arith, same, small)),
+    )
+
+pub returns-in_err-after-clause-capacity : goal.returns-in_err-after-clause-capacity
+returns-in_err-after-clause-capacity g c = ap (λ b. b.capacity) c.self.view_is
+
 pub invariant_of-self-2 : goal.invariant_of-self-2
 invariant_of-self-2 g c =
     let i = c.self.inside in
@@ -46,3 +60,6 @@ returns-clause-kept g c =
       leads = v.leads;
       acted = v.acted;
     }
+
+pub returns-clause-capacity : goal.returns-clause-capacity
+returns-clause-capacity g c = ap (λ b. b.capacity) c.self.view_is

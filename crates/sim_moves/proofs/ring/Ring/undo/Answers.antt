@@ -4,6 +4,21 @@ use Rattle.sim_moves.specs.Circle.{around}
 use Rattle.sim_moves.proofs.Circling.{newest, fewer}
 use Rattle.sim_moves.proofs.ring.Ring.undo.Goals as goal
 
+pub slot_before-newest-requires : goal.slot_before-newest-requires
+slot_before-newest-requires g c = omega (arith, c.self.invariant.0, c.len.ensures)
+
+pub overflow_sub-self : goal.overflow_sub-self
+overflow_sub-self g c =
+    let i = c.self.inside in
+    let ring = around i.free i.slots.items in
+    omega (arith, c.requires.some, ap (λ b. length b.items) c.self.view_is, length-drop (length ring - i.len) ring)
+
+pub index_mut-requires : goal.index_mut-requires
+index_mut-requires g c = omega (arith, c.slot_before-newest.ensures.inside, c.len.ensures)
+
+pub returns-in_err-before-clause-capacity : goal.returns-in_err-before-clause-capacity
+returns-in_err-before-clause-capacity g c = ap (λ b. b.capacity) c.self.view_is
+
 pub undo_by-requires : goal.undo_by-requires
 undo_by-requires g c =
     let i = c.self.inside in
@@ -60,3 +75,6 @@ returns-clause-taken g c =
       is = v.world;
       work = v.work;
     }
+
+pub returns-clause-capacity : goal.returns-clause-capacity
+returns-clause-capacity g c = ap (λ b. b.capacity) c.self.view_is
