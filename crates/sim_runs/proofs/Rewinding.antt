@@ -9,7 +9,7 @@ use Rattle.sim_node.specs.Work.{Work}
 use Rattle.sim_world.specs.Events.{Rules, rules}
 use Rattle.sim_moves.specs.Places.{acts_at, acting}
 use Rattle.sim_moves.specs.Works.{undone_by}
-use Rattle.sim_tape.specs.Tape.{Tape, with_world, at}
+use Rattle.sim_tape.specs.Tape.{Tape, with_world, at, KeepsRun}
 use Rattle.sim_tape.specs.Places.{world_of}
 use Rattle.sim_watch.specs.Condition.{Cond}
 use Rattle.sim_watch.proofs.Firsts.{least_is, side}
@@ -19,6 +19,7 @@ use Rattle.sim_runs.specs.Works.{TakesBack}
 use Rattle.sim_runs.specs.Branch.{Branch}
 use Rattle.sim_runs.specs.Watches.{failing_watch}
 use Rattle.sim_runs.specs.Branch.{branch_with}
+use Rattle.sim_runs.specs.OnTape.{IsElsewhere}
 use Rattle.sim_runs.specs.Runs.{failing_at, rewind_move, rewind_len}
 use Rattle.sim_runs.specs.Watches.{NoneFrom}
 use Rattle.sim_runs.specs.Running.{NoneFails, FailsLast, IsLast, IsRewinding, IsLooking, IsPast, place_found, stop_found, found_at}
@@ -41,6 +42,13 @@ moved_on t u v k is gone =
 -- a place of a tape at a place of another
 pub moved_to : (t u v : Tape) (q p : ℕ) → u ≡ with_world true u.reach (at q t) → v ≡ with_world true v.reach (at p u) → v ≡ with_world true v.reach (at p t)
 moved_to t u v q p is gone = gone ∙ ap (λ (x : Tape). with_world true v.reach (at p x)) is
+
+-- a call that failed left a tape elsewhere on its run
+pub elsewhere : (t u v : Tape) (q : ℕ) → u ≡ with_world true u.reach (at q t) → KeepsRun u v → IsElsewhere t v
+elsewhere t u v q is kept = (q, kept ∙ ap (λ (x : Tape). with_world v.warm v.reach x) is)
+
+pub elsewhere_on : (t u v : Tape) (q : ℕ) → u ≡ with_world true u.reach (at q t) → IsElsewhere u v → IsElsewhere t v
+elsewhere_on t u v q is left = (left.0, left.1 ∙ ap (λ (x : Tape). with_world v.warm v.reach (at left.0 x)) is)
 
 pub stays : (t : Tape) (p : ℕ) → t.warm ≡ true → p ≡ t.place → t ≡ with_world true t.reach (at p t)
 stays t p warm same = ap (λ b. record t { warm = b }) warm ∙ ap (λ (q : ℕ). record t { warm = true; place = q }) (sym same)

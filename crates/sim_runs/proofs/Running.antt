@@ -1,6 +1,6 @@
 -- A run goes on by one step, and stops.
 use Rattle.std.proofs.Common.{◌≡◌, ℕ, zero, suc, ◌+◌, ◌-◌, ◌%◌, ◌<◌, ◌≤◌, ◌==◌, min, Bool, true, false, not, List, [], ◌∷◌, ◌++◌, Option, Some, None, is_some, length, take, refl, sym, ap, ◌∙◌, arith, inl, inr, length-append, append_assoc, append-nil, nat_le, subst, add-zero}
-use Rattle.std.specs.Prelude.{if◌then◌else◌}
+use Rattle.std.specs.Prelude.{if◌then◌else◌, Result, Ok, Err, OnErr}
 use Rattle.std.specs.Option.{unwrap_or}
 use Rattle.std.proofs.Math.Seq.{take-length}
 use Rattle.std.proofs.Math.Nat.{eq-or-lt_of_le}
@@ -13,7 +13,7 @@ use Rattle.sim_events.specs.declared.Event.TheVariants as event
 use Rattle.sim_events.specs.declared.Refusal.TheVariants as why
 use Rattle.sim_world.specs.World.{World}
 use Rattle.sim_world.specs.Events.{Rules, rules, run, start, refusal_of}
-use Rattle.sim_tape.specs.Tape.{Tape, with_world, with_event}
+use Rattle.sim_tape.specs.Tape.{Tape, with_world, with_event, KeepsRun}
 use Rattle.sim_tape.specs.Places.{world_of}
 use Rattle.sim_world.specs.Acts.{running}
 use Rattle.sim_moves.specs.Works.{Plays}
@@ -30,7 +30,17 @@ use Rattle.sim_runs.specs.Runs.{all_done}
 use Rattle.sim_runs.specs.Branch.{branch_with}
 use Rattle.sim_runs.specs.Runs.{first_stop, steps, run_stop, run_stop_at, run_addition, run_len, after_steps, is_idle, most_events}
 use Rattle.sim_runs.specs.Running.{IsRunning}
+use Rattle.sim_runs.specs.OnTape.{HasGrown}
 use Rattle.sim_watch.proofs.Firsts.{least_is}
+
+-- what holds anyway holds after an error
+pub on_err : {A E : Type 0} (r : Result A E) {fact : Type 0} → fact → OnErr r fact
+on_err (Ok _) holds = tt
+on_err (Err _) holds = holds
+
+-- a call that failed left a tape with the events that were added before
+pub grown : (t u v : Tape) (more : List Event) → u ≡ with_world true u.reach (lengthened more t) → KeepsRun u v → HasGrown t v
+grown t u v more is kept = (more, kept ∙ ap (λ (x : Tape). with_world v.warm v.reach x) is)
 
 -- one step more
 pub steps_more : (k : ℕ) → steps k ++ event.Step ∷ [] ≡ steps (k + 1)

@@ -1,9 +1,11 @@
-use Rattle.std.proofs.Common.{◌≡◌, ℕ, ◌-◌, ◌≤◌, ap, ◌∙◌, subst, arith}
-use Rattle.std.proofs.lemmas.Result.{IfOk-weaker, on_ok_weaker}
+use Rattle.std.proofs.Common.{◌≡◌, ℕ, ◌-◌, ◌≤◌, Option, refl, ap, ◌∙◌, subst, arith}
+use Rattle.std.proofs.lemmas.Result.{IfOk-weaker, on_ok_weaker, on_err_weaker}
 use Rattle.sim_world.specs.Events.{rules}
-use Rattle.sim_tape.specs.Tape.{Tape}
+use Rattle.sim_tape.specs.Tape.{Tape, IsMoved}
 use Rattle.sim_runs.specs.Running.{IsLast, place_found}
-use Rattle.sim_runs.proofs.Rewinding.{none_so, none_kept, far_last}
+use Rattle.sim_runs.specs.declared.rewinds.Found.{Found}
+use Rattle.sim_runs.proofs.Running.{on_err}
+use Rattle.sim_runs.proofs.Rewinding.{none_so, none_kept, far_last, moved_to, stays, elsewhere, elsewhere_on}
 use Rattle.sim_runs.proofs.Looking.{looks_jump, looks_back, moved_looks, far_looked, min_other}
 use Rattle.sim_runs.proofs.Undoing.{min_both, near_undone, spent_far, undone_back}
 use Rattle.sim_runs.proofs.Reaching.{back_rewound, near_rewound, near_to, far_rewound}
@@ -131,3 +133,45 @@ returns-clause-reach g c =
     far_rewound g.N.Node.laws g.N.Node.PROBES c.args.watches.now t u c.look_far.new.tape c.min-near.result (t.place - c.args.count) (c.place.result - c.args.count) c.in_ok-found.field-0 c.look_far.result
     c.requires.warm c.in_default.is same c.in_ok-found.ensures.moved none c.reach-reach.ensures.within (ap (λ (n : ℕ). n - c.args.count) c.place.ensures.value)
     (omega (arith, place, few, c.place.ensures.value)) c.look_far.ensures.last c.look_far.ensures.moved c.look_far.ensures.reach
+
+pub returns-then-end-eq0-clause-moved : goal.returns-then-end-eq0-clause-moved
+returns-then-end-eq0-clause-moved g c = c.in_ok-back.ensures.ok
+
+pub returns-in-Some-clause-moved : goal.returns-in-Some-clause-moved
+returns-in-Some-clause-moved g c =
+    let t = c.args.tape.now in
+    subst (λ (o : Option Found). IsMoved (place_found (t.place - c.min-near.result) o) t c.look_near.new.tape) c.in-Some.is c.in_ok-found.ensures.moved
+
+pub returns-then-near-count-clause-moved : goal.returns-then-near-count-clause-moved
+returns-then-near-count-clause-moved g c =
+    let t = c.args.tape.now in
+    let u = c.look_near.new.tape in
+    subst (λ (n : ℕ). IsMoved (t.place - n) t u) c.if-near-count.true
+    (subst (λ (o : Option Found). IsMoved (place_found (t.place - c.min-near.result) o) t u) c.in_default.is c.in_ok-found.ensures.moved)
+
+pub returns-clause-moved : goal.returns-clause-moved
+returns-clause-moved g c =
+    let t = c.args.tape.now in
+    let u = c.look_near.new.tape in
+    let near : ℕ = t.place - c.min-near.result in
+    let there = subst (λ (o : Option Found). IsMoved (place_found near o) t u) c.in_default.is c.in_ok-found.ensures.moved in
+    let to : c.place.result - c.args.count ≡ t.place - c.args.count = ap (λ (n : ℕ). n - c.args.count) c.place.ensures.value in
+    IfOk-weaker c.look_far.result _ _
+    (λ f h. subst (λ (m : ℕ). IsMoved (place_found m f) t c.look_far.new.tape) to (moved_to t u c.look_far.new.tape near (place_found (c.place.result - c.args.count) f) there h))
+    c.look_far.ensures.moved
+
+pub returns-in_err-back-clause-err : goal.returns-in_err-back-clause-err
+returns-in_err-back-clause-err g c =
+    let t = c.args.tape.now in
+    on_err c.from_residual.result (elsewhere t t c.back.new.self t.place (stays t t.place c.requires.warm refl) c.in_err-back.ensures.err)
+
+pub returns-in_err-found-clause-err : goal.returns-in_err-found-clause-err
+returns-in_err-found-clause-err g c = on_err c.from_residual-in_err-found.result c.in_err-found.ensures.err
+
+pub returns-clause-err : goal.returns-clause-err
+returns-clause-err g c =
+    let t = c.args.tape.now in
+    let u = c.look_near.new.tape in
+    let near : ℕ = t.place - c.min-near.result in
+    let there = subst (λ (o : Option Found). IsMoved (place_found near o) t u) c.in_default.is c.in_ok-found.ensures.moved in
+    on_err_weaker c.look_far.result (elsewhere_on t u c.look_far.new.tape near there) c.look_far.ensures.err

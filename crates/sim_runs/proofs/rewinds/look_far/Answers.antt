@@ -5,7 +5,8 @@ use Rattle.sim_runs.specs.Reach.{reach_rewound}
 use Rattle.sim_runs.specs.declared.rewinds.Found.{Found}
 use Rattle.sim_runs.specs.Works.{Looks}
 use Rattle.sim_runs.specs.Running.{IsLast, IsPast, IsLooked}
-use Rattle.sim_runs.proofs.Rewinding.{none_so, past_none, stretch_on, past_more, last_lower, moved_to}
+use Rattle.sim_runs.proofs.Running.{on_err}
+use Rattle.sim_runs.proofs.Rewinding.{none_so, past_none, stretch_on, past_more, last_lower, moved_to, elsewhere, elsewhere_on}
 use Rattle.sim_runs.proofs.Looking.{looked_none, looked_all, jump_on, stretch_looked, found_looked}
 use Rattle.sim_runs.proofs.Undoing.{not_within, spent_now, spent_more, spent_found, spent_end, undone_to}
 use Rattle.sim_runs.proofs.Reaching.{jump_reach, stretch_reach, found_reach, end_of_rewind}
@@ -190,3 +191,45 @@ returns-clause-reach g c =
     end_of_rewind t u x c.args.to c.loop-high.high c.requires.warm c.requires.spent past.new end past.ahead past.below c.loop-high.invariant.4
     (spent_end c.args.to c.loop-high.high u c.loop-high.invariant.2 end) (λ warm same. (c.in_ok-goto-3.ensures.here warm same).1) c.in_ok-goto-3.ensures.reach
     ∙ ap (λ (q : ℕ). reach_rewound c.args.to q t) (sym there)
+
+pub returns-in-Some-clause-moved : goal.returns-in-Some-clause-moved
+returns-in-Some-clause-moved g c =
+    let t = c.args.tape.now in
+    let u = c.loop-high.tape in
+    let v = c.goto.new.self in
+    let w = c.last_failing.new.tape in
+    let n : ℕ = c.loop-high.high - 1 - c.stretch_below-low.result in
+    let start = moved_to t u v u.place c.stretch_below-low.result c.loop-high.invariant.0.new c.in_ok-goto.ensures.ok in
+    let there = moved_to t v w c.stretch_below-low.result (v.place + n) start c.in_ok-found.ensures.moved in
+    moved_to t w c.goto-in-Some.new.self (v.place + n) c.in-Some.found.place there c.in_ok-goto-2.ensures.ok
+
+pub returns-clause-moved : goal.returns-clause-moved
+returns-clause-moved g c =
+    moved_to c.args.tape.now c.loop-high.tape c.goto-2.new.self c.loop-high.tape.place c.args.to c.loop-high.invariant.0.new c.in_ok-goto-3.ensures.ok
+
+pub returns-in_err-goto-clause-err : goal.returns-in_err-goto-clause-err
+returns-in_err-goto-clause-err g c =
+    on_err c.from_residual.result (elsewhere c.args.tape.now c.loop-high.tape c.goto.new.self c.loop-high.tape.place c.loop-high.invariant.0.new c.in_err-goto.ensures.err)
+
+pub returns-in_err-goto-3-clause-err : goal.returns-in_err-goto-3-clause-err
+returns-in_err-goto-3-clause-err g c =
+    on_err c.from_residual-in_err-goto-3.result (elsewhere c.args.tape.now c.loop-high.tape c.goto-2.new.self c.loop-high.tape.place c.loop-high.invariant.0.new c.in_err-goto-3.ensures.err)
+
+pub returns-in_err-found-clause-err : goal.returns-in_err-found-clause-err
+returns-in_err-found-clause-err g c =
+    let t = c.args.tape.now in
+    let u = c.loop-high.tape in
+    let v = c.goto.new.self in
+    let start = moved_to t u v u.place c.stretch_below-low.result c.loop-high.invariant.0.new c.in_ok-goto.ensures.ok in
+    on_err c.from_residual-in_err-found.result (elsewhere_on t v c.last_failing.new.tape c.stretch_below-low.result start c.in_err-found.ensures.err)
+
+pub returns-in_err-goto-2-clause-err : goal.returns-in_err-goto-2-clause-err
+returns-in_err-goto-2-clause-err g c =
+    let t = c.args.tape.now in
+    let u = c.loop-high.tape in
+    let v = c.goto.new.self in
+    let w = c.last_failing.new.tape in
+    let n : ℕ = c.loop-high.high - 1 - c.stretch_below-low.result in
+    let start = moved_to t u v u.place c.stretch_below-low.result c.loop-high.invariant.0.new c.in_ok-goto.ensures.ok in
+    let there = moved_to t v w c.stretch_below-low.result (v.place + n) start c.in_ok-found.ensures.moved in
+    on_err c.from_residual-in_err-goto-2.result (elsewhere t w c.goto-in-Some.new.self (v.place + n) there c.in_err-goto-2.ensures.err)

@@ -5,7 +5,7 @@ use Rattle.sim_tape.specs.Tape.{Tape, with_world}
 use Rattle.sim_tape.specs.Places.{world_of}
 use Rattle.sim_runs.specs.Tapes.{lengthened}
 use Rattle.sim_runs.specs.Runs.{Addition, steps}
-use Rattle.sim_runs.proofs.Running.{lengthened_by, steps_length, adds_none, adds_on, adds_so}
+use Rattle.sim_runs.proofs.Running.{on_err, grown, lengthened_by, steps_length, adds_none, adds_on, adds_so}
 use Rattle.sim_runs.proofs.Ticking.{step_can, ends_can, ticking_more, reach_next, ticked_is, ticked_all, ticked_length, ticking_none}
 use Rattle.sim_runs.proofs.ticks.add_tick.Goals as goal
 
@@ -93,3 +93,12 @@ returns-clause-work g c =
     let ticked = ticked_all g.N.Node.laws g.N.Node.PROBES c.args.end c.args.room c.args.tape.now c.loop.tape c.loop.counter c.stop_short.result c.requires.end c.requires.room (omega arith)
     c.loop.invariant.0 c.stop_short.ensures in
     adds_so (rules g.N.Node.laws g.N.Node.PROBES c.args.tape.now.scenario) c.loop.counter _ c.loop.tape.events (W c.args.meter.now) (W c.loop.meter) (sym (steps_length c.loop.counter) ∙ ap (λ (a : Addition). length a.events) (sym ticked)) c.loop.invariant.1
+
+pub returns-in_err-add-clause-err : goal.returns-in_err-add-clause-err
+returns-in_err-add-clause-err g c =
+    on_err c.from_residual.result (grown c.args.tape.now c.loop.tape c.add.new.self (steps c.loop.counter) c.loop.invariant.0.new c.in_err-add.ensures.err)
+
+pub returns-in_err-add-2-clause-err : goal.returns-in_err-add-2-clause-err
+returns-in_err-add-2-clause-err g c =
+    on_err c.from_residual-in_err-add-2.result
+    (grown c.args.tape.now c.loop.tape c.add-in-loop.new.self (steps c.loop.counter) c.loop.invariant.0.new c.in_err-add-2.ensures.err)

@@ -4,7 +4,7 @@ use Rattle.sim_world.specs.Events.{rules}
 use Rattle.sim_tape.specs.Tape.{Tape, with_world}
 use Rattle.sim_runs.specs.Tapes.{lengthened}
 use Rattle.sim_runs.specs.Runs.{Addition, steps}
-use Rattle.sim_runs.proofs.Running.{running_none, running_more, stopped_is, not_past, lengthened_more, reach_more, steps_length, adds_none, adds_on, adds_so}
+use Rattle.sim_runs.proofs.Running.{on_err, grown, running_none, running_more, stopped_is, not_past, lengthened_more, reach_more, steps_length, adds_none, adds_on, adds_so}
 use Rattle.sim_runs.proofs.Skipping.{none_untested}
 use Rattle.sim_runs.proofs.walks.add_steps.Goals as goal
 
@@ -62,3 +62,7 @@ returns-in-Some-clause-work g c =
 pub unreachable-requires : goal.unreachable-requires
 unreachable-requires g c =
     not_past g.N.Node.laws g.N.Node.PROBES c.args.count c.args.watches.now c.args.tape.now c.loop-added.tape c.loop-added.added c.requires.some (omega arith) c.loop-added.invariant.0
+
+pub returns-in_err-add-clause-err : goal.returns-in_err-add-clause-err
+returns-in_err-add-clause-err g c =
+    on_err c.from_residual.result (grown c.args.tape.now c.loop-added.tape c.add.new.self (steps c.loop-added.added) c.loop-added.invariant.0.new c.in_err-add.ensures.err)
