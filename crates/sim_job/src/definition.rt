@@ -2,12 +2,14 @@
 //! it, so that the message for a wrong one is the program's own.
 //!
 //! Arguments and subcommands are rows of tables, from which one function makes a value of clap's:
-//! each function that owns such a value is dear to prove.
-ghost use Rattle.std.specs.Prelude.{◌≡◌, IfOk};
+//! each function that owns such a value is dear to prove. The subcommands are a table, and the
+//! arguments of each are another: to the prover all the texts of a table are one, in which it
+//! counts to the place of each, so that the cost of a table grows as the square of its length.
+ghost use Rattle.std.specs.Prelude.{◌≡◌, map, IfOk};
 ghost use Rattle.clap.specs.Words.{app_of};
 ghost use Rattle.sim_job.specs.CommandLine as line;
 ghost use Rattle.sim_job.specs.CommandLine.{IsArgument, IsCommand};
-ghost use Rattle.sim_job.specs.Described.{rule_by, shape_by, with_rows};
+ghost use Rattle.sim_job.specs.Described.{rule_by, rules_of, shape_by, with_rows};
 
 use clap::{Arg, ArgAction, Command};
 use std::alloc::{AllocError, Global};
@@ -31,14 +33,27 @@ struct Described {
     help: &'static str,
 }
 
-/// A subcommand.
+/// What a subcommand does.
+#[derive(Clone, Copy)]
+enum JobKind {
+    Play,
+    Search,
+    Sweep,
+    Script,
+    Shrink,
+    Log,
+    Page,
+    Walk,
+}
+
+/// A subcommand. `arguments_of` has the arguments of its kind.
 #[derive(Clone, Copy)]
 struct Subcommand {
+    kind: JobKind,
     name: &'static str,
     about: &'static str,
     /// What stands at the end of its help.
     example: &'static str,
-    args: &'static [Described],
 }
 
 const WORKERS: Described = Described {
@@ -84,9 +99,9 @@ const INPUT: Described = Described {
     help: "The file with the input; without it standard input",
 };
 
-const PLAY: [Described; 2] = [STRICT, INPUT];
+static PLAY: [Described; 2] = [STRICT, INPUT];
 
-const SEARCH: [Described; 7] = [
+static SEARCH: [Described; 7] = [
     WORKERS,
     PROGRESS,
     STRICT,
@@ -104,7 +119,7 @@ const SEARCH: [Described; 7] = [
     INPUT,
 ];
 
-const SWEEP: [Described; 13] = [
+static SWEEP: [Described; 13] = [
     WORKERS,
     PROGRESS,
     Described {
@@ -144,7 +159,7 @@ const SWEEP: [Described; 13] = [
     INPUT,
 ];
 
-const SCRIPT: [Described; 5] = [
+static SCRIPT: [Described; 5] = [
     FAULTS,
     QUIET,
     Described {
@@ -160,9 +175,9 @@ const SCRIPT: [Described; 5] = [
     INPUT,
 ];
 
-const SHRINK: [Described; 3] = [PROGRESS, COND, INPUT];
+static SHRINK: [Described; 3] = [PROGRESS, COND, INPUT];
 
-const LOG: [Described; 4] = [
+static LOG: [Described; 4] = [
     Described {
         id: "from",
         form: Form::Valued("P", &[]),
@@ -181,7 +196,7 @@ const LOG: [Described; 4] = [
     INPUT,
 ];
 
-const PAGE: [Described; 3] = [
+static PAGE: [Described; 3] = [
     Described {
         id: "title",
         form: Form::Valued("TEXT", &[]),
@@ -195,7 +210,7 @@ const PAGE: [Described; 3] = [
     INPUT,
 ];
 
-const WALK: [Described; 1] = [Described {
+static WALK: [Described; 1] = [Described {
     id: "file",
     form: Form::Word("FILE", true),
     help: "The file with the input",
@@ -204,55 +219,55 @@ const WALK: [Described; 1] = [Described {
 /// The subcommands, in the order of the help.
 static SUBCOMMANDS: [Subcommand; 8] = [
     Subcommand {
+        kind: JobKind::Play,
         name: "play",
         about: "Play the script, and write one line for each command",
         example: "Example: simback play examples/first-run.play",
-        args: &PLAY,
     },
     Subcommand {
+        kind: JobKind::Search,
         name: "search",
         about: "Play the script, and find the first place where a condition fails",
         example: "Example: simback search --workers 4 0 6 \"w.next <= 1\" examples/first-run.play",
-        args: &SEARCH,
     },
     Subcommand {
+        kind: JobKind::Sweep,
         name: "sweep",
         about: "Run the scenario with other seeds, and find the first that fails a condition",
         example: "\
 Example: simback sweep --progress 0 1000 500 \"a.first != 2\" examples/torn-commit.play
 Example: simback sweep --faults 8 0 1500 120 \"agree first unless 0\" examples/torn-commit.play",
-        args: &SWEEP,
     },
     Subcommand {
+        kind: JobKind::Script,
         name: "script",
         about: "Write the run of a seed, as a sweep makes it, as an input for a play",
         example: "Example: simback script --faults 8 654 120 examples/torn-commit.play",
-        args: &SCRIPT,
     },
     Subcommand {
+        kind: JobKind::Shrink,
         name: "shrink",
         about: "Make the run that the script leaves as small as a condition still fails in it",
         example: "Example: simback shrink \"agree first unless 0\" run.play",
-        args: &SHRINK,
     },
     Subcommand {
+        kind: JobKind::Log,
         name: "log",
         about: "Play the script, and tell in words what each event of its run did",
         example: "Example: simback log --from 8 examples/torn-commit.play",
-        args: &LOG,
     },
     Subcommand {
+        kind: JobKind::Page,
         name: "page",
         about: "Play the script, and write its run as an HTML page to walk back and forth",
         example: "\
 Example: simback page --watch \"agree first unless 0\" examples/torn-commit.play > run.html",
-        args: &PAGE,
     },
     Subcommand {
+        kind: JobKind::Walk,
         name: "walk",
         about: "Walk the run of a script forward and back, by commands on standard input",
         example: "Example: simback walk examples/torn-commit.play",
-        args: &WALK,
     },
 ];
 
@@ -269,16 +284,33 @@ fn argument_by<'a>(alloc: Global, described: &Described) -> Arg<'a>
     }
 }
 
+/// Returns the arguments of a subcommand, in the order of its help.
+fn arguments_of(kind: JobKind) -> &'static [Described]
+    ensures { map rule_by result.now ≡ rules_of kind }
+{
+    match kind {
+        JobKind::Play => &PLAY,
+        JobKind::Search => &SEARCH,
+        JobKind::Sweep => &SWEEP,
+        JobKind::Script => &SCRIPT,
+        JobKind::Shrink => &SHRINK,
+        JobKind::Log => &LOG,
+        JobKind::Page => &PAGE,
+        JobKind::Walk => &WALK,
+    }
+}
+
 /// Returns the subcommand with this description.
 fn subcommand_by<'a>(alloc: Global, described: &Subcommand) -> Result<Command<'a>, AllocError>
     ensures { IfOk result (IsCommand (shape_by described.now)) }
 {
     let Subcommand {
+        kind,
         name,
         about,
         example,
-        args,
     } = *described;
+    let args = arguments_of(kind);
     let mut made = Command::new(alloc, name).about(about).after_help(example);
     for arg in args {
         made = made.arg(argument_by(alloc, arg))?;

@@ -1,14 +1,14 @@
 //! The requests that a command line can make.
 
 /// The number of workers, 1 to 16, and whether they report their progress.
-#[derive(Clone, Copy, PartialEq, Eq)]
+#[derive(Clone, Copy)]
 pub struct Team {
     pub workers: u64,
     pub progress: bool,
 }
 
 /// How faults are planned for a run.
-#[derive(Clone, Copy, PartialEq, Eq)]
+#[derive(Clone, Copy)]
 pub struct FaultPlan {
     /// One event in this many is a fault or a healing; with `None`, no fault is planned.
     pub faults: Option<u64>,
@@ -17,7 +17,7 @@ pub struct FaultPlan {
 }
 
 /// What the program must do, and with which input.
-#[derive(Clone, Copy, PartialEq, Eq)]
+#[derive(Clone, Copy)]
 pub struct Request<'a> {
     pub job: Job<'a>,
     /// The name of the file with the input, or `None` for the standard input.
@@ -25,7 +25,7 @@ pub struct Request<'a> {
 }
 
 /// What the program must do.
-#[derive(Clone, Copy, PartialEq, Eq)]
+#[derive(Clone, Copy)]
 pub enum Job<'a> {
     /// Plays a script: with `strict` up to the first line at fault.
     Play {

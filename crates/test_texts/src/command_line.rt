@@ -9,45 +9,95 @@ use sim_job::{FaultPlan, Job, LineError, Request, Team, request};
 use std::alloc::{AllocError, Global};
 use std::process::Abort;
 
-// Returns whether the words make this request.
-fn requests(rt: &HostRuntime, words: &[&str], job: Job<'_>, file: Option<&str>) -> bool {
-    match request(rt.alloc(), words) {
-        Ok(asked) => asked == Request { job, file },
-        Err(_) => false,
-    }
+// Returns the request that the words make, or `None` if they make none.
+fn asked_by<'a>(rt: &HostRuntime, words: &'a [&str]) -> Option<Request<'a>> {
+    request(rt.alloc(), words).ok()
+}
+
+// Returns whether a play was asked for, with nothing said of it.
+fn is_plain_play(asked: &Option<Request<'_>>) -> bool {
+    matches!(
+        asked,
+        Some(Request {
+            job: Job::Play { strict: false },
+            file: None,
+        })
+    )
+}
+
+// Returns whether a search was asked for, with no option.
+fn is_plain_search(asked: &Option<Request<'_>>) -> bool {
+    matches!(
+        asked,
+        Some(Request {
+            job: Job::Search {
+                team: Team {
+                    workers: 2,
+                    progress: false,
+                },
+                strict: false,
+                lo: 0,
+                hi: 6,
+                cond: "w.next <= 1",
+            },
+            file: None,
+        })
+    )
+}
+
+// Returns whether a search was asked for, with each of its options.
+fn is_told_search(asked: &Option<Request<'_>>) -> bool {
+    matches!(
+        asked,
+        Some(Request {
+            job: Job::Search {
+                team: Team {
+                    workers: 3,
+                    progress: true,
+                },
+                strict: true,
+                lo: 1,
+                hi: 7,
+                cond: "up a",
+            },
+            file: None,
+        })
+    )
+}
+
+// Returns whether a sweep over a file was asked for, with two of its options.
+fn is_sweep(asked: &Option<Request<'_>>) -> bool {
+    matches!(
+        asked,
+        Some(Request {
+            job: Job::Sweep {
+                team: Team {
+                    workers: 16,
+                    progress: false,
+                },
+                plan: FaultPlan {
+                    faults: None,
+                    quiet: 0,
+                },
+                at_end: false,
+                script: false,
+                strict: false,
+                json: true,
+                first: 18446744073709551615,
+                count: 2,
+                events: 6,
+                cond: "up a",
+            },
+            file: Some("a.play"),
+        })
+    )
 }
 
 #[test]
 fn jobs(rt: HostRuntime) {
-    assert!(rt; requests(&rt, &["simback", "play"], Job::Play { strict: false }, None));
-    let plain = Job::Search {
-        team: Team {
-            workers: 2,
-            progress: false,
-        },
-        strict: false,
-        lo: 0,
-        hi: 6,
-        cond: "w.next <= 1",
-    };
-    assert!(rt;
-        requests(
-            &rt,
-            &["simback", "search", "0", "6", "w.next <= 1"],
-            plain,
-            None
-        )
-    );
-    let told = Job::Search {
-        team: Team {
-            workers: 3,
-            progress: true,
-        },
-        strict: true,
-        lo: 1,
-        hi: 7,
-        cond: "up a",
-    };
+    assert!(rt; is_plain_play(&asked_by(&rt, &["simback", "play"])));
+    let words = ["simback", "search", "0", "6", "w.next <= 1"];
+    assert!(rt; is_plain_search(&asked_by(&rt, &words)));
     let words = [
         "simback",
         "search",
@@ -58,25 +108,7 @@ fn jobs(rt: HostRuntime) {
         "7",
         "up a",
     ];
-    assert!(rt; requests(&rt, &words, told, None));
-    let sweep = Job::Sweep {
-        team: Team {
-            workers: 16,
-            progress: false,
-        },
-        plan: FaultPlan {
-            faults: None,
-            quiet: 0,
-        },
-        at_end: false,
-        script: false,
-        strict: false,
-        json: true,
-        first: 18446744073709551615,
-        count: 2,
-        events: 6,
-        cond: "up a",
-    };
+    assert!(rt; is_told_search(&asked_by(&rt, &words)));
     let words = [
         "simback",
         "sweep",
@@ -89,7 +121,7 @@ fn jobs(rt: HostRuntime) {
         "--json",
         "a.play",
     ];
-    assert!(rt; requests(&rt, &words, sweep, Some("a.play")));
+    assert!(rt; is_sweep(&asked_by(&rt, &words)));
 }
 
 /// A row a line: what the words give, the words with `; ` between them or `-` for none, and a text.

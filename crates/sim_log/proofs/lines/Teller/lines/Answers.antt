@@ -1,6 +1,7 @@
 use Rattle.std.proofs.Common.{◌≡◌, ◌∙◌, ◌+◌, ◌-◌, ◌<◌, ◌≤◌, ℕ, List, length, Option, None, refl, sym, ap, subst, arith}
 use Rattle.std.specs.List.{slice_get}
 use Rattle.sim_events.specs.declared.Event.{Event}
+use Rattle.sim_tape.specs.Tape.{Tape}
 use Rattle.sim_world.specs.Events.{rules}
 use Rattle.sim_log.specs.Lines.{AreLines}
 use Rattle.sim_log.proofs.Telling.{is_there, no_lines, one_more, own_reach}
@@ -23,6 +24,20 @@ unreachable-requires g c =
     let within : c.loop-place.place - 1 < length run.events = omega arith in
     let none = subst (λ (es : List Event). slice_get es i ≡ None) c.events.ensures (sym c.get.ensures ∙ c.in_default.is) in
     is_there run.events i within none
+
+pub add_line-requires-clause-warm : goal.add_line-requires-clause-warm
+add_line-requires-clause-warm g c = ap (λ (t : Tape). t.warm) c.loop-place.invariant.tape
+
+pub add_line-requires-clause-next : goal.add_line-requires-clause-next
+add_line-requires-clause-next g c =
+    let within : c.loop-place.place - 1 < length c.args.run.now.events = omega arith in
+    subst (λ (t : Tape). t.place < length t.events) (sym c.loop-place.invariant.tape) within
+
+pub add_line-requires-clause-place : goal.add_line-requires-clause-place
+add_line-requires-clause-place g c =
+    let least : 1 ≤ c.loop-place.place = omega arith in
+    let there = ap (λ (t : Tape). t.place) c.loop-place.invariant.tape in
+    omega (arith, there, least)
 
 pub loop-place-preserved : goal.loop-place-preserved
 loop-place-preserved g c =
