@@ -5,10 +5,10 @@
     ./build.py simback example_play    these programs
     ./build.py --cpu x86-64-v3         crates/simback, for processors with AVX2 and BMI2
 
-The programs are then crates/NAME/out/NAME. What is proved is kept in the folders out/, so a later
-run proves only what has changed. At a crate that is not proved, this prints what its check said and
-ends with its status. Each crate has a line at its end with its seconds on the clock, and the last
-line has the time of the whole run.
+The programs are then crates/NAME/out/NAME. The libraries that are proved are kept in the folders
+out/, so a later run proves only those that have changed and the crates above them. At a crate that
+is not proved, this prints what its check said and ends with its status. Each crate has a line at
+its end with its seconds on the clock, and the last line has the time of the whole run.
 
 The option --cpu changes what a program is compiled for, not what is proved. A program for x86-64-v3
 takes 3 to 8 percent fewer instructions, and ends at once by an illegal instruction on a processor
@@ -16,8 +16,13 @@ that is older. Without the option a program is for x86-64-v2, which processors h
 
 Libraries that do not stand on each other are proved side by side, first those with the longest
 chain of others above them. rt works on one crate of a checkout at a time, so each lane has a copy
-of the crates in a folder of temporary files. A lane is lent what this checkout keeps, and brings
-back what it proved as soon as a crate ends.
+of the crates in a folder of temporary files. A lane is lent the libraries that this checkout keeps,
+and brings back each that it proved.
+
+As in the gate, a crate is proved over the statements of the libraries below it. Over whole proofs,
+as `rt lib` and `rt check` build them, it takes up to a quarter longer. A library over statements
+fits only those that it was proved over. If you change a library, check a crate above it, and take
+the change back, rt says that some built library is unusable: run this again, and all fit.
 """
 
 import argparse
@@ -43,8 +48,8 @@ FLAGS_OF = {"x86-64-v2": (), "x86-64-v3": ("avx2", "bmi1", "bmi2", "f16c", "fma"
 # The memory that the check of an upper crate takes, in bytes.
 MEMORY_OF_A_CHECK = 4 << 30
 
-# What rt keeps of a crate in its folder out/: the proofs of its functions, and the built library.
-PARTS_KEPT = ("incremental", "rlib")
+# The file of a built library that tells what it was made from. A library that rt built has none.
+PROVED = "proved_by_build"
 
 
 def cited_crates():
@@ -91,18 +96,39 @@ def link_or_copy(source, target):
 
 
 def stamp_in(rlib):
-    """Returns the sum of all that a built library was made from, as rt wrote it, or None."""
-    stamp = rlib / "stamp"
+    """Returns the sum of all that a library was made from, or None if this did not build it."""
+    stamp = rlib / PROVED
     return stamp.read_text() if stamp.is_file() else None
 
 
-def hand_over(giver, taker, crate, part):
-    """Has one copy of the crates take over what another keeps of a crate, if it has that."""
-    source, target = (it / "crates" / crate / "out" / part for it in (giver, taker))
-    if not source.is_dir() or part == "rlib" and stamp_in(source) == stamp_in(target):
+def prove_library(jobs):
+    """Proves and builds the library of the current folder. Returns the exit status.
+
+    `rt lib` cannot build a library that has its statements alone. So this uses the module that rt
+    is made of, and leaves the stamp by which rt takes the library for its own.
+    """
+    sys.path.insert(0, os.path.dirname(os.path.realpath(shutil.which("rt"))))
+    import rtlib
+    rtlib.guarded()
+    rtlib.Crate.cuts_libraries = True
+    crate = rtlib.Crate(os.getcwd(), rtlib.root_above(os.getcwd()), {})
+    rlib, stamp = pathlib.Path("out", "rlib"), crate.stamp()
+    if stamp_in(rlib) == stamp:
+        return 0
+    status = crate.build_rlib(["--jobs", str(jobs)], anew=True)
+    if status == 0:
+        for name in ("stamp", PROVED):
+            (rlib / name).write_text(stamp)
+    return status
+
+
+def hand_over(giver, taker, crate):
+    """Has one copy of the crates take over the library that another built, if it has that."""
+    source, target = (it / "crates" / crate / "out" / "rlib" for it in (giver, taker))
+    if stamp_in(source) in (None, stamp_in(target)):
         return
     # A copy that is cut off has another name, so nobody takes it for a whole one.
-    whole = target.with_name(f"{part}.new")
+    whole = target.with_name("rlib.new")
     for old in (whole, target):
         shutil.rmtree(old, ignore_errors=True)
     shutil.copytree(source, whole, copy_function=link_or_copy)
@@ -129,15 +155,13 @@ class Lanes:
         with self.lock:
             lane = self.free.pop()
         start = time.monotonic()
-        for name in below:
-            hand_over(ROOT, lane, name, "rlib")
-        for part in PARTS_KEPT:
-            hand_over(ROOT, lane, crate, part)
-        words = ["nice", "-n", "0" if jobs > 1 else "5", "rt", "lib", "--jobs", str(jobs)]
+        for name in [*below, crate]:
+            hand_over(ROOT, lane, name)
+        words = ["nice", "-n", "0" if jobs > 1 else "5",
+                 sys.executable, ROOT / "build.py", "--library", str(jobs)]
         ended = subprocess.run(words, cwd=lane / "crates" / crate, stdin=subprocess.DEVNULL,
                                stdout=subprocess.PIPE, stderr=subprocess.STDOUT, text=True)
-        for part in PARTS_KEPT:
-            hand_over(lane, ROOT, crate, part)
+        hand_over(lane, ROOT, crate)
         with self.lock:
             self.free.append(lane)
         return ended.returncode, ended.stdout, time.monotonic() - start
@@ -224,11 +248,15 @@ def request():
                         help="a program of crates/, by default simback")
     parser.add_argument("--cpu", choices=list(FLAGS_OF), default="x86-64-v2",
                         help="what the programs are compiled for, by default x86-64-v2")
+    # How this calls itself in a lane, with the number of jobs.
+    parser.add_argument("--library", type=int, metavar="JOBS", help=argparse.SUPPRESS)
     return parser.parse_args()
 
 
 def main():
     start, asked, cited = time.monotonic(), request(), cited_crates()
+    if asked.library:
+        sys.exit(prove_library(asked.library))
     if lacks := lacking(asked.cpu):
         print(f"build.py: this processor has no {', '.join(lacks)}, which {asked.cpu} needs",
               file=sys.stderr)
