@@ -20,9 +20,10 @@ of the crates in a folder of temporary files. A lane is lent the libraries that 
 and brings back each that it proved.
 
 As in the gate, a crate is proved over the statements of the libraries below it. Over whole proofs,
-as `rt lib` and `rt check` build them, a crate above the core takes 12 to 29 percent longer. A
-library over statements fits only those that it was proved over. If you change a library, check a crate above it, and take
-the change back, rt says that some built library is unusable: run this again, and all fit.
+as `rt lib` and `rt check` build them, a crate above the core takes longer, by 13 and 29 percent in
+the two that were compared. A library over statements fits only those that it was proved over. If
+you change a library, check a crate above it, and take the change back, rt says that some built
+library is unusable: run this again, and all fit.
 """
 
 import argparse
