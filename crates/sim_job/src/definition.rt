@@ -4,7 +4,7 @@
 //! Arguments and subcommands are rows of tables, from which one function makes a value of clap's:
 //! each function that owns such a value is dear to prove. The subcommands are a table, and the
 //! arguments of each are another: to the prover all the texts of a table are one, in which it
-//! counts to the place of each, so that the cost of a table grows as the square of its length.
+//! counts to the place of each, so one table for all is dear.
 ghost use Rattle.std.specs.Prelude.{◌≡◌, map, IfOk};
 ghost use Rattle.clap.specs.Words.{app_of};
 ghost use Rattle.sim_job.specs.CommandLine as line;
@@ -33,7 +33,7 @@ struct Described {
     help: &'static str,
 }
 
-/// What a subcommand does.
+/// The kind of a subcommand's job.
 #[derive(Clone, Copy)]
 enum JobKind {
     Play,

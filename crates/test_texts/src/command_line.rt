@@ -46,7 +46,7 @@ fn is_plain_search(asked: &Option<Request<'_>>) -> bool {
 }
 
 // Returns whether a search was asked for, with each of its options.
-fn is_told_search(asked: &Option<Request<'_>>) -> bool {
+fn is_full_search(asked: &Option<Request<'_>>) -> bool {
     matches!(
         asked,
         Some(Request {
@@ -108,7 +108,7 @@ fn jobs(rt: HostRuntime) {
         "7",
         "up a",
     ];
-    assert!(rt; is_told_search(&asked_by(&rt, &words)));
+    assert!(rt; is_full_search(&asked_by(&rt, &words)));
     let words = [
         "simback",
         "sweep",
