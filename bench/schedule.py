@@ -2,12 +2,14 @@
 """Says how long the gate takes on the clock, by a model of how `rt ci` spreads its work.
 
     bench/schedule.py [PROCESSORS [GIB]]     by default 4 processors and 22 GiB of free memory
+    bench/schedule.py 4 22 simback           ./build.py: this program and the libraries below it
 
 It takes the seconds of bench/seconds.txt, and the dependencies of crates.txt. The rules are those
 of the toolchain: a check begins when all that it stands on is proved, first those with the most
 lines above them; it reserves memory by its lines and by the lines and the kit's crates below it,
 at most 85 percent of what is free; wrong bodies are tried where a processor is free, and none is
-begun while a proof waits for memory. The model gives each check one processor.
+begun while a proof waits for memory. The model gives each check one processor; `rt ci` gives a
+proof more of them if nothing else can begin.
 
 It prints the checks of two minutes and more, each with its begin and end in minutes, and last the
 time on the clock, the processor minutes and the longest chain.
@@ -83,19 +85,24 @@ def add_edits(tasks, name, crates, memory, seconds):
         tasks[f"{name} edit {number}"] = Task(both, crates.lines[name], memory, edit, True)
 
 
-def tasks_of(crates):
-    """Returns the checks of the gate, each after those that it waits for."""
+def tasks_of(crates, program=None):
+    """Returns the checks of the gate, each after those that it waits for.
+
+    With a program, only the proofs that its build takes.
+    """
     tasks, seconds = {}, {}
     for head, _ in words_of("bench/seconds.txt", "#"):
         seconds[head[0]] = [0 if it == "-" else int(it) for it in head[1:]]
-    lowest_first = dict.fromkeys(it for name in crates.cited for it in [*crates.below(name), name])
+    tops = [program] if program else crates.cited
+    lowest_first = dict.fromkeys(it for name in tops for it in [*crates.below(name), name])
     for name in lowest_first:
         proof, tests, edit = seconds[name]
         below = [f"{it} proof" for it in crates.below(name)]
         lines, memory = crates.lines[name], crates.memory(name)
         tasks[f"{name} proof"] = Task(below, lines, memory, proof)
         tasks[f"{name} tests"] = Task(below, lines if tests else 0, memory, tests)
-        add_edits(tasks, name, crates, memory, (proof, edit))
+        if not program:
+            add_edits(tasks, name, crates, memory, (proof, edit))
     for name in reversed(tasks):
         for other in tasks[name].waits:
             tasks[other].behind = max(tasks[other].behind,
@@ -131,9 +138,9 @@ def chain_of(tasks):
 
 
 def main():
-    numbers = [int(word) for word in sys.argv[1:]]
-    processors, gib = (numbers + [4, 22][len(numbers):])[:2]
-    tasks = tasks_of(Crates())
+    numbers = [int(word) for word in sys.argv[1:3]]
+    processors, gib = numbers + [4, 22][len(numbers):]
+    tasks = tasks_of(Crates(), *sys.argv[3:4])
     left = sorted(tasks, key=lambda it: (tasks[it].fills, -tasks[it].behind))
     running, ended, now = {}, set(), 0
     while left or running:
