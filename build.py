@@ -43,7 +43,7 @@ OF_A_CRATE = re.compile(r"== \w+")
 
 
 def rows_of_crates():
-    """Returns the line of each crate in crates.txt, lowest first, and the crates that it cites."""
+    """Returns the line of each crate in crates.txt, and the crates that it cites."""
     rows, cited = {}, {}
     for line in (ROOT / "crates.txt").read_text().splitlines():
         head, colon, names = line.partition("#")[0].partition(":")
@@ -154,7 +154,8 @@ def main():
     start, asked = time.monotonic(), request()
     rows, cited = rows_of_crates()
     if why := refusal_of(asked, rows):
-        sys.exit(f"build.py: {why}")
+        print(f"build.py: {why}", file=sys.stderr)
+        sys.exit(2)
     # The gate builds programs for any processor; rt run builds one for those that are named.
     apart = asked.programs if FLAGS_OF[asked.cpu] else []
     crates = dict.fromkeys(it for program in asked.programs
