@@ -3,8 +3,8 @@
 //!
 //! [`least`] is the one call. It takes a type that implements [`Pieces`] (how many pieces there
 //! are, and by contract the finding of each), a [`Gate`] that hears about each piece before and
-//! after it, and a meter for each worker. Each worker runs in a thread of its own; the last one is
-//! the calling thread.
+//! after it, and a meter for each worker. Each worker runs in a thread of its own, if one can be
+//! made; the last one is the calling thread.
 //!
 //! The contract: the result is the first finding of a plain walk over the pieces in order, or
 //! `None`, for every number of workers and every order in which their threads run. If a scan wants

@@ -215,9 +215,9 @@ fn share<M: Drop + Send, S: Pieces<M> + Sync, G: Gate + Sync, R: Threads + Wait 
 /// Returns the least piece with a finding, and that finding. Uses as many workers as there are
 /// meters.
 ///
-/// One worker scans each piece, and the gate hears about each. The result is the same for every
-/// number of workers and every order of their threads. If any scan fails for want of memory, so
-/// does the search.
+/// No piece is scanned twice, and a worker scans none past its best one. The gate hears about each
+/// piece, unless a scan fails. The result is the same for every number of workers and every order
+/// of their threads. If any scan fails for want of memory, so does the search.
 pub fn least<M: Drop + Send, S: Pieces<M> + Sync, G: Gate + Sync, R: Threads + Wait + Sync>(
     rt: &R,
     alloc: Global,

@@ -11,7 +11,7 @@ pub struct Opened {
     pub protocol: usize,
     pub scenario: Scenario,
     pub names: Names,
-    /// The scenario's seed, which a `Scenario` does not show.
+    /// The scenario's seed.
     pub seed: [u8; 32],
     /// The text of the scenario, at most 65,536 bytes.
     pub text: Vec<u8>,

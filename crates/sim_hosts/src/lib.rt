@@ -9,8 +9,8 @@
 //! - `byte_at`, `number_at` and `put_number`: numbers on a disk, low byte first. Bytes that the
 //!   disk does not have are 0, so that a server can boot from an empty disk.
 //!
-//! Each function has a definition of the same name in `specs/`, from which the protocols' own
-//! tables are built.
+//! Each function's result is a definition of `specs/`, mostly of the same name, from which the
+//! protocols' own tables are built.
 #![tactic(auto)]
 
 mod boxed;

@@ -16,8 +16,9 @@
 //!
 //! What a reader gave, what waits in `Ahead` and what the caller received are the same bytes in the
 //! same order, and so are what the caller handed to an `Outlet`, what waits in it and what the
-//! writer received. This holds after a failed read or write too. No contract says that an error is
-//! reported only when the reader or writer caused it; tests cover that.
+//! writer received. This holds after a failed read too; after a failed write what waits is lost. No
+//! contract says that an error is reported only when the reader or writer caused it; tests cover
+//! that.
 #![tactic(auto)]
 
 mod head;

@@ -2,7 +2,8 @@
 ghost use Rattle.std.specs.Prelude.{◌≡◌, ℕ, ◌+◌, List, [], ◌∷◌, ◌++◌, Option, length, IfOk, IfErr};
 ghost use Rattle.sim_lock.specs.Entries.{of_session};
 
-/// A value with a scenario that never changes, and a history to which each turn adds one entry.
+/// A value with a scenario that never changes, and a history to which each turn that is taken adds
+/// one entry.
 pub trait Kept {
     /// The part that never changes.
     type Scenario;
@@ -36,7 +37,8 @@ pub trait Kept {
     fn number(entry: &Self::Entry) -> u32
         ensures { result ≡ number_of entry.now };
 
-    /// Carries out a session's command and returns its entry.
+    /// Carries out a session's command and returns its entry. After an error the history is as
+    /// before.
     fn turn(&mut self, session: u8, command: Self::Command) -> Result<Self::Entry, Self::NotTaken>
         ensures scenario { scenario self.new ≡ scenario self.old }
         ensures asked { IfOk result (λ e. (session_of e ≡ session) × (command_of e ≡ command)) }

@@ -2,8 +2,8 @@
 //! history at the end holds each session's calls, each once and in order.
 //!
 //! - [`Kept`] is the trait of the value: a scenario that never changes, a list of entries, and
-//!   `turn`, which carries out one command and adds one entry. [`Freezes`] adds a call that also
-//!   returns a frozen copy.
+//!   `turn`, which carries out one command and, if it is taken, adds one entry. [`Freezes`] adds a
+//!   call that also returns a frozen copy.
 //! - [`Lock::new`] takes the value and makes a [`Seat`] for each session.
 //! - [`Lock::call`] takes a turn for a seat. The returned entry is the session's receipt.
 //! - [`Lock::close`] takes all seats back and returns the value. [`History::entry`] finds the entry

@@ -63,7 +63,8 @@ impl<B: Kept> Lock<B> {
         self.table.shared.store::<Give>(raw, 0, 0);
     }
 
-    /// Carries out a command in this seat's session, and returns its entry as a receipt.
+    /// Carries out a command in this seat's session, and returns its entry as a receipt. After an
+    /// error the session's entries are as before.
     pub fn call<R: Wait>(
         &self,
         rt: &R,

@@ -20,8 +20,8 @@
 //!   own generator, which computes each word once and in order.
 //! - A plan without faults draws no word, which saves the time. Its definition names the same
 //!   words, but each of them plans a step.
-//! - A scenario does not show its seed. So a planner receives the seed as well, and its contract
-//!   requires that it is the scenario's.
+//! - A planner receives the seed beside the scenario, and its contract requires that it is the
+//!   scenario's.
 //! - The events given before the plan pass through the planner too, so its caller has one loop.
 #![tactic(auto)]
 

@@ -1,6 +1,6 @@
 -- Primary-backup: clients put values into cells at the primary, which is server 0. It answers when
--- all backups have them. A server reports what it has applied only after its disk reports that it
--- is stable.
+-- all backups have them. A server answers for what it has applied only after its disk reports that
+-- it is stable; a primary that starts spreads its last put at once.
 use Rattle.std.specs.Prelude.{ℕ, ◌+◌, ◌*◌, ◌%◌, ◌==◌, nat_lt, nat_le, Bool, true, not, ◌&&◌, List}
 use Rattle.std.specs.Prelude.{[], ◌∷◌, ◌++◌, map, replicate, slice_index, slice_set, Option, None}
 use Rattle.std.specs.Prelude.{Some, if◌then◌else◌}

@@ -4,8 +4,8 @@ ghost use Rattle.sim_scan.specs.Search.{pieces, piece};
 
 use crate::places::Piece;
 
-/// Returns the number of pieces of the places from `lo` to `hi`, each of which reaches to the place
-/// before a multiple of `k`.
+/// Returns the number of pieces of the places from `lo` to `hi`. Each but the last reaches to the
+/// place before a multiple of `k`.
 pub fn pieces(lo: u32, hi: u32, k: u32) -> u64
     requires least { 1 ≤ k }
     requires most { k ≤ 1024 }

@@ -132,7 +132,8 @@ pub fn scan_after<N: Node>(
     Ok(Finding { piece, place })
 }
 
-/// Returns the least place of a run of at most `events` steps at which a checked condition fails.
+/// Returns the least place of a run of at most `events` steps, up to 65,536, at which a checked
+/// condition fails.
 /// The run begins at the start of the scenario and goes on until nothing is pending. Boots each
 /// host once, and counts no turn past the place found. Fails only for want of memory.
 pub fn scan_seed<N: Node>(

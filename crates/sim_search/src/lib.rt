@@ -2,12 +2,13 @@
 //!
 //! - [`search`] looks through a frozen run, from place `lo` to place `hi`, and returns the first
 //!   place at which a condition fails, or `None`.
-//! - [`sweep`] runs a scenario under `count` numbered seeds, each for at most `events` steps. It
-//!   returns the least number with a failing place and the first such place of that run, or `None`.
+//! - [`sweep`] runs a scenario under as many of `count` numbered seeds as it takes, each for at most
+//!   `events` steps. It returns the least number with a failing place and the first such place of
+//!   that run, or `None`.
 //!
-//! Both use as many workers as the caller gives meters, 1 to 16, each in a thread of its own; the
-//! last is the calling thread. A [`Gate`] hears about each piece of work before and after it; the
-//! program shows its progress with one, and [`OpenGate`] does nothing.
+//! Both use as many workers as the caller gives meters, 1 to 16, each in a thread of its own, if
+//! one can be made; the last is the calling thread. A [`Gate`] hears about each piece of work
+//! before and after it; the program shows its progress with one, and [`OpenGate`] does nothing.
 //!
 //! The contract gives the same answer for every number of workers and every order in which their
 //! threads run: it is the answer of a plain walk over the places or seeds in order. A bad range is

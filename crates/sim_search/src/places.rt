@@ -89,10 +89,11 @@ fn is_bad(lo: u64, hi: u64, end: u32) -> bool
 /// Returns the first place of a frozen run, from `lo` to `hi`, at which a condition fails, or
 /// `None`. Uses as many workers as there are meters.
 ///
-/// One worker scans each piece between two checkpoints, and the gate hears about each. Fails with
+/// No piece between two checkpoints is scanned twice, and a worker scans none past its finding. The
+/// gate hears about each, unless memory is wanted. There are 1 to 16 meters. Fails with
 /// `BadRange` if `lo` is above `hi` or `hi` past the kept end, else with `BadCondition` if the
-/// condition can't be asked of this run. The contract also says that the run's events can happen in
-/// order, so `None` covers no place without a world.
+/// condition can't be asked of this run, else only for want of memory. The contract also says that
+/// the run's events can happen in order, so `None` covers no place without a world.
 pub fn search<N: Node + Send + Sync, G: Gate + Sync, R: Threads + Wait + Sync>(
     rt: &R,
     alloc: Global,

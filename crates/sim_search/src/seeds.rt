@@ -60,9 +60,11 @@ fn is_bad(first: u64, count: u64, events: u64) -> bool
 /// the first such place of its run, or `None`. Uses as many workers as there are meters. Each run
 /// has as many steps as can happen, but at most `events`.
 ///
-/// One worker runs each seed, and the gate hears about each by its number from 0. Fails with
+/// No seed is run twice, and a worker runs none past its finding. The gate hears about each by its
+/// number from 0, unless memory is wanted. There are 1 to 16 meters. Fails with
 /// `BadRange` if there is no seed, more than 2^32, more than 65,536 events or a seed number past
-/// 2^64 - 1, else with `BadCondition` if the condition can't be asked of this run.
+/// 2^64 - 1, else with `BadCondition` if the condition can't be asked of this run, else only for
+/// want of memory.
 pub fn sweep<N: Node + Send + Sync, G: Gate + Sync, R: Threads + Wait + Sync>(
     rt: &R,
     alloc: Global,

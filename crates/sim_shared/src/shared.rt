@@ -49,7 +49,8 @@ impl<N: Node> Model for Shared<N> {
 }
 
 impl<N: Node> Shared<N> {
-    /// Shares a book with an empty history, and makes a seat for each session, from session 0 on.
+    /// Shares a book with an empty history, and makes a seat for each of 1 to 8 sessions, from
+    /// session 0 on. Fails only for want of memory; nothing is left then.
     pub fn new(
         alloc: Global,
         book: Book<N>,
@@ -67,7 +68,9 @@ impl<N: Node> Shared<N> {
         Ok((Shared { lock }, seats))
     }
 
-    /// Carries out a command in this seat's session, and returns the receipt.
+    /// Carries out a command in this seat's session, and returns the receipt. After an error the
+    /// session's entries are as before; it is `HistoryFull` exactly if the history has 65,536
+    /// entries.
     pub fn call<R: Wait>(
         &self,
         rt: &R,
@@ -91,7 +94,7 @@ impl<N: Node> Shared<N> {
     }
 
     /// Freezes a branch in this seat's session. Returns the receipt, and the frozen run exactly if
-    /// the reply is the list of its events.
+    /// the reply is the list of its events. Errors are those of `call`.
     pub fn freeze<R: Wait>(
         &self,
         rt: &R,

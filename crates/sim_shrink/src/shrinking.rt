@@ -47,7 +47,7 @@ fn smallest<N: Node, L: Listener>(
 /// Returns `None` if the condition fails nowhere along the run of the events.
 ///
 /// Fails with `BadRange` if there are more than 65,536 events, else with `BadCondition` if the
-/// condition can't be asked of this run.
+/// condition can't be asked of this run, else only for want of memory.
 pub fn shrink<N: Node, L: Listener>(
     alloc: Global,
     scenario: &Scenario,

@@ -1,8 +1,8 @@
 //! Finds the first of many seeds whose planned run fails, with several workers.
 //!
-//! - [`sweep_planned`] runs a scenario under `count` numbered seeds, each with its planned events,
-//!   which are steps and, if the plan has a spacing, faults. It returns the least number with a
-//!   failing place and the first such place of that run.
+//! - [`sweep_planned`] runs a scenario under as many of `count` numbered seeds as it takes, each
+//!   with its planned events, which are steps and, if the plan has a spacing, faults. It returns the
+//!   least number with a failing place and the first such place of that run.
 //! - [`scan_planned`] does it for one run.
 //!
 //! A place is a number of events that happened: an event of the plan that cannot happen is left out
@@ -16,8 +16,8 @@
 //!
 //! - Each run is walked once, forward. Its steps keep no record, its faults share one record, and
 //!   the planner gives the events without a list. So no event of a sweep copies a node.
-//! - A step changes one host alone, so the condition is tested only after a step of a concerned
-//!   host, and after each fault.
+//! - A step changes one host alone, so after the first place the condition is tested only after a
+//!   step of a concerned host, and after an advance or a fault.
 #![tactic(auto)]
 
 mod seeds;

@@ -24,7 +24,7 @@ use std::thread::Threads;
 #[derive(Drop)]
 pub struct Course<'a> {
     pub scenario: &'a Scenario,
-    /// The scenario's own seed, since a scenario does not show it.
+    /// The scenario's own seed.
     pub seed: [u8; 32],
     /// The given events. Those that cannot happen are left out.
     pub given: &'a [Event],
@@ -118,9 +118,11 @@ fn is_refused(first: u64, count: u64, plan: Plan, given: usize) -> bool
 /// events and then the planned ones, without those that cannot happen. With the plan's `at_end`
 /// only the last place of each run is tested.
 ///
-/// One worker runs each seed, and calls the gate with the seed's number from 0. Fails with
-/// `BadRange` if there is no seed, more than 2^32, a seed number past 2^64 - 1 or a plan outside
-/// the limits, and with `BadCondition` if the condition cannot be used on this run.
+/// No seed is run twice, and a worker runs none past its finding. The gate hears about each by its
+/// number from 0, unless memory is wanted. The seed of the course is that of its scenario, and
+/// there are 1 to 16 meters. Fails with `BadRange` if there is no seed, more than 2^32, a seed
+/// number past 2^64 - 1 or a plan outside the limits, with `BadCondition` if the condition cannot
+/// be used on this run, and else only for want of memory.
 pub fn sweep_planned<N: Node + Send + Sync, G: Gate + Sync, R: Threads + Wait + Sync>(
     rt: &R,
     alloc: Global,

@@ -14,7 +14,7 @@
 //! Code of a program that runs nodes of any type makes their meters by the trait [`FreshMeter`],
 //! and does not name [`Tally`].
 //!
-//! It is a crate of its own because the program, the tests and the measurements need a meter. The
+//! It is a crate of its own because the program, the tests and the examples need a meter. The
 //! core crates do not depend on it. They are generic over the meter and cannot make one, so they
 //! cannot run a node unseen.
 #![tactic(auto)]

@@ -1,6 +1,6 @@
 -- Two-phase commit with presumed abort: server 0 is the coordinator, the other servers are the
--- participants. A server answers for what it writes only after its disk reports that the write is
--- stable.
+-- participants. A server votes for a transaction or reports a commit only after its disk reports
+-- that the write of it is stable. It reports an abort at once.
 use Rattle.std.specs.Prelude.{ℕ, ◌%◌, ◌==◌, nat_lt, nat_le, Bool, true, false, not, ◌&&◌, ◌||◌}
 use Rattle.std.specs.Prelude.{List, [], ◌∷◌, ◌++◌, replicate, slice_index, slice_set, Option, None}
 use Rattle.std.specs.Prelude.{Some, if◌then◌else◌}
@@ -334,7 +334,7 @@ learns u commit p =
     } in
     (new, forced_by_participant new)
 
--- a commit that it has seen and that is stable
+-- its own commit, once that is stable, and each transaction before its own
 abbrev pub has_seen : ℕ → Participant → Bool
 has_seen u p =
     is_settled p.unsure && (nat_lt u p.transaction || ((u == p.transaction)

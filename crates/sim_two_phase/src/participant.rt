@@ -173,7 +173,7 @@ impl Participant {
         self.force(u, status, noted(u, outcome, self.first), effects);
     }
 
-    /// Returns whether the participant has seen the commit of this transaction and that is stable.
+    /// Returns whether the participant has a stable commit of this transaction, or is past it.
     fn has_seen(&self, u: u64) -> bool
         ensures { result ≡ has_seen u self.now }
     {

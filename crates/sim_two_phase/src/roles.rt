@@ -16,7 +16,7 @@ pub enum CommitMsg {
     Vote(bool, u64),
     /// This transaction is committed, or aborted.
     Decide(bool, u64),
-    /// A participant has seen that this transaction is committed.
+    /// A participant has a stable commit of this transaction, or is past it.
     Seen(u64),
     /// A participant asks for the outcome of this transaction.
     Inquire(u64),
