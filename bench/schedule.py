@@ -88,7 +88,7 @@ def add_edits(tasks, name, crates, memory, seconds):
 def tasks_of(crates, program=None):
     """Returns the checks of the gate, each after those that it waits for.
 
-    With a program, only the proofs that its build takes.
+    With a program, only its crates, without second proofs and wrong bodies.
     """
     tasks, seconds = {}, {}
     for head, _ in words_of("bench/seconds.txt", "#"):

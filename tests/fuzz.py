@@ -15,11 +15,13 @@ rather than fast: each event makes a new world, and each hunt is a plain walk.
 
 The kinds of cases, for `--only` (a list with commas; other cases are left out):
 
-- play, strict: plays of random scripts over all protocols and both formats;
+- play, strict: plays of random scripts over all protocols and both formats; one strict case in
+  three is a search with `--strict`;
 - scenario: texts of scenarios, most of them with a fault;
 - limits: plays that meet a limit (events, commands, branches, watches, messages, a long tick);
 - search, sweep: searches and sweeps with no option but `--workers`;
-- planned: sweeps with `--faults`, `--quiet`, `--script`, `--strict`, `--at-end` and `--json`;
+- planned: sweeps with `--faults`, `--quiet`, `--script`, `--strict`, `--at-end`, `--json`,
+  `--progress` and `--workers`;
 - log: logs in words;
 - script: the runs of numbered seeds;
 - shrink: shrunk runs. They have more than one right output, so the run that is left is checked: it

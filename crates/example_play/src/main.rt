@@ -18,7 +18,7 @@
 //!   cluster has servers of one variant only. The same scenario runs with and without a mistake:
 //!   change the protocol's name and nothing else.
 //! - The ghost items of a subject say the same as the functions below them, for contracts. With
-//!   them the contract of `run` names these protocols and their probes.
+//!   them the contract of `perform`, which `run` calls, names these protocols and their probes.
 //! - The nodes have crates of their own, `example_counter` and `example_raft`, so that libraries
 //!   and tests can use them without the program.
 //! - One program plays all examples, since the gate pays for each program by the libraries below

@@ -189,7 +189,7 @@ voted_by _ here from agrees term s =
 
 -- Commitment.
 
--- how many hosts have acknowledged n entries in this term
+-- how many servers have acknowledged n entries in this term
 abbrev pub holders : ℕ → Setup → Server → ℕ
 holders n setup s =
     count_by (λ p. (p.term == s.standing.term) && nat_le n p.has) (take setup.servers s.peers)

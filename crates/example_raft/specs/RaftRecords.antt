@@ -1,4 +1,4 @@
--- The records of Raft: a role before a reaction.
+-- The records of Raft: a client before a reaction, or a server's standing and what changed.
 use Rattle.std.specs.Prelude.{ℕ, ◌<◌, ◌≤◌, List, slice_set, IfSome}
 use Rattle.sim_node.specs.Node.{IsSetup, NodeRecords}
 use Rattle.example_raft.specs.declared.roles.Entry.{Entry}

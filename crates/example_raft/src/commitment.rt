@@ -59,7 +59,7 @@ impl Server {
         send_to_others(here, msg, effects);
     }
 
-    /// Returns how many hosts have acknowledged `n` entries in this term.
+    /// Returns how many servers have acknowledged `n` entries in this term.
     fn holders(&self, n: u8, setup: &Setup) -> u32
         requires { IsSetup setup.now }
         ensures value { result ≡ holders n setup.now self.now }

@@ -16,6 +16,7 @@
 //! - `roles.rt` has the messages, the roles, the state and the records, `rules.rt` the variants.
 //! - `elections.rt`, `replication.rt` and `commitment.rt` have the rows of elections, of followers
 //!   and of leaders; `server.rt` has timers, syncs, and the choice of the row for an input.
+//! - `standing.rt` has what these rows share: terms, majorities and timeouts.
 //! - `client.rt` is the client. `disk.rt` has the bytes that a server writes and boots from,
 //!   `changes.rt` undoes reactions, `probes.rt` has the probes, and `node.rt` the node.
 //!

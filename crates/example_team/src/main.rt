@@ -13,8 +13,9 @@
 //!   the entries in the whole history are not written, since they depend on the order.
 //! - Session 0 makes all branches before the threads start, since the number of a branch depends on
 //!   the order in which they are made.
-//! - A session that is refused a command ends early. The contracts of the helpers say only that a
-//!   seat stays at its book (`IsAt`), which the next call requires.
+//! - A session ends early if a command is not taken; a refused command does not end it. The
+//!   contracts of the helpers say only that a seat stays at its book (`IsAt`), which the next call
+//!   requires.
 //! - `told.rt` shows entries in a few words of its own; a program that wants the lines of
 //!   `simback play` calls `sim_replies`.
 #![tactic(auto)]

@@ -48,7 +48,7 @@ fn tell_reply<W: fmt::Write>(f: &mut fmt::Formatter<W>, reply: &Reply) -> fmt::R
     }
 }
 
-// Returns why a run stopped, unless it stopped as asked.
+// Returns why a run stopped if all clients are done or nothing is pending, else an empty text.
 fn why(stop: Stop) -> &'static str {
     match stop {
         Stop::AllDone => ", all clients are done",

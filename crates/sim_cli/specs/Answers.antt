@@ -14,7 +14,7 @@ use Rattle.sim_cli.specs.Lines.{fault_line}
 use Rattle.sim_cli.specs.Turns.{Course}
 use Rattle.sim_cli.specs.Play.{Gives, read_scenario}
 
--- the text was written, or a front of it, or memory was wanted for it
+-- the text was written, or the writer failed after a front of it; memory is never wanted
 abbrev pub Writes : Option Text → Option Text → Text → Answered → Type 0
 Writes held holds text Well = Appends held holds text
 Writes held holds text WriterFailed = AppendsPart held holds text

@@ -13,7 +13,7 @@ status_number ReaderFailed = 3
 status_number WriterFailed = 3
 status_number MemoryWanted = 4
 
--- a command ends without an answer: the reader failed, or memory was wanted
+-- a script or a hunt ends without an answer: the reader failed, or memory was wanted
 abbrev pub Stops : Status → Type 0
 Stops Well = ⊥
 Stops BadScenario = ⊥

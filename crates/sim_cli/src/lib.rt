@@ -30,8 +30,8 @@
 //! - A script that is followed without answers ends if a command wants memory. With the loop of a
 //!   play and a writer that drops its text, a search would go on over a run that the script does
 //!   not describe.
-//! - No public item mentions the text of a scenario as it was read: that has a map, and each crate
-//!   above would load all that is proved of maps.
+//! - No public item mentions `ScenarioText` of `sim_scenario`: it has a map, and each crate above
+//!   would load all that is proved of maps.
 #![tactic(auto)]
 
 mod explaining;

@@ -9,14 +9,15 @@ pub enum Status {
     Well,
     /// There is no scenario; the line of its fault was written.
     BadScenario,
-    /// The request cannot be carried out.
+    /// The request cannot be carried out, or a line of a strict script is at fault.
     BadRequest,
-    /// The reader failed, or still had bytes after 2^40 reads. All whole lines that were read were
-    /// answered.
+    /// The reader failed, or had not ended after 2^40 reads. A play has answered all whole lines
+    /// that were read.
     ReaderFailed,
     /// The writer failed, and nothing more was written.
     WriterFailed,
-    /// Memory was wanted outside a command.
+    /// Memory was wanted. A command that wants memory ends a strict play, or a script without
+    /// answers, in this way; in another play its line reports that.
     MemoryWanted,
 }
 

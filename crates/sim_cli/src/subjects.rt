@@ -20,7 +20,7 @@ use std::fmt::Debug;
 use std::io::{Read, Write};
 use std::marker::PhantomData;
 
-/// A task over nodes of any type: a play, or a search.
+/// A task over nodes of any type: a play, a walk, or the writing of a log. A search is none.
 pub trait Task {
     ghost use Rattle.sim_cli.specs.declared.status.Status.{Status};
 
@@ -33,7 +33,7 @@ pub trait Task {
         → Status → Type 0 };
 
     /// Carries it out over nodes of one type, in a scenario that was read. The reader gives the
-    /// script.
+    /// script, or the commands of a walk.
     fn carry_out<N: Node<Meter: FreshMeter> + Send + Sync + Debug, R: Read, W: Write>(
         &self,
         opened: &Opened,

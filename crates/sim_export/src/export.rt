@@ -20,8 +20,8 @@ pub enum Export {
     BadCondition,
     /// A line of the script is at fault. Standard error reports it, and nothing is written.
     BadScript,
-    /// The run has no input: no line of a script makes one of its events, or the scenario's text
-    /// cannot come before a script.
+    /// The run has no input: no line of a script makes one of its events, or its scenario has no
+    /// text that can come before a script.
     NoInput,
 }
 

@@ -54,8 +54,8 @@ impl From<ReseedError> for InputError {
     }
 }
 
-/// Returns the input that makes these events: the text of a scenario with a line end after its last
-/// line, a line `---`, and a line of script for each event.
+/// Returns the input that makes these events, if each name is read as its host: the text of a
+/// scenario with a line end after its last line, a line `---`, and a line of script for each event.
 pub fn input_of(
     alloc: Global,
     scenario: &str,

@@ -6,9 +6,9 @@
 //!   line `---`, and a line of script for each event.
 //!
 //! The contract of [`input_of`] is a round trip (`Makes` in `specs/Exports.antt`): cut and read as
-//! a play does it, the input has the text of the scenario, and the lines of its script are read as
-//! the commands that make exactly these events. `Written` says which bytes a task over a scenario
-//! writes, if a relation says which exports are right for it.
+//! a play does it, the input has the text of the scenario, and, if each name is read as its host,
+//! the lines of its script are read as the commands that make exactly these events. `Written` says
+//! which bytes a task over a scenario writes, if a relation says which exports are right for it.
 //!
 //! Why it is built this way: inputs of seeds, shrunk runs, logs and pages share it, and each has a
 //! relation of its own that says which exports are right.

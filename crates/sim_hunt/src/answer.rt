@@ -15,13 +15,13 @@ use std::fmt;
 /// The answer of a search or a sweep.
 #[derive(Clone, Copy)]
 pub enum Answer {
-    /// The condition fails at this place, and at none before it.
+    /// The condition fails at this place, and at none before it in the range.
     Place(u32),
-    /// The first seed with a failing place, and its first failing place.
+    /// The first seed with a failing place among those that are tested, and its first such place.
     Seed(u64, u32),
-    /// The condition fails nowhere.
+    /// The condition fails at no place that is tested.
     Nowhere,
-    /// The places, the seeds or the events are not within the limits.
+    /// The places, the seeds, the events or the spacing of faults are not within the limits.
     BadRange,
     /// The words are no condition, or the scenario has no such host or probe.
     BadCondition,

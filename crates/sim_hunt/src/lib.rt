@@ -10,10 +10,11 @@
 //!
 //! The output is a function of the input (`Hunted` in `specs/Outcomes.antt`): the line of the
 //! scenario's fault, of the first failing place of the run that the script leaves, of the first
-//! failing seed, or of the reason to refuse the request. The status says which. If the writer
-//! fails, a beginning of that line was written. If the reader fails or memory is wanted, nothing
-//! was. No contract covers standard error, where a sentence says why a condition or a range is bad
-//! (`reasons.rt`).
+//! failing seed, of `none`, or of the reason to refuse the request. If a line of a strict script is
+//! at fault, the output is empty. The status says whether there is a scenario and whether the
+//! request was refused. If the writer fails, a beginning of that line was written. If the reader
+//! fails or memory is wanted, nothing was. No contract covers standard error, where a sentence says
+//! why a condition or a range is bad (`reasons.rt`).
 //!
 //! Why it is built this way:
 //!
@@ -23,7 +24,7 @@
 //!   memory, the search ends with status 4. With the loop of a play and a writer that drops its
 //!   text, the search would go on over a run that the script does not describe.
 //! - Mistakes are reported in the order of the calls: the scenario, the words of the condition, the
-//!   range, and last the hosts and probes of the condition.
+//!   lines of a strict script, the range, and last the hosts and probes of the condition.
 #![tactic(auto)]
 
 mod answer;

@@ -18,7 +18,8 @@ pub(crate) fn report_answer<H: Eprint>(
     }
 }
 
-/// Reports why a run of `kept` events does not have the places from `lo` to `hi`, if it lacks one.
+/// Reports why a run of `kept` events does not have the places from `lo` to `hi`, if it lacks one
+/// or `hi` is less than `lo`.
 pub(crate) fn report_places<H: Eprint>(host: &H, lo: u64, hi: u64, kept: u32) {
     if hi < lo {
         let _told = eprintln!(host; "range: LO is {lo} and HI is {hi}; LO has to be at most HI");
@@ -29,7 +30,7 @@ pub(crate) fn report_places<H: Eprint>(host: &H, lo: u64, hi: u64, kept: u32) {
     }
 }
 
-/// Reports why there are no such seeds, if there are none.
+/// Reports why a sweep cannot take these seeds, if it cannot.
 pub(crate) fn report_seeds<H: Eprint>(host: &H, first: u64, count: u64) {
     let last = u64::MAX;
     if count == 0 || MAX_SEEDS < count {

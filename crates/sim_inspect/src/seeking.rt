@@ -17,7 +17,7 @@ const HOLDS_HERE: &str =
 /// Why there is no such place.
 #[derive(Clone, Copy)]
 pub enum SeekError {
-    /// No place passes the test, for this reason.
+    /// There is no place to go to, for this reason.
     Nowhere(&'static str),
     /// The request is refused. [`seek`] refuses none.
     Refused(Refusal),
@@ -142,7 +142,8 @@ where
 }
 
 /// Returns the place of a run that `sought` describes, seen from place `here`. Fails with the
-/// reason if there is no such place, or for want of memory. A condition that names a host or a
+/// reason if there is no such place, or for want of memory. A search for the last place at which a
+/// condition held also fails if the condition holds at `here`. A condition that names a host or a
 /// probe that does not exist neither holds nor fails.
 pub fn seek<N: Node<Meter: FreshMeter> + Debug>(
     alloc: Global,

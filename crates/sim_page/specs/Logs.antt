@@ -22,7 +22,8 @@ module _ {State Msg : Type 0} (r : Rules State Msg) (events : List Event) (range
   abbrev pub last : ℕ
   last = unwrap_or range.to (length events)
 
-  -- The log has the lines of the requested events, or reports a bad range if the run lacks one.
+  -- The log has the lines of the requested events. Or it reports a bad range: the run lacks one, or
+  -- the range is out of order.
   abbrev pub IsLogOf : Export → Type 0
   IsLogOf (Shown log) = IsRange first last (length events)
       × AreLines r events range.json first (last + 1 - first) log.items

@@ -7,7 +7,7 @@ use serde_json::{Number, Value};
 use sim_node::NoMemory;
 use std::alloc::Global;
 
-/// Writes each `<` of a JSON text as `\\u003c`. Within a string both mean the same, and elsewhere
+/// Writes each `<` of a JSON text as `\u003c`. Within a string both mean the same, and elsewhere
 /// JSON has no `<`. Fails only for want of memory.
 fn escaped(alloc: Global, json: &[u8]) -> Result<Vec<u8>, NoMemory>
     ensures { IfOk result (λ text. All (λ b. b ≢ 60) text.items) }

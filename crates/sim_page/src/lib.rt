@@ -12,8 +12,9 @@
 //!   the other.
 //! - A log or a page is completed in memory before it is written, so that want of memory leaves
 //!   nothing behind. The contract of [`write_log`] says that there is a line for each requested
-//!   event, with its place and the clock of the world there. No contract can name the rest of a
-//!   line, since `Debug` shows messages and states.
+//!   event. A line in words has its place and the clock of the world there; of a line of JSON the
+//!   contract names neither. No contract can name the rest of a line, since `Debug` shows messages
+//!   and states.
 //! - The page's text is a constant on both sides of the data (`template.rt`). page/embed.py writes
 //!   it from page/template.html; edit that file instead.
 //! - The data is JSON within a script element that no browser runs. It has no `<` (`Data`), so no

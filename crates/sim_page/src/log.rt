@@ -26,7 +26,7 @@ pub struct LogRange {
 
 impl LogRange {
     // Returns the first and the last event to show in a run of `count` events, or `None` if it
-    // lacks one of them.
+    // lacks one of them or the last is before the first.
     fn within(self, count: u32) -> Option<(u32, u32)>
         ensures range { IfSome result (λ r. IsRange r.0 r.1 count
             × (r.0 ≡ unwrap_or self.from 1) × (r.1 ≡ unwrap_or self.to count)) }
@@ -41,8 +41,8 @@ impl LogRange {
         Some((from as u32, to as u32))
     }
 
-    /// Reports on standard error why a run of `count` events has none of these, if it lacks one. A
-    /// failure of standard error is ignored.
+    /// Reports on standard error if the range is out of order or not within the `count` events of a
+    /// run. A failure of standard error is ignored.
     pub(crate) fn report<H: Eprint>(self, host: &H, count: u32) {
         if self.within(count).is_some() {
             return;
@@ -56,8 +56,8 @@ impl LogRange {
     }
 }
 
-/// Returns the log of a run, or a bad range if the run has no such event. Fails only for want of
-/// memory.
+/// Returns the log of a run, or a bad range if the run lacks a requested event or the range is out
+/// of order. Fails only for want of memory.
 pub(crate) fn log_of<N: Node<Meter: FreshMeter> + Debug>(
     alloc: Global,
     names: &Names,

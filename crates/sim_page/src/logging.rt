@@ -61,7 +61,8 @@ impl<'a, H: Eprint> Task for Logging<'a, H> {
 /// branch that is in the range: in words, or as a JSON object with its place, the clock after it,
 /// and its rows.
 ///
-/// Writes `bad range` with status 2 if the run has no such event; standard error says which it has.
+/// Writes `bad range` with status 2 if the range is out of order or the run lacks an event of it;
+/// standard error says how many events the run has.
 /// If a line of the script is no command, or its command is refused or not taken, reports that on
 /// standard error and writes nothing, with status 2. If the reader fails or memory is wanted,
 /// writes nothing either. Takes at most 255 subjects.

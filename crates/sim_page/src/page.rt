@@ -19,7 +19,7 @@ use std::mem;
 /// A condition that a page watches.
 #[derive(Drop)]
 pub(crate) struct Watched<'a> {
-    /// Its words, as they were given.
+    /// Its words, as they were given, without the spaces around them.
     pub words: &'a str,
     pub cond: Cond,
     /// For each place so far, 1 if it holds there, else 0.

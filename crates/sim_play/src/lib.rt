@@ -1,7 +1,8 @@
 //! Plays a scenario and a script on a simulated cluster, over any reader and any writer.
 //!
 //! - [`play`] reads a scenario, a line `---` and a script, carries out the commands on a book, and
-//!   writes one line for each. It is all that `simback play` does with its input and output.
+//!   writes one line for each. It is all that `simback play` without `--strict` does with its input
+//!   and output.
 //! - [`play_strictly`] is a play that ends with the answer to the first line of its script that is
 //!   at fault, which it reports on standard error.
 //! - [`answer_lines`] and [`answer_lines_strictly`] are the loops over the lines of a script, on a

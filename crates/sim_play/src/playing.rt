@@ -75,8 +75,9 @@ fn play_scenario<L: Subjects, H: Eprint, R: Read, W: Write>(
 
 /// Reads a scenario and a script, plays the script over the nodes of the subject that the scenario
 /// names, and writes a line for each command. If memory suffices, the output is a function of the
-/// input; if not, the lines say so. A fault of the scenario is explained on standard error. Makes
-/// at most 2^40 reads, of at most 4,096 bytes each; a reader that has more counts as failed. There
+/// input. If a command wants memory, its line says so; other want of memory ends the play with
+/// `MemoryWanted`. A fault of the scenario is explained on standard error. Makes at most 2^40
+/// reads, of at most 4,096 bytes each; a reader that has not ended by then counts as failed. There
 /// are at most 255 subjects.
 pub fn play<L: Subjects, H: Eprint, R: Read, W: Write>(
     host: &H,

@@ -212,6 +212,8 @@ impl<'a, H: Eprint> Task for PlayingStrictly<'a, H> {
 /// Plays a scenario and a script as `play` does, up to the first line of the script that is at
 /// fault: one that is no command, or whose command is refused or not taken. Reports that line on
 /// standard error and ends with `BadRequest`; the answer to that line is the last that it writes.
+/// A command that wants memory is no fault of its line: its answer is not written, and the play
+/// ends with `MemoryWanted`.
 pub fn play_strictly<L: Subjects, H: Eprint, R: Read, W: Write>(
     host: &H,
     alloc: Global,

@@ -53,10 +53,11 @@ fn form_of(json: bool, swept: Swept) -> Form
 /// or a sweep writes nothing.
 ///
 /// A strict play ends with the answer to the first line of its script that is at fault: one that is
-/// no command, or whose command is refused or not taken. A strict search or sweep, and each
-/// shrinking, writes nothing then. The line is reported on standard error, and the status is
-/// `BadRequest`. Standard error also says why a condition or a range is bad. Progress, if asked
-/// for, is reported there at most twice a second.
+/// no command, or whose command is refused or not taken, but not for want of memory. A strict
+/// search or sweep, and each shrinking, log and page, writes nothing then. The line is reported on
+/// standard error, and the status is `BadRequest`. Standard error also says why a condition or a
+/// range is bad. Progress, if asked for, is reported there: by a search or a sweep at most twice a
+/// second, by a shrinking after each trial.
 ///
 /// A walk is no job for this call: it writes nothing and returns `BadRequest`.
 pub fn perform<L: Searchable, H: Threads + Wait + Sync + Clock + Eprint, R: Read, W: Write>(

@@ -1,4 +1,4 @@
--- The smallest failing run of a script as an input for a play.
+-- The failing run of a script, without the faults it does not need, as an input for a play.
 use Rattle.std.specs.Prelude.{◌≡◌, Bool, true, false, List, length, Option, None, Some, Ok}
 use Rattle.std.specs.Prelude.{string_bytes}
 use Rattle.sim_events.specs.declared.Event.{Event}

@@ -133,8 +133,8 @@ impl<'a> Task for RunWriting<'a> {
 }
 
 /// Reads a scenario and writes the run of one of its seeds as an input for a play: the scenario
-/// with that seed, a line `---`, and a line of script for each event. Does not read the script of
-/// the input.
+/// with that seed, a line `---`, and a line of script for each event. Ignores the script of the
+/// input.
 ///
 /// Writes `bad range` with status 2 if the spacing of faults is not 2 to 65,536 or there are more
 /// than 65,534 events with the quiet end (standard error says which), and `no input` with status 2

@@ -1,4 +1,4 @@
-//! The smallest failing run of a script as an input for a play.
+//! The failing run of a script, without the faults it does not need, as an input for a play.
 ghost use Rattle.std.specs.Prelude.{◌≡◌, ◌≤◌, ℕ, List, Some, Ok, IfOk, length, string_bytes};
 ghost use Rattle.sim_events.specs.declared.Event.{Event as EventValue};
 ghost use Rattle.sim_world.specs.Events.{rules};
@@ -188,9 +188,10 @@ impl<'a, H: Eprint> Task for Shrinking<'a, H> {
 /// Writes `none` if the condition fails nowhere (if there are no events, standard error says so),
 /// `bad condition` with status 2 if the words write none or the scenario has no such host or probe
 /// (standard error says why), and `no input` with status 2 if no line of a script makes some event
-/// of the run. If a line of the script is no command, or its command is refused or not taken,
-/// reports that on standard error and writes nothing, with status 2. If the reader fails or memory
-/// is wanted, writes nothing either. Takes at most 255 subjects.
+/// of the run, or if the text of the scenario does not end with a line end. If a line of the script
+/// is no command, or its command is refused or not taken, reports that on standard error and writes
+/// nothing, with status 2. If the reader fails or memory is wanted, writes nothing either. Takes at
+/// most 255 subjects.
 pub fn write_shrunk<L: Subjects, H: Eprint, R: Read, W: Write>(
     host: &H,
     alloc: Global,

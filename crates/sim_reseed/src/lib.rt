@@ -15,13 +15,15 @@
 //! The contract of `numbered_text` is about reading, for every list of protocols at once: the
 //! written text is read as the scenario of the given text, with the seed of the number and all else
 //! unchanged, or with the same fault. The contract of `join_input` is about where a play cuts its
-//! input: the play gets the same two parts back, byte for byte.
+//! input: the play gets the same two parts back, byte for byte, but the scenario with a line end
+//! after its last line.
 //!
 //! Why it is built this way:
 //!
 //! - The text is printed from the table that was read, with another value for `seed`. So this crate
-//!   repeats no rule of the format, and knows no protocol. Comments are lost, and the keys come in
-//!   the order of their bytes.
+//!   repeats only three rules of the format: the form of a seed, the shape of the table and the
+//!   limit of the text. It knows no protocol. Comments are lost, and the keys come in the order of
+//!   their bytes.
 //! - The library's printer says that its text reads back if the table is not too deep. A scenario
 //!   never is: its values are strings, whole numbers, and arrays of these and of tables of these.
 //!   `shape` checks for that, and a proof shows that it refuses no scenario.

@@ -14,7 +14,7 @@ use sim_script::Names;
 use std::alloc::Global;
 use std::fmt::Debug;
 
-/// The most events whose lines follow a move.
+/// The most events whose lines follow a move, besides the last event of a longer way.
 const MAX_TOLD: u32 = 20;
 
 /// The account of a turn: the lines of events, and words before and after them.

@@ -13,8 +13,8 @@
 //! What is proved:
 //!
 //! - A line of a script is one turn of the book, as in a play, and the answer has the line of that
-//!   turn. A command that looks for a place is a turn that goes there, or changes nothing. Any
-//!   other command changes nothing. `Walks` in `specs/Walks.antt` says so, and the contract of
+//!   turn. A command that looks for a place is a turn that goes there, or leaves the book as it
+//!   was. So does any other command. `Walks` in `specs/Walks.antt` says so, and the contract of
 //!   `Desk::answer` cites it.
 //! - The answer to a turn has the lines of the events that it passed, from the branch's place
 //!   before it, at most 20, or after a move back the line of the next one: `IsAccount` in

@@ -6,7 +6,7 @@
 //! simback sweep FIRST COUNT EVENTS COND [FILE]   finds the first seed with such a place
 //! simback script I EVENTS [FILE]                 writes the run of a seed as an input for a play
 //! simback shrink COND [FILE]                     drops the faults that a failure does not need
-//! simback walk FILE                              walks that run, by commands in a terminal
+//! simback walk FILE                              walks a run, by commands on standard input
 //! simback log [FILE]                             writes in words what each event of a run did
 //! simback page [FILE]                            writes a run as a page to walk back and forth
 //! simback help                                   lists the commands and their options

@@ -7,7 +7,7 @@
 //!
 //! - A test is rows of acts on one value, each act with its expected answer, and one function that
 //!   carries out an act. The prover goes through that function once, whatever the number of rows.
-//! - Each act that changes something is also undone, and the value is checked again.
+//! - Each kind of change that has an undo is also undone, and the value is checked again.
 //! - The words of streams are compared with those of another implementation of ChaCha20; the head
 //!   of `parts/streams.rt` names it.
 //! - Readers and writers take a byte at a time and fail after a given number of calls, each number

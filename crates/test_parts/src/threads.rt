@@ -5,8 +5,8 @@
 //! memory is ample, or that two threads work at once.
 //!
 //! - `lock`: two sessions make calls in two threads, and the history at the end has every receipt.
-//! - `claims`: each piece is scanned once, and none past a finding, for any number of workers. Two
-//!   workers wait for each other inside a piece: they meet only if both run.
+//! - `claims`: each piece is scanned once, by 1 to 16 workers. One worker scans none past its
+//!   finding. Two workers wait for each other inside a piece: they meet only if both run.
 //!
 //! The value under the lock is a list of notes, and the search is over a row of numbers. So a
 //! failure here is one of the lock or of the claims, and not of a book or a tape.

@@ -9,7 +9,7 @@
 //! - `answers`: searches and sweeps by several workers, with faults and without, strict jobs, and
 //!   logs, a row each. A contract does not rule out that a second worker never starts.
 //! - `outputs`: outputs that are looked at in part, and a search that writes none.
-//! - `cases`: random cases of all jobs but walks and pages.
+//! - `cases`: random cases of all jobs but walks, pages and shrunk runs.
 //! - `walk`: sessions of a walk, whose words no contract has.
 //! - `running`: what the first three share.
 //!

@@ -1,7 +1,7 @@
 //! Jobs and what they write. `test_program` carries them out. They stand here for the reason that
 //! `walks` gives.
 
-/// Scenarios, each after `^` and its name.
+/// Scenarios, each after `^` and its name. The first one, `nothing`, is an empty text.
 pub const SCENARIOS: &str = r#"nothing
 ^pings
 format = 1

@@ -1,7 +1,7 @@
 //! What the test crates share. Nothing here is used by a program.
 //!
 //! - [`Setting`] makes scenarios from the few numbers that a test cares about; [`TWO_ECHOES`] is
-//!   the small one that most tests begin with.
+//!   the small one that tests of echo begin with.
 //! - [`Act`] is a row of a run: an event, or a check of the world with the expected value.
 //!   [`plays`] goes through such rows, back by the records of their events, and through them again.
 //!   It is proved for all node types that the world at the end is the one at the start

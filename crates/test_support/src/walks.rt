@@ -2,7 +2,7 @@
 //! plays them. They stand here, since the gate reserves twelve times as much memory for a line of a
 //! crate as for one of a crate below it, and `test_program` is proved beside the programs.
 
-/// Two-phase commit on slow disks, up to the crash that tears the write of the commit.
+/// Two-phase commit on slow disks. A crash tears the write of the commit, and three events follow.
 pub const TORN: &str = r#"format = 2
 seed = "0000000000000000000000000000000000000000000000000500000000000000"
 protocol = "two_phase"

@@ -7,12 +7,13 @@
 //! - The text of run 654 of an example is compared byte by byte, in the order of keys in which the
 //!   library for TOML prints tables.
 //! - Three numbers, with the bytes of the seed that each gives.
-//! - A text for each error, so that no error has another name than the documentation says.
+//! - A text for each error but `NoMemory`, so that none has another name than the documentation
+//!   says.
 //!
 //! What each test would catch, where the proofs say nothing:
 //!
-//! * `a_sweep_finds_a_play`: a call that never succeeds, a number at another place than a sweep
-//!   puts it, a text that is not laid out as the library prints tables.
+//! * `a_numbered_text_reads_back`: a call that never succeeds, a number at another place than a
+//!   sweep puts it, a text that is not laid out as the library prints tables.
 //! * `bytes_of_a_number`: the other order of bytes, or other places, in definition and code alike.
 //! * `texts_are_refused`: an error of another name than the documentation says.
 
@@ -105,7 +106,7 @@ fn begins_an_input(alloc: Global) -> Result<(), Fail> {
 }
 
 #[test]
-fn a_sweep_finds_a_play(rt: HostRuntime) -> Result<(), Fail> {
+fn a_numbered_text_reads_back(rt: HostRuntime) -> Result<(), Fail> {
     reads_back(rt.alloc())?;
     begins_an_input(rt.alloc())
 }

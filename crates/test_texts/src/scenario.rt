@@ -19,7 +19,8 @@
 //!   or refused though it is a scenario; the order of faults.
 //! * `short_and_long_texts`: no text, a comment, the limit of 65,536 bytes, line ends of two bytes.
 //! * `texts_say_what_they_say`: a value, a name or a way that is read from elsewhere.
-//! * `sentences`: a sentence that names another place of the text, another value, or other limits.
+//! * the tests of `sentences`: a sentence that names another place of the text, another value, or
+//!   other limits.
 //! * `faults_and_names`: the text of a fault, the number of want of memory, and which names are
 //!   names.
 
@@ -64,7 +65,7 @@ fn tables_hold(rt: HostRuntime) -> Result<(), Fail> {
     rows_hold(rt.alloc(), LINES_2, links::NO_LINK)
 }
 
-/// A text of this length, with an end that is no document.
+/// The length of a text, what comes after it, and the answer.
 const LENGTHS: [(usize, &str, &str); 3] = [
     (65_536, "", "0"),
     (65_537, "", "1 text"),

@@ -1,4 +1,5 @@
--- Rows of Raft, worked out: three servers and a client with one operation are hosts 0 to 3, and server 0 reacts.
+-- Rows of Raft, worked out: three servers and a client with one operation are hosts 0 to 3.
+-- Server 0 reacts, and in the last two rows the client.
 use Rattle.std.specs.Prelude.{◌≡◌, ℕ, [], ◌∷◌, ◌++◌, List, Some, true, false, replicate, ⊤}
 use Rattle.std.proofs.Common.{refl}
 use Rattle.sim_node.specs.declared.Setup.{Setup}
@@ -86,7 +87,7 @@ old_disk =
     0 ∷ 0 ∷ 0 ∷ 0 ∷ 0 ∷ 0 ∷ 0 ∷ 2 ∷ replicate 56 0
     ++ entry_bytes (entry 1 3001) 0 ++ entry_bytes (entry 2 1) 1 ++ entry_bytes (entry 3 4001) 3
 
--- the same, and the second entry is torn
+-- the same without the third entry, and the second one is torn
 abbrev torn_disk : List ℕ
 torn_disk =
     0 ∷ 0 ∷ 0 ∷ 0 ∷ 0 ∷ 0 ∷ 0 ∷ 2 ∷ replicate 56 0

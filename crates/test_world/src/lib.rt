@@ -1,5 +1,5 @@
-//! Worked runs of worlds: computed as lemmas over the definitions in `proofs/`, and played in a
-//! world as tests. There is nothing else here. The head of each module says what its tests check.
+//! Worked runs of worlds: lemmas over the definitions in `proofs/`, and plays in a world as tests.
+//! There is nothing else here. The head of each module says what its tests check.
 //!
 //! - `world`: worlds of echo and of a scribe, with `EchoRows`, `DiskRows` and `MessageRows`.
 //! - `protocols`: primary-backup, the register and two-phase commit, with a file of rows each.

@@ -3,10 +3,10 @@
 //!
 //! Each node is proved to do what its table says, and the table is a definition. Whether that
 //! definition is the table of docs/PROTOCOLS.md, a reader has to judge, and these rows help: small
-//! runs that can be worked out by hand, a lemma for each step.
+//! runs that can be worked out by hand, with lemmas on what is seen after them.
 //!
-//! - `proofs/`: rows of primary-backup, the register and two-phase commit, each an input with the
-//!   state and the effects after it. `ProtocolBase.antt` has what they stand on.
+//! - `proofs/`: rows of primary-backup, the register and two-phase commit, each a run with what a
+//!   query shows after it. `ProtocolBase.antt` has what they stand on.
 //! - `plays`: the same runs in a world, there, back by the records, and there again. And rough
 //!   runs, over slow links that lose messages, while each server in turn stops and starts. Another
 //!   implementation of the same tables computed their ends.

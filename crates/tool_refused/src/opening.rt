@@ -36,7 +36,7 @@ ops = 2
 ---
 "#;
 
-/// A script with each command, and with looks at its three branches at the end.
+/// A script with a command of each kind, on three branches.
 pub const SCRIPT: &str = "step
 run 4
 tick

@@ -222,8 +222,8 @@ fn sync_and_back(
     Ok(well)
 }
 
-// Returns whether a disk of four bytes with two syncs in flight is as expected: after the first and
-// its undo, after both, and after a sync of no writes.
+// Returns whether a disk of four bytes with two syncs in flight is as expected: in the first one,
+// after its undo, and after both and a sync of no writes.
 fn synced(alloc: Global, disk: &mut Disk, spare: &mut SpareDisks) -> Result<bool, NoMemory> {
     let first = write_and_ask(disk, 0, 1)?;
     let second = write_and_ask(disk, 1, 2)?;

@@ -10,9 +10,9 @@ use std::test::Fail;
 enum Act {
     // The state of the direction, and how many messages it holds.
     Is(LinkState, u32),
-    // A change, and the messages that it releases.
+    // A change, and the messages that it releases or drops.
     Change(Change, &'static [u32]),
-    // A change, the messages that it releases, the state after it and how many messages it holds;
+    // A change, the messages that it releases or drops, the state and how many it holds then;
     // the change is undone.
     ChangeAndBack(Change, &'static [u32], LinkState, u32),
     Keep(u32),

@@ -1,4 +1,4 @@
-//! Which hosts are servers, and the effects of a reaction in order.
+//! The effects of a reaction in order.
 ghost use Rattle.std.specs.Prelude.{◌≡◌};
 
 use sim_node::{Effect, Effects, Setup};

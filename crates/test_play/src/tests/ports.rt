@@ -28,7 +28,7 @@ pub struct Pieces<'a> {
 }
 
 impl<'a> Pieces<'a> {
-    /// Makes a reader of one byte a read that never fails.
+    /// Makes a reader of one byte a read that does not fail in 100,000 reads.
     pub fn new(rest: &'a [u8], more: &'a [u8]) -> Pieces<'a> {
         Pieces {
             rest,
@@ -72,7 +72,7 @@ pub struct Narrow<'a> {
 }
 
 impl<'a> Narrow<'a> {
-    /// Makes a writer of one byte a write that never fails.
+    /// Makes a writer of one byte a write that does not fail in 100,000 writes and 1,000 flushes.
     pub fn new(answers: &'a str) -> Narrow<'a> {
         Narrow {
             to_come: answers.as_bytes(),

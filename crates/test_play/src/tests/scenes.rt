@@ -8,7 +8,7 @@ use std::process::Abort;
 use std::test::Fail;
 
 /// A scenario of the server `a` and the client `w`, which sends two pings of 10 ms, and the line
-/// `---`. Other scenarios are edits of this one.
+/// `---`. The scenarios of rows are edits of this one.
 pub const HEAD: &str = r#"format = 1
 seed = "0000000000000000000000000000000000000000000000000000000000000000"
 protocol = "echo"

@@ -38,7 +38,7 @@ ops = 2
 
 "#;
 
-/// A script with each command on three branches. Some are refused. Its last line has no end.
+/// A script of all commands, over three branches. Some are refused. Its last line has no end.
 const EACH_COMMAND: &str = r#"look next
 step
 run 5
@@ -156,7 +156,7 @@ struct Example {
     script: &'static str,
     answers: &'static str,
     /// How often the answers are flushed if each byte takes a read: before each line of the script,
-    /// and at the end.
+    /// before the end of the input if the last line has an end, and at the end.
     flushes: usize,
 }
 

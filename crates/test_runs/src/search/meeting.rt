@@ -1,4 +1,4 @@
-//! Two workers that wait for each other at a gate, each for at most this many looks.
+//! Two workers that wait for each other, at a gate or at a turn, each for at most `LOOKS` looks.
 use sim_search::Gate;
 use std::sync::Wait;
 use std::sync::atomic::Ordering::SeqCst;

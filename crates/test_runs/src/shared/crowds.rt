@@ -84,7 +84,7 @@ fn walk<R: Wait>(
     }
 }
 
-// Makes a branch for each of the other sessions.
+// Makes a branch for each session but session 0, which walks on branch 0.
 fn make_branches<R: Wait>(
     rt: &R,
     shared: &Shared<Echoes>,

@@ -1,4 +1,4 @@
-//! The plays of the folder `examples` in which no write is torn and no put comes before a start.
+//! The plays of the folder `examples` that neither `early_or_torn` nor `test_play` has.
 
 /// Plays, each after `^` and its name; after `~` its answers, which are separated by `; `. These
 /// are texts and no tables, since the prover takes a text as one value.

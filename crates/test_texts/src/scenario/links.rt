@@ -339,7 +339,7 @@ loss = 0
 @more
 "#;
 
-/// Two links.
+/// Changes of `LINES_2`: another sync latency, protocol and server, and a second link.
 const TWO_LINKS: &str = r#"
 @format
 format = 2

@@ -160,7 +160,7 @@ name = "w"
 ops = 2.0
 "#;
 
-/// Seeds: 63 digits, 65, none, a letter that is no digit, and 64 digits in both cases.
+/// Seeds: 63 digits, 65, 66, none, signs that are no digits, and 64 digits in both cases.
 pub const SEEDS: &str = r#"
 > 6 seed @seed
 seed = "000000000000000000000000000000000000000000000000000000000000000"
@@ -377,7 +377,7 @@ name = "x"
 ops = 2
 "#;
 
-/// The same values written in other ways.
+/// The same values written in other ways, and a tick that is a table.
 pub const OTHER_WAYS: &str = r#"
 > 0 @client
 client = [{ name = "w", ops = 2 }]
@@ -419,9 +419,9 @@ ops = 2
 "#;
 
 /// Two changed lines, each a fault: the first fault in the order is reported. What is not TOML
-/// comes before all others, an unknown key of the text before one of a client, and that before a
-/// missing key and a wrong type; then the keys in the order of the table; for servers their types,
-/// their number and their names; clients before equal names.
+/// comes before all others, and an unknown key of the text before one of a client, a missing key
+/// and a wrong type; then the keys in the order of the table; for servers their types, their
+/// number and their names; clients before equal names.
 pub const PAIRS: &str = r#"
 > 2 text @format
 

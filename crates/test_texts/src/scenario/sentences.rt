@@ -111,7 +111,7 @@ name = "a"
 ops = 2
 "#;
 
-/// Texts of format 2, whose first link goes from `w` to `a`.
+/// Texts of format 2. The first link goes from `w` to `a` unless the row changes it.
 const SECOND_FORMAT: &str = r#"
 > key "disks" is unknown; the keys are format, seed, protocol, tick, latency_min, latency_max, loss, servers, checkpoint, window, client, disk_latency and link @loss
 loss = 0
@@ -184,7 +184,7 @@ fn sentences_hold(alloc: Global, lines: &str, table: &str) -> Result<(), Fail> {
     Ok(())
 }
 
-/// A scenario with 32 servers and a client.
+/// A text with 32 servers and a client, one host more than a scenario may have.
 fn many_hosts(alloc: Global) -> Result<String, AllocError> {
     let mut servers = String::from_str(alloc, "servers\nservers = [\"a\"")?;
     for number in 1..32_u8 {

@@ -121,7 +121,7 @@ fn all_end<N: Node>(
 }
 
 const BACKUPS: [Play; 2] = [
-    // A put is answered, and sent to the backups again.
+    // A put is answered. A primary that starts again sends it to the backup again.
     (
         THREE_HOSTS,
         0,
