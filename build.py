@@ -60,6 +60,12 @@ def libraries_below(crate, cited):
     return list(found)
 
 
+def lines_of(crate):
+    """Returns the number of lines of code of a crate."""
+    files = (ROOT / "crates" / crate / "src").glob("**/*.rt")
+    return sum(len(it.read_bytes().splitlines()) for it in files)
+
+
 def copy_crates(crates, rows, room):
     """Makes a repository of these crates alone, without their wrong bodies."""
     leave_out = shutil.ignore_patterns("out", "must-fail")
@@ -70,14 +76,14 @@ def copy_crates(crates, rows, room):
     (room / ".git").mkdir()
 
 
-def prove_all(room):
-    """Proves and builds all crates of a repository. Returns the status of rt ci.
+def prove_all(room, start):
+    """Proves and builds all crates of a repository. Ends this program if one is not proved.
 
     Prints how far rt ci is, and of a crate that is not proved what was said of it.
     """
     ran = subprocess.Popen(["rt", "ci"], cwd=room, stdin=subprocess.DEVNULL, text=True,
                            stdout=subprocess.PIPE, stderr=subprocess.STDOUT, errors="replace")
-    start, said = time.monotonic(), []
+    said = []
     for line in ran.stdout:
         is_progress = PROGRESS.match(line)
         if is_progress and "NOT PROVED" in line:
@@ -87,7 +93,7 @@ def prove_all(room):
         said = [] if is_progress or OF_A_CRATE.match(line) else [*said, line]
     if ran.wait():
         print("".join(said), end="")
-    return ran.returncode
+        sys.exit(ran.returncode)
 
 
 def toolchain_module():
@@ -161,11 +167,12 @@ def main():
     crates = dict.fromkeys(it for program in asked.programs
                            for it in [*libraries_below(program, cited), program])
     crates = [it for it in crates if it not in apart]
-    with tempfile.TemporaryDirectory(prefix="simback-build-") as room:
-        copy_crates(crates, rows, pathlib.Path(room))
-        if status := prove_all(pathlib.Path(room)):
-            sys.exit(status)
-        take_over(crates, pathlib.Path(room))
+    largest = max(crates, key=lines_of)
+    for part in ([*libraries_below(largest, cited), largest], crates):
+        with tempfile.TemporaryDirectory(prefix="simback-build-") as room:
+            copy_crates(part, rows, pathlib.Path(room))
+            prove_all(pathlib.Path(room), start)
+            take_over(part, pathlib.Path(room))
     for program in apart:
         build(program, asked.cpu)
     used = resource.getrusage(resource.RUSAGE_CHILDREN)
