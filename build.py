@@ -21,6 +21,7 @@ that is older. Without the option a program is for x86-64-v2, which processors h
 """
 
 import argparse
+import functools
 import os
 import pathlib
 import re
@@ -100,6 +101,8 @@ def toolchain_module():
     """Returns the Python module that rt is made of."""
     sys.path.insert(0, os.path.dirname(os.path.realpath(shutil.which("rt"))))
     import rtlib
+    # The stamp of a crate asks for those of all crates below it, each of which asks again.
+    rtlib.Crate.stamp = functools.cache(rtlib.Crate.stamp)
     return rtlib
 
 
