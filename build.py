@@ -12,8 +12,8 @@ them; what the gate has proved, this does not prove again. If it is stopped, the
 proved by then are kept.
 
 It says when each crate is proved. At one that is not, it prints what the check said. The last line
-has the time of the whole run. What was built is left in the folders out/, for `rt check` and
-`rt run` in the folder of a crate.
+has the time of the whole run. The libraries are left in the folders out/, where `rt check` finds
+them in the folder of a crate above.
 
 The option --cpu changes what a program is compiled for, not what is proved. A program for x86-64-v3
 takes 3 to 8 percent fewer instructions, and ends at once by an illegal instruction on a processor
@@ -107,19 +107,18 @@ def toolchain_module():
 
 
 def take_over(crates, room):
-    """Moves what was built to the folders out/ of this checkout, with rt's stamps."""
+    """Moves what was built to the folders out/ of this checkout, the libraries with rt's stamps."""
     rtlib, made = toolchain_module(), {}
     for crate in crates:
         source, out = room / "crates" / crate / "out", ROOT / "crates" / crate / "out"
-        stamp = rtlib.Crate(str(ROOT / "crates" / crate), str(ROOT), made).stamp()
         out.mkdir(exist_ok=True)
         if (source / "rlib").is_dir():
             shutil.rmtree(out / "rlib", ignore_errors=True)
             shutil.move(source / "rlib", out)
+            stamp = rtlib.Crate(str(ROOT / "crates" / crate), str(ROOT), made).stamp()
             (out / "rlib" / "stamp").write_text(stamp)
         else:
             shutil.copy(source / crate, out)
-            (out / f"{crate}.stamp").write_text(stamp + rtlib.sum_of(str(out / crate)))
 
 
 def build(program, cpu):

@@ -1,6 +1,6 @@
 #!/usr/bin/env bash
 # Measures how many lines of a script `simback play` answers in a second, on inputs of 60,000 lines.
-# The program must be built: (cd crates/simback && rt run -- play) < examples/first-run.play
+# The program must be built: ./build.py
 set -euo pipefail
 cd "$(dirname "$0")/.."
 program=crates/simback/out/simback

@@ -1,7 +1,7 @@
 #!/usr/bin/env bash
 # Measures how many events `simback sweep` runs in a second of one worker: with conditions of several
 # forms, and with planned faults. Each row is the best of three.
-# The program must be built: (cd crates/simback && rt run -- play) < examples/first-run.play
+# The program must be built: ./build.py
 set -euo pipefail
 cd "$(dirname "$0")/.."
 program=crates/simback/out/simback
