@@ -90,7 +90,9 @@ def prove_all(room, start):
         if is_progress and "NOT PROVED" in line:
             print("".join(said), end="")
         if is_progress:
-            print(f"{(time.monotonic() - start) / 60:5.1f} min  {line[4:]}", end="", flush=True)
+            minutes = (time.monotonic() - start) / 60
+            words = line[4:].partition(": an earlier run")[0].rstrip()
+            print(f"{minutes:5.1f} min  {words}", flush=True)
         said = [] if is_progress or OF_A_CRATE.match(line) else [*said, line]
     if ran.wait():
         print("".join(said), end="")
