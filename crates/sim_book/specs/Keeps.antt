@@ -62,8 +62,8 @@ module _ {State Msg : Type 0} (node : NodeLaws State Msg) (probes : ℕ) where
   Wants (command.Look b q) t = t.warm ≡ false
   Wants _ t = Unit {0}
 
-  -- A refusal other than for want of memory leaves a tape as it is, warm or cold; `Idle` is found
-  -- on a warm tape, which stays as it is.
+  -- A refusal other than `NoMemory` and `Idle` leaves a tape as it is, warm or cold. `Idle` leaves
+  -- a warm tape as it is, and makes a cold one warm.
   abbrev pub Refuses : Refusal → Command → Tape → Tape → Type 0
   Refuses refusal.NoMemory c t u = Wants c t
   Refuses refusal.Idle c t u = IsTrue t.warm → u ≡ t

@@ -36,7 +36,7 @@ laid over w = laid_at w.offset w.bytes over
 abbrev pub all_laid : List ℕ → List Write → List ℕ
 all_laid over writes = fold laid over writes
 
--- the bytes that the host reads
+-- the bytes that the disk will have when all writes are stable
 abbrev pub read : Disk → List ℕ
 read d = all_laid d.stable d.writes
 

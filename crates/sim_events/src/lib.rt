@@ -1,6 +1,6 @@
 //! What is said of a world from outside: events, questions, and the scenario of a run.
 //!
-//! None of it holds a world, so texts, lists of events and plans of faults need this crate alone.
+//! None of it holds a world, so a crate that only keeps events needs no `sim_world`.
 //!
 //! * [`Event`]: a step, an advance of the clock, or a [`Fault`]. [`Refusal`] says why an event
 //!   cannot happen.
@@ -90,8 +90,8 @@ pub enum Refusal {
 /// What can be looked at.
 #[derive(Clone, Copy)]
 pub enum Query {
-    /// the clock, the serials and the streams of the whole world, and the numbers of pending
-    /// occurrences and of held messages
+    /// the clock, the next serial, the places of the streams of the network and of torn writes, and
+    /// the numbers of pending occurrences and of held messages
     Summary,
     /// the first pending occurrence
     Next,

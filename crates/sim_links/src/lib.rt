@@ -16,7 +16,7 @@
 //!   changed directions cost, and reading a state is two loads.
 //! - The vector has room for all directions from the start (32 KB that are not touched before they
 //!   are needed). So `change` and `undo` take no memory and cannot fail, and a fault can always be
-//!   undone. Only `keep` takes memory, for the message.
+//!   undone. Of the changes only `keep` takes memory, for the message.
 //! - [`PackedLinks`] stores links compactly, as in a checkpoint: the directions that are not open,
 //!   with their places, and no table.
 #![tactic(auto)]

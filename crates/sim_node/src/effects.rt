@@ -108,7 +108,8 @@ impl<M: Drop> Effects<M> {
         self.list.push_back_reserved(effect);
     }
 
-    /// Asks to send a message to a host, which may be the node's own.
+    /// Asks to send a message to a host of the cluster, which may be the node's own. There are
+    /// fewer than 40 effects so far.
     pub fn send(&mut self, to: u16, msg: M)
         requires room { length self.old.list < 40 }
         requires host { to < self.old.hosts }
@@ -117,7 +118,8 @@ impl<M: Drop> Effects<M> {
         self.push(Effect::Send { to, msg });
     }
 
-    /// Asks for a timer after a delay in milliseconds, which replaces the pending one.
+    /// Asks for a timer after a delay of 1 to 60,000 ms, which replaces the pending one. There are
+    /// fewer than 40 effects so far.
     pub fn timer(&mut self, delay: u32)
         requires room { length self.old.list < 40 }
         requires low { 1 ≤ delay }
@@ -128,7 +130,8 @@ impl<M: Drop> Effects<M> {
     }
 
     /// Asks for a write of 1 to 64 bytes to the disk, from an offset in bytes on. The world skips a
-    /// write that would end beyond the 4,096 bytes of the disk.
+    /// write that would end beyond the 4,096 bytes of the disk. There are fewer than 40 effects so
+    /// far.
     pub fn write(&mut self, offset: u32, bytes: &[u8])
         requires room { length self.old.list < 40 }
         requires some { 1 ≤ length bytes.now }
@@ -146,7 +149,8 @@ impl<M: Drop> Effects<M> {
         });
     }
 
-    /// Asks for a sync: the writes so far shall become stable.
+    /// Asks for a sync: the writes so far shall become stable. There are fewer than 40 effects so
+    /// far.
     pub fn sync(&mut self)
         requires { length self.old.list < 40 }
         ensures { self.new ≡ record self.old { list = self.old.list ++ Asked.Sync ∷ [] } }
@@ -154,7 +158,7 @@ impl<M: Drop> Effects<M> {
         self.push(Effect::Sync);
     }
 
-    /// Reports that the host is done.
+    /// Reports that the host is done. There are fewer than 40 effects so far.
     pub fn done(&mut self)
         requires { length self.old.list < 40 }
         ensures { self.new ≡ record self.old { list = self.old.list ++ Asked.Done ∷ [] } }

@@ -76,7 +76,8 @@ pub struct Setup {
 /// An input to which a node reacts.
 #[derive(Drop)]
 pub enum Input<M> {
-    /// The host has started: the first input after each boot.
+    /// The host has started: once after each boot, unless it stops before. A message that is due at
+    /// the same time and was queued earlier comes first.
     Start,
     /// A message has arrived from a host, which may be the node's own.
     Message { sender: u16, msg: M },

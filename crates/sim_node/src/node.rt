@@ -57,7 +57,8 @@ pub trait Node: Drop {
         ensures work { Self.Meter.work meter.new ≡ turned (Self.Meter.work meter.old) };
 
     /// Reacts to an input at clock `now` (ms), with one random word, and asks for at most 40
-    /// effects. Returns the record by which `undo` undoes the reaction. Counts one turn.
+    /// effects; there are none yet, and the sender of a message is a host of the cluster. Returns
+    /// the record by which `undo` undoes the reaction. Counts one turn.
     fn act(
         &mut self,
         alloc: Global,

@@ -10,7 +10,7 @@
 //! - `slots`: an item stays at one place from its insertion until it is taken out. Each serial from
 //!   the first one on has a slot of four bytes with the place of its item, so finding an item by
 //!   its serial takes two loads. Empty slots at the front are dropped when an insertion would take
-//!   more memory and they are at least half of all.
+//!   more memory and they are at least half of all, rounded down.
 //! - `lists`: a place has a node with the due and the serial of its item, which is also the node of
 //!   a list. Time is cut into days, and all days that are equal modulo 256 share one of 256 lists,
 //!   in the order of (due, serial). A list is a ring through its end, so a key joins or leaves it
@@ -32,8 +32,8 @@
 //! a heap for keys far ahead, were measured too: with delays of up to a second the latter take
 //! about twice the instructions.
 //!
-//! Only `insert`, `put_back`, `copy` and `pack` take memory. Taking an item out needs none: its
-//! free place leads to the one that was freed before it.
+//! Only `insert`, `put_back`, `copy`, `pack` and `PackedQueue::open` take memory. Taking an item
+//! out needs none: its free place leads to the one that was freed before it.
 #![tactic(auto)]
 
 mod link;

@@ -1,9 +1,9 @@
-//! Marks on dues, one for all dues that are equal modulo 256.
+//! Marks on days, one for all days that are equal modulo 256.
 ghost use Rattle.std.specs.Prelude.{◌≡◌, ◌≢◌, ℕ, ◌+◌, ◌<◌, ◌≤◌, ◌/◌, ◌%◌, IfSome, IfNone};
 ghost use Rattle.std.specs.Bool.{OnTrue, OnFalse};
 ghost use Rattle.sim_queue.specs.inside.Marks.{mark_of, IsMarked, IsUnmarked};
 
-/// The marked dues: a bit for each due modulo 256, 64 in a word.
+/// The marked days: a bit for each day modulo 256, 64 in a word.
 #[derive(Clone, Copy)]
 pub(crate) struct Marks {
     pub(crate) words: [u64; 4],
@@ -17,7 +17,7 @@ impl Marks {
         Marks { words: [0; 4] }
     }
 
-    /// Marks a due.
+    /// Marks a day.
     #[inline(always)]
     pub(crate) fn set(&mut self, due: u64)
         ensures set { (d : ℕ) → d % 256 ≡ due % 256 → IsMarked self.new.words d }
@@ -27,7 +27,7 @@ impl Marks {
         self.words[(due % 256 / 64) as usize] |= 1 << (due % 64);
     }
 
-    /// Removes the mark of a due, if `told`.
+    /// Removes the mark of a day, if `told`.
     #[inline(always)]
     pub(crate) fn clear_if(&mut self, told: bool, due: u64)
         ensures cleared { OnTrue told ((d : ℕ) → d % 256 ≡ due % 256
@@ -41,7 +41,7 @@ impl Marks {
         }
     }
 
-    /// Returns the distance from a due to the next marked one, if that is in the same word.
+    /// Returns the distance from a day to the next marked one, if that is in the same word.
     #[inline(always)]
     pub(crate) fn distance(&self, due: u64) -> Option<u64>
         ensures within { IfSome result (λ n. due % 64 + n < 64) }

@@ -227,7 +227,7 @@ impl<B> Store<B> {
         }
     }
 
-    // Drops the empty slots at the front, if one more slot would take memory.
+    // Drops the empty slots at the front, if one more slot would take memory and they are many.
     #[inline(always)]
     fn trim(&mut self)
         requires { IsKeyed self.old }
@@ -239,8 +239,8 @@ impl<B> Store<B> {
         }
     }
 
-    // Drops the empty slots at the front, if these are at least half of all. Otherwise the
-    // insertion takes more memory, so that insertions rarely come here.
+    // Drops the empty slots at the front, if these are at least half of all, rounded down.
+    // Otherwise the insertion takes more memory, so that insertions rarely come here.
     #[cold]
     #[inline(never)]
     fn drop_empty(&mut self)

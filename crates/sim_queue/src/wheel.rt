@@ -204,8 +204,8 @@ fn next_floor(lists: &Lists, marks: &Marks, floor: u64, today: u64) -> u64
 }
 
 // Returns the least due, given that none is before `floor`: goes from one marked day to the next,
-// once through all lists. The first key of a list is its least, so if none is due within 256 days,
-// the least of these first keys is the first of all.
+// through all lists and on to the end of a word. The first key of a list is its least, so if none
+// is due within 256 days, the least of these first keys is the first of all.
 #[inline(never)]
 fn least_from(lists: &Lists, marks: &Marks, floor: u64) -> u64
     requires narrow { lists.now.width ≤ 56 }

@@ -272,8 +272,8 @@ fn go_back<N: Node>(
     }
 }
 
-/// Goes back by at most `count` events, until a watch fails. After want of memory the place is as
-/// before.
+/// Goes back by at most `count` events, from 1 to the place, until a watch fails. The tape is warm.
+/// After want of memory the place is as before, and the tape may be cold.
 pub fn rewind<N: Node>(
     alloc: Global,
     tape: &mut Tape<N>,

@@ -105,7 +105,8 @@ fn add_tick<N: Node>(
     Ok(stop_short(tape))
 }
 
-/// Adds the events of a tick of `takes` ms. After want of memory the events are as before.
+/// Adds the events of a tick of `takes` ms, the scenario's tick. The tape is warm and at its end.
+/// After want of memory the events and the place are as before, and the tape may be cold.
 pub fn tick<N: Node>(
     alloc: Global,
     tape: &mut Tape<N>,

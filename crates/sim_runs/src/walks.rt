@@ -56,8 +56,9 @@ fn add_steps<N: Node>(
     unreachable!()
 }
 
-/// Adds at most `count` steps, until a run has to stop. After want of memory the events are as
-/// before.
+/// Adds at most `count` steps, at least 1, until a run has to stop. The tape is warm and at its
+/// end, with fewer than 65,536 events, and a step can happen. After want of memory the events and
+/// the place are as before, and the tape may be cold.
 pub fn run<N: Node>(
     alloc: Global,
     tape: &mut Tape<N>,

@@ -33,8 +33,9 @@
 //!   refuses it, in its own order of refusals.
 //! - A line is read in one walk. UTF-8 is never tested: a word that is no keyword, no number and no
 //!   name makes a line bad, and each of these is ASCII.
-//! - The crate uses only the book's plain types, so an edit of `play` does not check it again, and
-//!   a search reads its condition with the same function as a watch.
+//! - The crate needs no book, since commands are in `sim_watch`. So an edit of the book or of
+//!   `play` does not check it again. A search reads its condition with the same function as a
+//!   watch.
 #![tactic(auto)]
 
 mod ask;

@@ -31,8 +31,8 @@ use std::alloc::Global;
 use std::marker::Model;
 use std::sync::Arc;
 
-/// The kept events of a run, a place among them, and, if memory allowed it, the world there with
-/// the records of the last events before it. A checkpoint, shared and never changed, is kept at the
+/// The kept events of a run, a place among them, and, if the tape is warm, the world there with the
+/// records of the last events before it. A checkpoint, shared and never changed, is kept at the
 /// start and after each interval of events.
 pub struct Tape<N: Node> {
     log: Log,
@@ -239,10 +239,11 @@ impl<N: Node> Tape<N> {
         self.checkpoints.truncate(place / self.log.interval() + 1);
     }
 
-    /// Goes to a place the nearest way: undoes events within the reach, walks on, or makes the
-    /// world anew from the checkpoint at or below the place, with fewer turns than the interval.
-    /// Fails only for want of memory; the tape may be cold then. A warm tape that is already at the
-    /// place needs none.
+    /// Goes to a place. Within the reach it undoes events. If the place is ahead, and no farther
+    /// off than from the checkpoint at or below it, it walks on. Else it makes the world anew from
+    /// that checkpoint, with fewer turns than the interval. Fails only for want of memory; the tape
+    /// may be cold then, and its events and its place are as before. A warm tape that is already at
+    /// the place needs none.
     pub fn goto(&mut self, alloc: Global, to: u32, meter: &mut N::Meter) -> Result<(), NoMemory>
         requires { to ≤ length self.old.events }
         ensures ok { OnOk result (IsMoved to self.old self.new) }
@@ -408,9 +409,10 @@ impl<N: Node> Tape<N> {
         Ok(host)
     }
 
-    /// Adds an event that can happen, at the end. The clock never goes back. Fails only for want of
-    /// memory. If the lists of a warm tape cannot grow, it stays warm; after another error the tape
-    /// may be cold.
+    /// Adds an event that can happen, at the end of a tape that keeps fewer than 65,536. The clock
+    /// never goes back. Fails only for want of memory; the events and the place are as before then.
+    /// If the lists of a warm tape cannot grow, it stays warm; after another error the tape may be
+    /// cold.
     #[inline(always)]
     pub fn add(&mut self, alloc: Global, event: Event, meter: &mut N::Meter) -> Result<(), NoMemory>
         requires end { self.old.place ≡ length self.old.events }
@@ -523,8 +525,8 @@ impl<N: Node> Tape<N> {
         }
     }
 
-    /// Drops the events past a place, with their checkpoints, and goes there. The tape is cold
-    /// then, unless the place was `to` already.
+    /// Drops the events past a place of a tape that is at its end, with their checkpoints, and goes
+    /// there. The tape is cold then, unless the place was `to` already.
     pub fn truncate(&mut self, to: u32)
         requires end { self.old.place ≡ length self.old.events }
         requires within { to ≤ self.old.place }

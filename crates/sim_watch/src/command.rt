@@ -11,8 +11,8 @@ use sim_world::{Fault, Query};
 pub enum Command {
     /// Adds a step.
     Step(u32),
-    /// Adds steps up to one tick after the present clock, and then an advance of the clock to that
-    /// time.
+    /// Adds the steps that are due up to one tick after the clock, and then an advance to that
+    /// time: the first 1,024 of these events, and no more than the branch has room for.
     Tick(u32),
     /// Adds at most this many steps, until it has to stop.
     Run(u32, u32),

@@ -1,4 +1,5 @@
-//! The primitive changes of the parts of a world. Each adds to a trail that leads back.
+//! The primitive changes of the parts of a world. Each says what it adds to a trail that leads
+//! back.
 ghost use Rattle.std.specs.Prelude.{◌≡◌, ℕ, ◌+◌, ◌-◌, ◌*◌, ◌^◌, ◌<◌, ◌≤◌, true, List, [], ◌∷◌};
 ghost use Rattle.std.specs.Prelude.{◌++◌, length, IfOk, OnOk, IsOk, IfSome, IsSome, IsFalse};
 ghost use Rattle.std.specs.Prelude.{IsTrue, Some, None, slice_index_or, slice_index};

@@ -362,7 +362,7 @@ impl<N: Node> World<N> {
         Ok(World { cluster })
     }
 
-    /// Keeps the memory of a record that is no longer needed, for the next event. The world is
+    /// Keeps the memory of a record that is no longer needed, for the next `apply`. The world is
     /// unchanged.
     pub fn reuse(&mut self, undo: Undo<N>)
         ensures { self.new ≡ self.old }

@@ -25,8 +25,8 @@
 //!    `step` (`step.rt`), `advance` (`events.rt`), `fault` (`faults.rt`, `crash.rt`).
 //! 3. A step pops the first occurrence. If its host runs, a sync makes writes stable, the host
 //!    draws a word, its node reacts, and the effects are carried out in order (`effects.rt`).
-//! 4. Each primitive change of the parts (`changes.rt`) updates the index and pushes one small
-//!    change onto the trail.
+//! 4. Each primitive change of the parts (`changes.rt`) keeps the index true, and says which small
+//!    changes it adds to the trail.
 //! 5. [`World::undo`] undoes the changes from the last to the first, each kind by its own function
 //!    (`take_back.rt`), puts back what the step took out, and restores the index.
 //!
