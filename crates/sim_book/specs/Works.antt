@@ -5,8 +5,7 @@ use Rattle.sim_node.specs.Node.{NodeLaws}
 use Rattle.sim_node.specs.Work.{Work}
 use Rattle.sim_events.specs.declared.Event.TheVariants as event
 use Rattle.sim_world.specs.Events.{Rules, rules}
-use Rattle.sim_moves.specs.Places.{acting, world_at}
-use Rattle.sim_moves.specs.Works.{undone_by, OnlyTurns, Plays}
+use Rattle.sim_moves.specs.Works.{OnlyTurns, Plays}
 use Rattle.sim_tape.specs.Tape.{Tape, is_within_reach, is_near_ahead, reach_here}
 use Rattle.sim_tape.specs.Works.{TakesAtMost, nodes_below, nodes_at_end}
 use Rattle.sim_runs.specs.Works.{TakesBack, Adds, Looks, UndoesAtMost}

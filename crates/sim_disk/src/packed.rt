@@ -58,6 +58,18 @@ fn end(before: usize, more: usize) -> Result<u32, NoMemory>
     Ok(end as u32)
 }
 
+// Adds bytes at the end. Most disks of a checkpoint have none, and need no call.
+#[inline(always)]
+fn append_bytes(all: &mut Vec<u8>, bytes: &[u8]) -> Result<(), NoMemory>
+    ensures ok { OnOk result (all.new.items ≡ all.old.items ++ bytes.now) }
+    ensures err { OnErr result (all.new.items ≡ all.old.items) }
+{
+    if bytes.is_empty() {
+        return Ok(());
+    }
+    all.extend_from_slice(bytes)
+}
+
 impl PackedDisks {
     /// Returns no disks, with room for `disks` disks that have `bytes` stable bytes and `writes`
     /// writes together.
@@ -93,7 +105,7 @@ impl PackedDisks {
             last,
             asked: content.asked,
         };
-        self.bytes.extend_from_slice(content.stable.as_slice())?;
+        append_bytes(&mut self.bytes, content.stable.as_slice())?;
         append_all(&mut self.writes, content.writes.as_slice())?;
         self.spans.push(span)?;
         Ok(())

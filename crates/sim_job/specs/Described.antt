@@ -1,5 +1,5 @@
 -- What the program's tables of arguments and subcommands say to clap.
-use Rattle.std.specs.Prelude.{Bool, List, map}
+use Rattle.std.specs.Prelude.{List, map}
 use Rattle.std.specs.List.{fold}
 use Rattle.clap.specs.Words.{App, Rule, Shape, Text, new_rule, with_subcommand}
 use Rattle.sim_job.specs.CommandLine as line

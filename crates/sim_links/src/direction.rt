@@ -40,8 +40,8 @@ impl LinkState {
     }
 }
 
-// Returns a copy of the messages, in the same order.
-fn copied<M: Drop, F: Fn(&M) -> Result<M, NoMemory>>(
+/// Returns a copy of the messages, in the same order.
+pub(crate) fn copied<M: Drop, F: Fn(&M) -> Result<M, NoMemory>>(
     alloc: Global,
     messages: &[M],
     each: &F,
@@ -53,7 +53,7 @@ fn copied<M: Drop, F: Fn(&M) -> Result<M, NoMemory>>(
     let mut copies = Vec::with_capacity(alloc, messages.len())?;
     for message in messages {
         let copy = each(message)?;
-        copies.push(copy)?;
+        copies.push_reserved(copy);
     }
     Ok(copies)
 }
@@ -150,6 +150,13 @@ impl<M> Direction<M> {
         self.held.pop().unwrap()
     }
 
+    /// Returns a direction in this state that holds these messages.
+    pub(crate) fn of(state: LinkState, held: Vec<M>) -> Direction<M>
+        ensures { result ≡ record { state = state; held = held.items } }
+    {
+        Direction { state, held }
+    }
+
     /// Returns an equal direction.
     pub(crate) fn copy<F: Fn(&M) -> Result<M, NoMemory>>(
         &self,
@@ -164,9 +171,6 @@ impl<M> Direction<M> {
         ensures { IfOk result (λ copy. copy ≡ self.now) }
     {
         let held = copied(alloc, &self.held, each)?;
-        Ok(Direction {
-            state: self.state,
-            held,
-        })
+        Ok(Direction::of(self.state, held))
     }
 }

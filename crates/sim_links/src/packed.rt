@@ -4,7 +4,7 @@ ghost use Rattle.std.specs.Fn.{FnReturnsAt};
 ghost use Rattle.sim_links.specs.Link.{open_link};
 
 use crate::NoMemory;
-use crate::direction::Direction;
+use crate::direction::{Direction, copied};
 use crate::kept::Kept;
 use crate::links::Links;
 use crate::table::Table;
@@ -72,8 +72,13 @@ impl<M> PackedLinks<M> {
         if direction.is_open() {
             return Ok(());
         }
-        let direction = direction.copy(alloc, each)?;
-        self.kept.push(Kept { place, direction })?;
+        // The direction is made where it is stored: a whole one would be moved with its padding.
+        let state = direction.state();
+        let held = copied(alloc, direction.messages(), each)?;
+        self.kept.push(Kept {
+            place,
+            direction: Direction::of(state, held),
+        })?;
         Ok(())
     }
 

@@ -1,5 +1,5 @@
 -- A text between two others.
-use Rattle.std.specs.Prelude.{◌≡◌, ◌≢◌, ℕ, List, ◌++◌, All}
+use Rattle.std.specs.Prelude.{◌≡◌, ◌≢◌, ℕ, ◌++◌, All}
 use Rattle.sim_script.specs.Script.{Text}
 
 -- The text between the two has no `<`.

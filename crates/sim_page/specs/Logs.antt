@@ -1,9 +1,8 @@
 -- The log of the run that a script leaves.
-use Rattle.std.specs.Prelude.{◌≡◌, ℕ, ◌+◌, ◌-◌, Bool, true, false, List, length, Option, unwrap_or}
+use Rattle.std.specs.Prelude.{◌≡◌, ℕ, ◌+◌, ◌-◌, Bool, true, false, List, length, unwrap_or}
 use Rattle.std.specs.Str.Lines.{lines}
 use Rattle.sim_events.specs.declared.Event.{Event}
 use Rattle.sim_world.specs.Events.{Rules}
-use Rattle.sim_script.specs.Script.{Names}
 use Rattle.sim_cli.specs.Turns.{beginning}
 use Rattle.sim_cli.specs.Strict.{are_well}
 use Rattle.sim_cli.specs.Played.{first_events}

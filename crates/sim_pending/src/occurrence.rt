@@ -51,22 +51,6 @@ impl<M> Occurrence<M> {
     }
 }
 
-// Returns an equal input.
-fn copied_input<N: Node>(alloc: Global, input: &Input<N::Msg>) -> Result<Input<N::Msg>, NoMemory>
-    ensures { IfOk result (λ copy. copy ≡ input.now) }
-{
-    match input {
-        Input::Start => Ok(Input::Start),
-        Input::Timer => Ok(Input::Timer),
-        Input::Message { sender, msg } => {
-            let sender = *sender;
-            let msg = N::copy_msg(alloc, msg)?;
-            Ok(Input::Message { sender, msg })
-        }
-        Input::Synced => Ok(Input::Synced),
-    }
-}
-
 /// Returns an equal occurrence. Fails only for want of memory.
 pub fn copied_occurrence<N: Node>(
     alloc: Global,
@@ -76,10 +60,32 @@ pub fn copied_occurrence<N: Node>(
 {
     let host = occurrence.host;
     let covered = occurrence.covered;
-    let input = copied_input::<N>(alloc, &occurrence.input)?;
-    Ok(Occurrence {
-        host,
-        covered,
-        input,
-    })
+    // Each arm makes the whole occurrence, so that its input is not moved apart from it.
+    let copy = match &occurrence.input {
+        Input::Start => Occurrence {
+            host,
+            covered,
+            input: Input::Start,
+        },
+        Input::Timer => Occurrence {
+            host,
+            covered,
+            input: Input::Timer,
+        },
+        Input::Message { sender, msg } => {
+            let sender = *sender;
+            let msg = N::copy_msg(alloc, msg)?;
+            Occurrence {
+                host,
+                covered,
+                input: Input::Message { sender, msg },
+            }
+        }
+        Input::Synced => Occurrence {
+            host,
+            covered,
+            input: Input::Synced,
+        },
+    };
+    Ok(copy)
 }

@@ -1,5 +1,5 @@
 -- How a line of a strict play is answered, and how the play ends at one.
-use Rattle.std.specs.Prelude.{◌≡◌, ℕ, true, List, [], Option, Result, Ok, Err}
+use Rattle.std.specs.Prelude.{◌≡◌, ℕ, true, [], Option, Result, Ok, Err}
 use Rattle.sim_lines.specs.Left.{Passes, PassesSome}
 use Rattle.sim_world.specs.Events.{Rules}
 use Rattle.sim_script.specs.declared.script.ScriptLine.{ScriptLine}

@@ -11,8 +11,8 @@ use Rattle.sim_links.specs.Ways.{Ways, all}
 use Rattle.sim_scenario.specs.declared.reading.Opening.{Opening}
 use Rattle.sim_scenario.specs.declared.reading.Rest.{Rest}
 use Rattle.sim_scenario.specs.Scenario.{Fault, ScenarioText, LinkText, Link, known_keys}
-use Rattle.sim_scenario.specs.Scenario.{client_keys, link_keys, is_format_2, links_fault, link_text}
-use Rattle.sim_scenario.specs.Scenario.{link_tables, links, links_between, host_fault, pair_fault}
+use Rattle.sim_scenario.specs.Scenario.{client_keys, link_keys, is_format_2, links_fault}
+use Rattle.sim_scenario.specs.Scenario.{links, links_between, host_fault, pair_fault}
 use Rattle.sim_scenario.specs.Scenario.{with_links, unknown_key, keyed, at_key, whole_fault}
 use Rattle.sim_scenario.specs.Scenario.{string_fault, list_fault, names_fault, clients_fault}
 use Rattle.sim_scenario.specs.Scenario.{is_name, is_within, wrong_type, out_of_range, is_seed}

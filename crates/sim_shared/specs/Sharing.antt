@@ -1,5 +1,5 @@
 -- A book shared by sessions.
-use Rattle.std.specs.Prelude.{ℕ, ◌≡◌, ◌<◌, List, length, slice_index_or, [], ◌++◌, ◌∷◌}
+use Rattle.std.specs.Prelude.{ℕ, ◌≡◌, ◌<◌, List, length, slice_index_or, []}
 use Rattle.atomic_table.specs.Seated.{TableId}
 use Rattle.sim_events.specs.Scenario.{Scenario}
 use Rattle.sim_world.specs.Events.{Rules}

@@ -51,8 +51,9 @@ fn push_run(alloc: Global, text: &[u8], count: usize, said: &mut Vec<u8>) -> Res
     said.extend_from_slice(times.as_bytes())
 }
 
-/// Returns a text of `Debug` with each run of four or more equal elements of a list shortened:
-/// `[7, None, None, None, None]` becomes `[7, None x 4]`. Fails only for want of memory.
+/// Returns a text of `Debug` with each run of four or more equal elements shortened, of a list, or
+/// of a tuple from its second one on: `[7, None, None, None, None]` becomes `[7, None x 4]`. Fails
+/// only for want of memory.
 pub fn shortened(alloc: Global, text: &[u8]) -> Result<Vec<u8>, NoMemory> {
     let mut said = Vec::new(alloc);
     let mut rest = text;

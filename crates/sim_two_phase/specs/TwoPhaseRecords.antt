@@ -1,5 +1,5 @@
 -- The records of two-phase commit: a role before a reaction.
-use Rattle.std.specs.Prelude.{ℕ, ◌<◌, List, Option, None, Some, slice_set, IfSome}
+use Rattle.std.specs.Prelude.{ℕ, ◌<◌, Some, IfSome}
 use Rattle.sim_node.specs.Node.{NodeRecords}
 use Rattle.sim_hosts.specs.Waiting.{restored, IsPlacedSlot}
 use Rattle.sim_two_phase.specs.declared.roles.Phase.{Phase}

@@ -1,5 +1,6 @@
 //! Packed hosts, as in a checkpoint.
-ghost use Rattle.std.specs.Prelude.{◌≡◌, ◌<◌, length, map, slice_get, Some, is_some, IfOk, OnOk};
+ghost use Rattle.std.specs.Prelude.{◌≡◌, ◌<◌, ◌++◌, ◌∷◌, [], length, map, slice_get, Some};
+ghost use Rattle.std.specs.Prelude.{is_some, IfOk, OnOk};
 ghost use Rattle.std.specs.List.{count_by};
 ghost use Rattle.sim_world.specs.Acts.{copied_by, copied_if};
 ghost use Rattle.sim_world.specs.inside.Packed.{hosts_in, timers_in};
@@ -80,6 +81,39 @@ fn packed_disks<S>(alloc: Global, hosts: &[Host<S>]) -> Result<PackedDisks, NoMe
     Ok(disks)
 }
 
+// Adds a host without its disk, with the serial of its pending timer. Its node, if it has one, is
+// moved once.
+fn push_kept<N: Node>(
+    alloc: Global,
+    kept: &mut Vec<KeptHost<N>>,
+    host: &Host<N>,
+    timer: Option<u64>,
+    meter: &mut N::Meter,
+) -> Result<(), NoMemory>
+    ensures hosts { OnOk result (kept.new.items ≡ kept.old.items ++ record {
+      node = host.now.node;
+      done = host.now.done;
+      timer = timer;
+    } ∷ []) }
+    ensures work { OnOk result (
+        N.Meter.work meter.new ≡ copied_if (is_some host.now.node) (N.Meter.work meter.old)) }
+{
+    let done = host.done;
+    match &host.node {
+        None => kept.push(KeptHost {
+            node: None,
+            done,
+            timer,
+        })?,
+        Some(node) => kept.push(KeptHost {
+            node: Some(node.copy(alloc, meter)?),
+            done,
+            timer,
+        })?,
+    }
+    Ok(())
+}
+
 // Returns the hosts without their disks, with these serials of their pending timers. Copies the
 // nodes of those that run.
 fn kept_hosts<N: Node>(
@@ -99,13 +133,7 @@ fn kept_hosts<N: Node>(
 {
     let mut kept = Vec::with_capacity(alloc, hosts.len())?;
     for i in 0..hosts.len() {
-        let host = &hosts[i];
-        let node = copied_node(alloc, &host.node, meter)?;
-        kept.push(KeptHost {
-            node,
-            done: host.done,
-            timer: timers[i],
-        })?;
+        push_kept(alloc, &mut kept, &hosts[i], timers[i], meter)?;
     }
     Ok(kept)
 }

@@ -1,4 +1,4 @@
-use Rattle.std.proofs.Common.{◌≡◌, ◌∙◌, ◌+◌, ◌<◌, ◌≤◌, ◌++◌, ◌∷◌, [], Bool, ap, sym, length, map, take, is_some, slice_index_or, None, subst, arith}
+use Rattle.std.proofs.Common.{◌≡◌, ◌∙◌, ◌+◌, ◌<◌, ◌≤◌, ◌++◌, ◌∷◌, [], Bool, ap, sym, length, map, take, is_some, slice_index_or, None, refl, subst, arith}
 use Rattle.std.specs.List.{count_by}
 use Rattle.std.proofs.lemmas.List.{take_all, take_more, length_push, map-append}
 use Rattle.sim_world.specs.declared.host.Host.{Host}
@@ -17,24 +17,24 @@ loop-i-preserved g c =
     let host = c.index-hosts-i.result in
     let timer = slice_index_or timers i None in
     let before = c.loop-i.kept.items in
-    let k : KeptHost g.row.N.Denot = record { node = c.in_ok-node.node; done = host.done; timer = timer } in
+    let k : KeptHost g.row.N.Denot = record { node = host.node; done = host.done; timer = timer } in
     let test : Host g.row.N.Denot → Bool = λ x. is_some x.node in
     let inside : i < length hosts = omega arith in
     let within : i ≤ length hosts = omega arith in
     let also : i < length timers = omega arith in
     let more : take (i + 1) hosts ≡ take i hosts ++ host ∷ [] = cc (c.index-hosts-i.is, take_more hosts i host inside) in
     let more_timers : take (i + 1) timers ≡ take i timers ++ timer ∷ [] = take_more timers i None also in
-    let pushed : c.push.new.self.items ≡ before ++ k ∷ [] = c.in_ok-push.ensures.items in
+    let pushed : c.push_kept.new.kept.items ≡ before ++ k ∷ [] = c.in_ok-push_kept.ensures.hosts in
     record {
       hosts = ap (λ kept. hosts_in kept (map (λ h. h.disk) (take (i + 1) hosts))) pushed
           ∙ kept-more hosts i host before k c.loop-i.invariant.hosts c.loop-i.invariant.count within more
-          (ap (λ node. record host { node = node }) c.in_ok-node.ensures.node);
+          refl;
       timers = ap timers_in pushed ∙ (map-append (λ x. x.timer) before (k ∷ [])
           ∙ (ap (λ ts. ts ++ timer ∷ []) c.loop-i.invariant.timers ∙ sym more_timers));
       count = ap length pushed ∙ (length_push before k ∙ ap (λ n. n + 1) c.loop-i.invariant.count);
       work = work-more (test host) (g.N.Meter.Meter.work c.args.meter.now) (g.N.Meter.Meter.work c.loop-i.meter) _
           (count_by test (take i hosts)) (count_by test (take (i + 1) hosts))
-          c.loop-i.invariant.work c.in_ok-node.ensures.work (ap (count_by test) more ∙ counted-more test (take i hosts) host);
+          c.loop-i.invariant.work c.in_ok-push_kept.ensures.work (ap (count_by test) more ∙ counted-more test (take i hosts) host);
     }
 
 pub returns-clause-hosts : goal.returns-clause-hosts
