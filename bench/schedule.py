@@ -2,7 +2,7 @@
 """Says how long the gate takes on the clock, by a model of how `rt ci` spreads its work.
 
     bench/schedule.py [PROCESSORS [GIB]]     by default 4 processors and 22 GiB of free memory
-    bench/schedule.py 4 22 simback           ./build.py: this program and the libraries below it
+    bench/schedule.py 4 simback              ./build.py simback
 
 It takes the seconds of bench/seconds.txt, and the dependencies of crates.txt. The rules are those
 of the toolchain: a check begins when all that it stands on is proved, first those with the most
@@ -13,6 +13,10 @@ proof more of them if nothing else can begin.
 
 It prints the checks of two minutes and more, each with its begin and end in minutes, and last the
 time on the clock, the processor minutes and the longest chain.
+
+For a program the rules are those of build.py itself, whose schedule this calls. A check with
+several jobs takes less time and more work, by the shares below. It prints the checks of one minute
+and more, and no chain.
 """
 
 import os
@@ -23,8 +27,21 @@ import sys
 TOP = pathlib.Path(__file__).resolve().parent.parent
 KIT = pathlib.Path(os.path.realpath(shutil.which("rt") or sys.exit("there is no rt"))).parents[1]
 
+sys.dont_write_bytecode = True
+sys.path.insert(0, str(TOP))
+import build
+
 # What a check over a second proof takes of the memory of one from nothing.
 OVER = 0.7
+
+# The seconds for which a check of the gate looks for contracts that no call can meet, whatever the
+# crate, and what a program takes if one compiler builds it and not two.
+EMPTY_CONTRACTS = 4
+WITHOUT_SECOND_BUILD = 0.7
+
+# What a check with several jobs takes of the time and of the work of one.
+TIME_WITH_JOBS = {1: 1, 2: 0.61, 3: 0.47, 4: 0.4}
+WORK_WITH_JOBS = {1: 1, 2: 1.2, 3: 1.33, 4: 1.5}
 
 
 def words_of(file, mark):
@@ -85,24 +102,23 @@ def add_edits(tasks, name, crates, memory, seconds):
         tasks[f"{name} edit {number}"] = Task(both, crates.lines[name], memory, edit, True)
 
 
-def tasks_of(crates, program=None):
-    """Returns the checks of the gate, each after those that it waits for.
+def seconds_of_crates():
+    """Returns the seconds of each crate: of its proof, of its tests, and of a wrong body."""
+    return {head[0]: [0 if it == "-" else int(it) for it in head[1:]]
+            for head, _ in words_of("bench/seconds.txt", "#")}
 
-    With a program, only its crates, without second proofs and wrong bodies.
-    """
-    tasks, seconds = {}, {}
-    for head, _ in words_of("bench/seconds.txt", "#"):
-        seconds[head[0]] = [0 if it == "-" else int(it) for it in head[1:]]
-    tops = [program] if program else crates.cited
-    lowest_first = dict.fromkeys(it for name in tops for it in [*crates.below(name), name])
+
+def tasks_of(crates):
+    """Returns the checks of the gate, each after those that it waits for."""
+    tasks, seconds = {}, seconds_of_crates()
+    lowest_first = dict.fromkeys(it for name in crates.cited for it in [*crates.below(name), name])
     for name in lowest_first:
         proof, tests, edit = seconds[name]
         below = [f"{it} proof" for it in crates.below(name)]
         lines, memory = crates.lines[name], crates.memory(name)
         tasks[f"{name} proof"] = Task(below, lines, memory, proof)
         tasks[f"{name} tests"] = Task(below, lines if tests else 0, memory, tests)
-        if not program:
-            add_edits(tasks, name, crates, memory, (proof, edit))
+        add_edits(tasks, name, crates, memory, (proof, edit))
     for name in reversed(tasks):
         for other in tasks[name].waits:
             tasks[other].behind = max(tasks[other].behind,
@@ -137,10 +153,34 @@ def chain_of(tasks):
     return longest[last], last
 
 
+def time_of_build(program, processors):
+    """Prints how long ./build.py takes for a program, with its longer checks."""
+    crates, seconds = build.Crates(), seconds_of_crates()
+    schedule = build.Schedule([*crates.below(program), program], crates, processors)
+    running, now, total = {}, 0, 0
+    while schedule.left or running:
+        for name, jobs in schedule.begin().items():
+            # Most of a program's time is LLVM's, which has one job.
+            jobs = 1 if name == program else jobs
+            work = seconds[name][0] - EMPTY_CONTRACTS
+            work *= WITHOUT_SECOND_BUILD if name == program else 1
+            running[name] = (now, now + work * TIME_WITH_JOBS[jobs])
+            total += work * WORK_WITH_JOBS[jobs]
+        now = min(end for _, end in running.values())
+        for name in [it for it, (_, end) in running.items() if end == now]:
+            start, end = running.pop(name)
+            del schedule.running[name]
+            if end - start >= 60:
+                print(f"{start / 60:6.1f} {end / 60:6.1f}  {name}")
+    print(f"{now / 60:.0f} minutes on {processors} processors, {total / 60:.0f} processor minutes")
+
+
 def main():
+    if sys.argv[2:3] and not sys.argv[2].isdigit():
+        return time_of_build(sys.argv[2], int(sys.argv[1]))
     numbers = [int(word) for word in sys.argv[1:3]]
     processors, gib = numbers + [4, 22][len(numbers):]
-    tasks = tasks_of(Crates(), *sys.argv[3:4])
+    tasks = tasks_of(Crates())
     left = sorted(tasks, key=lambda it: (tasks[it].fills, -tasks[it].behind))
     running, ended, now = {}, set(), 0
     while left or running:
