@@ -32,9 +32,12 @@ back 0 1: 3 0 Asked
 summary 0: 3 Summary { clock: 0, serial: 2, net: 0, torn: 0, pending: 0, held: 1 }
 forward 0 1: 4 0 Asked
 next 0: 4 Next(Some(Coming { due: 0, serial: 2, host: 0, kind: Message }))
-#4 2 A crash is undone.
+#4 2 A crash is undone, of a host that runs and of one that is stopped.
 crash 0 0: 1 0 Asked
 summary 0: 1 Summary { clock: 0, serial: 2, net: 0, torn: 0, pending: 1, held: 0 }
+back 0 1: 0 0 Asked
+summary 0: 0 Summary { clock: 0, serial: 2, net: 0, torn: 0, pending: 2, held: 0 }
+forward 0 1: 1 0 Asked
 crash 0 0: 2 0 Asked
 summary 0: 2 Summary { clock: 0, serial: 2, net: 0, torn: 0, pending: 1, held: 0 }
 back 0 1: 1 0 Asked
