@@ -136,7 +136,7 @@ impl<N: Node> Book<N> {
         };
         let branches = &mut self.branches;
         let reply = carry_out(alloc, &self.scenario, branches, &mut self.meter, &command);
-        let (reply, told) = twin(alloc, reply);
+        let (reply, told) = twin(reply);
         let number = self.numbers[session as usize] + 1;
         self.numbers[session as usize] = number;
         self.history.push_reserved(Entry {

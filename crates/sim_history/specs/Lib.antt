@@ -1,3 +1,4 @@
 -- The kept events of a run, and the shared parts in which they are kept.
+pub mod Listed
 pub mod Log
 pub mod Segments

@@ -11,29 +11,33 @@ use std::alloc::Global;
 use std::marker::Model;
 use std::sync::Arc;
 
+/// What the lists of the same events share. It has no invariant here; an `EventList` keeps it sound.
+#[derive(Drop)]
+pub(crate) struct Listed {
+    interval: usize,
+    segments: Segments,
+    last: Vec<Entry>,
+}
+
 /// A list of at most 65,536 events, shared and never changed.
 #[derive(Drop)]
 pub struct EventList {
-    interval: usize,
-    segments: Segments,
-    last: Arc<Vec<Entry>>,
+    // A single pointer: a list is one of the forms of a reply, and most replies are small.
+    listed: Arc<Listed>,
 }
 
 impl Model for EventList {
-    ghost use Rattle.std.specs.Prelude.{List, ◌++◌, ◌<◌, ◌≤◌, length};
+    ghost use Rattle.std.specs.Prelude.{List};
     ghost use Rattle.std.specs.Arc.{arc_value};
     ghost use Rattle.sim_events.specs.declared.Event.{Event};
     ghost use Rattle.sim_history.specs.Log.{events_of};
-    ghost use Rattle.sim_history.specs.Segments.{joined, AreSegments};
+    ghost use Rattle.sim_history.specs.Listed.{entries_in, IsListed};
 
     ghost Value = { List Event };
 
-    ghost view = { λ l. events_of (joined l.segments.items ++ (arc_value l.last).items) };
+    ghost view = { λ l. events_of (entries_in (arc_value l.listed)) };
 
-    ghost invariant = { λ l.
-        (0 < l.interval)
-        × AreSegments l.interval l.segments.items
-        × (length (joined l.segments.items ++ (arc_value l.last).items) ≤ 65536) };
+    ghost invariant = { λ l. IsListed (arc_value l.listed) };
 }
 
 impl EventList {
@@ -49,11 +53,13 @@ impl EventList {
         requires few { length (joined segments.items ++ last.items) ≤ 65536 }
         ensures { IfOk result (λ l. l ≡ events_of (joined segments.items ++ last.items)) }
     {
-        let last = Arc::new(alloc, last)?;
-        Ok(EventList {
+        let listed = Listed {
             interval,
             segments,
             last,
+        };
+        Ok(EventList {
+            listed: Arc::new(alloc, listed)?,
         })
     }
 
@@ -62,7 +68,8 @@ impl EventList {
         ensures value { result ≡ length self.now }
         ensures few { length self.now ≤ 65536 }
     {
-        segments::count(self.interval, &self.segments, self.last.as_slice()) as u32
+        let listed = &self.listed;
+        segments::count(listed.interval, &listed.segments, listed.last.as_slice()) as u32
     }
 
     /// Returns the event at a place, or `None` past the last.
@@ -72,25 +79,23 @@ impl EventList {
         if self.len() <= i {
             return None;
         }
+        let listed = &self.listed;
         let entry = segments::entry(
-            self.interval,
-            &self.segments,
-            self.last.as_slice(),
+            listed.interval,
+            &listed.segments,
+            listed.last.as_slice(),
             i as usize,
         );
         Some(entry.event)
     }
 
-    /// Returns an equal list, which shares the events. Fails only for want of memory.
-    pub fn share(&self, alloc: Global) -> Result<EventList, NoMemory>
+    /// Returns an equal list, which shares the events. Takes no memory. Fails, as if for want of
+    /// memory, only where more lists share the events than can be counted.
+    pub fn share(&self) -> Result<EventList, NoMemory>
         ensures { IfOk result (λ l. l ≡ self.now) }
     {
-        let segments = self.segments.share(alloc, self.segments.len())?;
-        let last = Arc::try_clone(&self.last)?;
         Ok(EventList {
-            interval: self.interval,
-            segments,
-            last,
+            listed: Arc::try_clone(&self.listed)?,
         })
     }
 }

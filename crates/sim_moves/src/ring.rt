@@ -131,6 +131,7 @@ impl<N: Node> Ring<N> {
 
     /// Returns the world after an event that can happen. Keeps its record as the newest; a full
     /// ring drops the oldest. Fails only for want of memory; the records are useless then.
+    #[inline(always)]
     pub fn apply(
         &mut self,
         alloc: Global,

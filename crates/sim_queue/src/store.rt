@@ -125,6 +125,7 @@ impl<B> Store<B> {
     }
 
     /// Takes the newest item out, with its slot.
+    #[inline(always)]
     pub(crate) fn remove_last(&mut self) -> Item<B>
         requires keyed { IsKeyed self.old }
         requires newest { HasNewest (pending_in self.old) }

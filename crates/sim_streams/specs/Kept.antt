@@ -8,6 +8,11 @@ abbrev pub AreWords : List ℕ → ℕ → ℕ → List ℕ → Type 0
 AreWords seed stream first words =
     (i : ℕ) → i < length words → slice_index words i ≡ word seed stream (first + i)
 
+-- these are the word of a stream at a place and the next one
+abbrev pub ArePair : List ℕ → ℕ → ℕ → ℕ × ℕ → Type 0
+ArePair seed stream place pair =
+    (pair.0 ≡ word seed stream place) × (pair.1 ≡ word seed stream (place + 1))
+
 -- the stored words are words of the stream
 abbrev pub IsKept : List ℕ → ℕ → Kept → Type 0
 IsKept seed stream kept = AreWords seed stream kept.first kept.words.items

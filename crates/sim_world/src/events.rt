@@ -61,6 +61,7 @@ impl<N: Node> Parts<N> {
 
     // Carries out an event. The record gets only its small changes, and the index entries that the
     // event may change, as they were before.
+    #[inline(always)]
     fn event(
         &mut self,
         sc: &Scenario,
@@ -125,7 +126,9 @@ impl<N: Node> Cluster<N> {
         done.trail.leave_disk(&mut self.parts.spare_disks);
     }
 
-    // Carries out an event that can happen. `undo` becomes the record by which it is undone.
+    // Carries out an event that can happen. `undo` becomes the record by which it is undone. The
+    // callers that carry out many events know their kind, and are spared the choice.
+    #[inline(always)]
     fn apply(
         &mut self,
         event: Event,
@@ -257,6 +260,7 @@ impl<N: Node> World<N> {
 
     /// Like `apply`, but the record replaces one that is no longer needed, and takes its memory.
     /// After an error the record is unspecified.
+    #[inline(always)]
     pub fn apply_over(
         self,
         event: Event,

@@ -281,7 +281,7 @@ fn a_frozen_run_makes_tapes(rt: HostRuntime) -> Result<(), Fail> {
     let alloc = rt.alloc();
     let mut meter = Counts::new();
     let run = frozen(alloc, &mut meter)?;
-    run.events().share(alloc)?;
+    run.events().share()?;
     for (place, work, clock) in &TAPES {
         assert!(rt; makes_tape(alloc, &run, *place, *work, *clock, &mut meter)?);
     }
