@@ -469,7 +469,9 @@ impl<N: Node> Tape<N> {
         ensures growth { IfErr result (λ why. why ≡ AddError.Growth → self.new ≡ self.old) }
     {
         if !self.log.goes_on() {
-            return self.add_at_seam(alloc, event, meter);
+            // A copy of its own: the compiler takes what is passed on here as changed.
+            let last = event;
+            return self.add_at_seam(alloc, last, meter);
         }
         let (clock, _) = self.walk.step(alloc, &self.log, event, false, meter)?;
         self.log.push(Entry { event, clock });
