@@ -8,7 +8,7 @@ use Rattle.sim_history.specs.Segments.{joined, AreSegments}
 abbrev pub entries_in : Listed → List Entry
 entries_in l = joined l.segments.items ++ l.last.items
 
--- each segment is full, and there are at most 65,536 entries
+-- each segment has the entries of one interval, and there are at most 65,536 in all
 pub record IsListed (l : Listed) : Type 0 where
   pub some : 0 < l.interval
   pub full : AreSegments l.interval l.segments.items

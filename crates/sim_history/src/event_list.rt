@@ -11,7 +11,8 @@ use std::alloc::Global;
 use std::marker::Model;
 use std::sync::Arc;
 
-/// What the lists of the same events share. It has no invariant here; an `EventList` keeps it sound.
+/// What all lists of the same events share. `IsListed` is an invariant of `EventList`, and not of
+/// this type.
 #[derive(Drop)]
 pub(crate) struct Listed {
     interval: usize,

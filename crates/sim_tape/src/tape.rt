@@ -469,7 +469,8 @@ impl<N: Node> Tape<N> {
         ensures growth { IfErr result (λ why. why ≡ AddError.Growth → self.new ≡ self.old) }
     {
         if !self.log.goes_on() {
-            // A copy of its own: the compiler takes what is passed on here as changed.
+            // Passes a copy on, so that no call gets the address of `event`, and the compiler knows
+            // below that it is as it was.
             let last = event;
             return self.add_at_seam(alloc, last, meter);
         }

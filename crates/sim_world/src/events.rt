@@ -126,8 +126,8 @@ impl<N: Node> Cluster<N> {
         done.trail.leave_disk(&mut self.parts.spare_disks);
     }
 
-    // Carries out an event that can happen. `undo` becomes the record by which it is undone. The
-    // callers that carry out many events know their kind, and are spared the choice.
+    // Carries out an event that can happen. `undo` becomes the record by which it is undone. Inlined
+    // into its callers, since the loop of a run passes a step and then needs no test of the event.
     #[inline(always)]
     fn apply(
         &mut self,
