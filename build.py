@@ -14,8 +14,9 @@ It says when each crate is proved. At one that is not, it prints what the check 
 other and ends with status 1. The last line has the time of the whole run.
 
 The option --cpu changes what a program is compiled for, not what is proved. A program for x86-64-v3
-takes 3 to 8 percent fewer instructions, and ends at once with status 127 on a processor that is
-older. Without the option a program is for x86-64-v2, which processors have had since 2009.
+takes 3 to 8 percent fewer instructions, is by time from 6 percent faster to 3 percent slower, and
+ends at once with status 127 on a processor that is older. Without the option a program is for
+x86-64-v2, which processors have had since 2009.
 
 Libraries that do not stand on each other are proved side by side, first those with the longest
 chain of others above them. As in the gate, a crate is proved over the statements of the libraries
