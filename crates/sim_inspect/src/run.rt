@@ -1,10 +1,12 @@
 //! The kept events of a branch, described one after the other.
-ghost use Rattle.std.specs.Prelude.{◌≡◌, ◌+◌, ◌-◌, ◌≤◌, false, length, IfOk, IfSome, IsTrue, OnOk};
+ghost use Rattle.std.specs.Prelude.{◌≡◌, ◌+◌, ◌-◌, ◌<◌, ◌≤◌, ◌↔◌, false, length};
+ghost use Rattle.std.specs.Prelude.{IfOk, IfSome, IsSome, IsTrue, OnOk};
 ghost use Rattle.std.specs.Option.{option_map};
 ghost use Rattle.sim_world.specs.Events.{rules};
 ghost use Rattle.sim_book.specs.Book.{branch as branch_in};
 ghost use Rattle.sim_book.specs.Freezing.{IsWhole};
 ghost use Rattle.sim_book.specs.Kept.{all_shown};
+ghost use Rattle.sim_runs.specs.Branch.{world_of};
 ghost use Rattle.sim_log.specs.Lines.{AreLines};
 ghost use Rattle.sim_log.specs.Range.{IsRange};
 
@@ -69,7 +71,9 @@ pub fn place_of<N: Node>(book: &Book<N>, branch: u32) -> u32
 
 /// Returns the number of events that a branch keeps, or 0 if there is no such branch. Fails only
 /// for want of memory.
-pub fn kept_of<N: Node>(alloc: Global, book: &Book<N>, branch: u32) -> Result<u32, NoMemory> {
+pub fn kept_of<N: Node>(alloc: Global, book: &Book<N>, branch: u32) -> Result<u32, NoMemory>
+    ensures { IfOk result (λ n. n ≡ length (branch_in branch (all_shown book.now.kept)).events) }
+{
     match frozen_of(alloc, book, branch)? {
         Some(run) => Ok(run.events().len()),
         None => Ok(0),
@@ -83,8 +87,12 @@ pub fn whereabouts<N: Node<Meter: FreshMeter>>(
     book: &Book<N>,
     branch: u32,
 ) -> Result<Option<(u32, u64)>, NoMemory>
-    ensures { IfOk result (λ o. IfSome o
+    ensures there { IfOk result (λ o. IsSome o ↔ (branch < length book.now.kept)) }
+    ensures place { IfOk result (λ o. IfSome o
         (λ x. x.0 ≡ (branch_in branch (all_shown book.now.kept)).place)) }
+    ensures clock { IfOk result (λ o. IfSome o
+        (λ x. x.1 ≡ (world_of (rules N.laws N.PROBES book.now.scenario)
+        (branch_in branch (all_shown book.now.kept))).clock)) }
 {
     let place = place_of(book, branch);
     if let Some(world) = book.here(branch) {
