@@ -122,4 +122,8 @@ impl<T: Meter> Node for AbdRegister<T> {
     fn copy_msg(_alloc: Global, msg: &AbdMsg) -> Result<AbdMsg, NoMemory> {
         Ok(*msg)
     }
+
+    fn copy_input(_alloc: Global, input: &Input<AbdMsg>) -> Result<Input<AbdMsg>, NoMemory> {
+        Ok(*input)
+    }
 }

@@ -1,12 +1,12 @@
 ghost use Rattle.std.specs.Prelude.{◌≡◌, ◌+◌, ◌<◌, ◌≤◌, List, [], ◌∷◌, ◌++◌, length, IfOk, IfNone};
-ghost use Rattle.std.specs.Prelude.{IfSome};
+ghost use Rattle.std.specs.Prelude.{IfSome, slice_get};
+ghost use Rattle.std.specs.Option.{option_map};
 ghost use Rattle.sim_node.specs.Effects.{Effect as Asked, Effects as EffectsValue, IsWithin};
 ghost use Rattle.sim_node.specs.Effects.{AllWithin, IsLimited};
 ghost use Rattle.sim_node.specs.Seen.{seen, IsStored};
 
 use crate::{MAX_EFFECTS, MAX_WRITE_BYTES, NoMemory, Setup};
 use std::alloc::Global;
-use std::collections::VecDeque;
 use std::marker::Model;
 
 /// An effect that a node asks for when it reacts.
@@ -41,12 +41,12 @@ pub enum Effect<M> {
 #[derive(Drop)]
 pub struct Effects<M> {
     hosts: u16,
-    list: VecDeque<Effect<M>>,
+    list: Vec<Effect<M>>,
 }
 
 impl<M> Model for Effects<M> {
     ghost use Rattle.std.specs.Prelude.{◌≤◌, length, map};
-    ghost use Rattle.std.specs.VecDeque.{deque_capacity};
+    ghost use Rattle.std.specs.Vec.{vec_capacity};
     ghost use Rattle.sim_node.specs.Effects.{Effects as EffectsValue};
     ghost use Rattle.sim_node.specs.Seen.{seen, AllStored};
 
@@ -54,7 +54,7 @@ impl<M> Model for Effects<M> {
 
     ghost view = { λ e. record { hosts = e.hosts; list = map seen e.list.items } };
 
-    ghost invariant = { λ e. (length e.list.items ≤ 40) × (40 ≤ deque_capacity e.list)
+    ghost invariant = { λ e. (length e.list.items ≤ 40) × (40 ≤ vec_capacity e.list)
         × AllStored e.hosts e.list.items };
 }
 
@@ -66,7 +66,7 @@ impl<M> Effects<M> {
     {
         Ok(Effects {
             hosts: setup.hosts,
-            list: VecDeque::with_capacity(alloc, MAX_EFFECTS)?,
+            list: Vec::with_capacity(alloc, MAX_EFFECTS)?,
         })
     }
 
@@ -86,6 +86,15 @@ impl<M> Effects<M> {
         self.list.len()
     }
 
+    /// Returns the effect at a place, or `None` if there are fewer. It is within the limits.
+    #[inline(always)]
+    pub fn get(&self, i: usize) -> Option<&Effect<M>>
+        ensures effect { option_map (λ e. seen e.now) result ≡ slice_get self.now.list i }
+        ensures stored { IfSome result (λ e. IsStored self.now.hosts e.now) }
+    {
+        self.list.get(i)
+    }
+
     /// Removes and returns the first effect; the others keep their order. If there is none, returns
     /// `None` and changes nothing. The effects are within the limits.
     pub fn take_first(&mut self) -> Option<Effect<M>>
@@ -95,17 +104,28 @@ impl<M> Effects<M> {
         ensures stored { IfSome result (λ e. IsStored self.old.hosts e) }
         ensures limited { IsLimited self.old }
     {
-        self.list.pop_front()
+        if self.list.is_empty() {
+            return None;
+        }
+        Some(self.list.remove(0))
     }
 }
 
 impl<M: Drop> Effects<M> {
+    /// Drops all effects. The value is then as `new` made it.
+    #[inline(always)]
+    pub fn clear(&mut self)
+        ensures { self.new ≡ record self.old { list = [] } }
+    {
+        self.list.clear();
+    }
+
     fn push(&mut self, effect: Effect<M>)
         requires room { length self.old.list < 40 }
         requires stored { IsStored self.old.hosts effect }
         ensures { self.new ≡ record self.old { list = self.old.list ++ seen effect ∷ [] } }
     {
-        self.list.push_back_reserved(effect);
+        self.list.push_reserved(effect);
     }
 
     /// Asks to send a message to a host of the cluster, which may be the node's own. There are

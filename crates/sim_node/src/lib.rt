@@ -74,7 +74,7 @@ pub struct Setup {
 }
 
 /// An input to which a node reacts.
-#[derive(Drop)]
+#[derive(Clone, Copy, Drop)]
 pub enum Input<M> {
     /// The host has started: once after each boot, unless it stops before. A message that is due at
     /// the same time and was queued earlier comes first.

@@ -105,6 +105,23 @@ pub trait Node: Drop {
     /// Returns an equal message.
     fn copy_msg(alloc: Global, msg: &Self::Msg) -> Result<Self::Msg, NoMemory>
         ensures { IfOk result (λ m. m ≡ msg.now) };
+
+    /// Returns an equal input. A node with `Copy` messages can give `Ok(*input)`, which is faster:
+    /// a checkpoint copies each pending input.
+    fn copy_input(alloc: Global, input: &Input<Self::Msg>) -> Result<Input<Self::Msg>, NoMemory>
+        ensures { IfOk result (λ copy. copy ≡ input.now) }
+    {
+        let copy = match input {
+            Input::Start => Input::Start,
+            Input::Message { sender, msg } => Input::Message {
+                sender: *sender,
+                msg: Self::copy_msg(alloc, msg)?,
+            },
+            Input::Timer => Input::Timer,
+            Input::Synced => Input::Synced,
+        };
+        Ok(copy)
+    }
 }
 
 /// Lets a node react and undoes the reaction at once: the node is as before, and `effects` keeps

@@ -58,34 +58,10 @@ pub fn copied_occurrence<N: Node>(
 ) -> Result<Occurrence<N::Msg>, NoMemory>
     ensures { IfOk result (λ copy. copy ≡ occurrence.now) }
 {
-    let host = occurrence.host;
-    let covered = occurrence.covered;
-    // Each arm makes the whole occurrence, so that its input is not moved apart from it.
-    let copy = match &occurrence.input {
-        Input::Start => Occurrence {
-            host,
-            covered,
-            input: Input::Start,
-        },
-        Input::Timer => Occurrence {
-            host,
-            covered,
-            input: Input::Timer,
-        },
-        Input::Message { sender, msg } => {
-            let sender = *sender;
-            let msg = N::copy_msg(alloc, msg)?;
-            Occurrence {
-                host,
-                covered,
-                input: Input::Message { sender, msg },
-            }
-        }
-        Input::Synced => Occurrence {
-            host,
-            covered,
-            input: Input::Synced,
-        },
-    };
-    Ok(copy)
+    let input = N::copy_input(alloc, &occurrence.input)?;
+    Ok(Occurrence {
+        host: occurrence.host,
+        covered: occurrence.covered,
+        input,
+    })
 }

@@ -166,4 +166,8 @@ impl<T: Meter> Node for PrimaryBackup<T> {
     fn copy_msg(_alloc: Global, msg: &BackupMsg) -> Result<BackupMsg, NoMemory> {
         Ok(*msg)
     }
+
+    fn copy_input(_alloc: Global, input: &Input<BackupMsg>) -> Result<Input<BackupMsg>, NoMemory> {
+        Ok(*input)
+    }
 }

@@ -158,4 +158,8 @@ impl<T: Meter> Node for TwoPhase<T> {
     fn copy_msg(_alloc: Global, msg: &CommitMsg) -> Result<CommitMsg, NoMemory> {
         Ok(*msg)
     }
+
+    fn copy_input(_alloc: Global, input: &Input<CommitMsg>) -> Result<Input<CommitMsg>, NoMemory> {
+        Ok(*input)
+    }
 }

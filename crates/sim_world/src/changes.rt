@@ -30,12 +30,13 @@ use sim_links::Way;
 use sim_node::{Input, Node};
 use sim_pending::{Crossing, Occurrence, draw_crossing};
 
-/// A message on its way from one host to another.
-#[derive(Drop)]
-pub(crate) struct Letter<M> {
+/// A message on its way from one host to another. The node's effect has it; it is copied where it
+/// goes, and not before, so that a message that is dropped needs no memory.
+#[derive(Clone, Copy)]
+pub(crate) struct Letter<'a, M> {
     pub(crate) from: u16,
     pub(crate) to: u16,
-    pub(crate) msg: M,
+    pub(crate) msg: &'a M,
 }
 
 impl<N: Node> Parts<N> {
@@ -95,20 +96,22 @@ impl<N: Node> Parts<N> {
         index: &mut Index,
         trail: &mut Trail<N>,
         due: u64,
-        letter: Letter<N::Msg>,
+        letter: &Letter<'_, N::Msg>,
     ) -> Result<(), NoMemory>
         requires room { self.old.world.queue.next_serial < 2 ^ 40 }
         requires index { IsIndex index.old self.old.world }
         requires few { IsFalse (is_full self.old.world) }
         ensures world { OnOk result (
             self.new ≡ record self.old {
-              world = queued due letter.to (Body.Message letter.from letter.msg) self.old.world;
+              world = queued due letter.now.to
+                  (Body.Message letter.now.from letter.now.msg.now) self.old.world;
             }) }
         ensures index { OnOk result (IsIndex index.new self.new.world) }
         ensures trail { OnOk result (
             Extends N.records trail.old self.old.world trail.new self.new.world) }
     {
-        let Letter { from, to, msg } = letter;
+        let Letter { from, to, msg } = *letter;
+        let msg = N::copy_msg(self.alloc(), msg)?;
         let input = Input::Message { sender: from, msg };
         index.in_flight += 1;
         self.queue_up(trail, due, to, 0, input)
@@ -120,14 +123,15 @@ impl<N: Node> Parts<N> {
         index: &mut Index,
         trail: &mut Trail<N>,
         due: u64,
-        letter: Letter<N::Msg>,
+        letter: &Letter<'_, N::Msg>,
     ) -> Result<(), NoMemory>
         requires room { self.old.world.queue.next_serial < 2 ^ 40 }
         requires index { IsIndex index.old self.old.world }
         requires few { IsFalse (is_full self.old.world) }
         ensures world { OnOk result (
             self.new ≡ record self.old {
-              world = queued due letter.to (Body.Message letter.from letter.msg) self.old.world;
+              world = queued due letter.now.to
+                  (Body.Message letter.now.from letter.now.msg.now) self.old.world;
             }) }
         ensures index { OnOk result (IsIndex index.new self.new.world) }
         ensures items { OnOk result (
@@ -136,7 +140,8 @@ impl<N: Node> Parts<N> {
             (t : Changes N N.Msg N.Undo) → Extends N.records t self.old.world
             (added t (small.Queued ∷ [])) self.new.world) }
     {
-        let Letter { from, to, msg } = letter;
+        let Letter { from, to, msg } = *letter;
+        let msg = N::copy_msg(self.alloc(), msg)?;
         let input = Input::Message { sender: from, msg };
         self.enqueue(due, to, 0, input)?;
         index.in_flight += 1;
@@ -286,23 +291,24 @@ impl<N: Node> Parts<N> {
         &mut self,
         index: &mut Index,
         trail: &mut Trail<N>,
-        letter: Letter<N::Msg>,
+        letter: &Letter<'_, N::Msg>,
     ) -> Result<(), NoMemory>
-        requires from { letter.from < 32 }
-        requires to { letter.to < 32 }
+        requires from { letter.now.from < 32 }
+        requires to { letter.now.to < 32 }
         requires links { length self.old.world.links ≡ 1024 }
-        requires held { (link letter.from letter.to self.old.world.links).state ≡ state.Held }
+        requires held { (link letter.now.from letter.now.to self.old.world.links).state ≡ state.Held }
         requires index { IsIndex index.old self.old.world }
         requires few { IsFalse (is_full self.old.world) }
         ensures world { OnOk result (
             self.new ≡ record self.old {
-              world = held_back letter.from letter.to letter.msg self.old.world;
+              world = held_back letter.now.from letter.now.to letter.now.msg.now self.old.world;
             }) }
         ensures index { OnOk result (IsIndex index.new self.new.world) }
         ensures trail { OnOk result (
             Extends N.records trail.old self.old.world trail.new self.new.world) }
     {
-        let Letter { from, to, msg } = letter;
+        let Letter { from, to, msg } = *letter;
+        let msg = N::copy_msg(self.alloc(), msg)?;
         self.links.keep(from, to, msg)?;
         index.held += 1;
         trail.push(Compact::KeptBack(from, to))
