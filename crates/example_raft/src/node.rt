@@ -153,4 +153,8 @@ impl<V: Variant, T: Meter> Node for Raft<V, T> {
     fn copy_msg(_alloc: Global, msg: &Message) -> Result<Message, NoMemory> {
         Ok(*msg)
     }
+
+    fn copy_input(_alloc: Global, input: &Input<Message>) -> Result<Input<Message>, NoMemory> {
+        Ok(*input)
+    }
 }
