@@ -76,6 +76,7 @@ impl<T: Meter> Node for AbdRegister<T> {
         })
     }
 
+    #[inline(always)]
     fn act(
         &mut self,
         _alloc: Global,

@@ -79,6 +79,7 @@ impl<T: Meter> Node for PrimaryBackup<T> {
         })
     }
 
+    #[inline(always)]
     fn act(
         &mut self,
         _alloc: Global,

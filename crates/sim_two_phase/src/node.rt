@@ -80,6 +80,7 @@ impl<T: Meter> Node for TwoPhase<T> {
         })
     }
 
+    #[inline(always)]
     fn act(
         &mut self,
         _alloc: Global,
