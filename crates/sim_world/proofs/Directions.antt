@@ -17,12 +17,12 @@ use Rattle.sim_world.specs.World.{World, one_way, on_release, arrived, in_flight
 use Rattle.sim_pending.specs.Recall.{newest_messages, AreNewest}
 use Rattle.sim_world.specs.Records.{FitsOne, back_one}
 use Rattle.sim_world.specs.inside.Trail.{Changes, Extends, added}
-use Rattle.sim_world.specs.inside.Index.{IsIndex, timers_of}
+use Rattle.sim_world.specs.inside.Index.{IsIndex, timers_of, others_of}
 use Rattle.sim_world.proofs.Trails.{extends-push}
 use Rattle.sim_world.proofs.Arrivals.{serial-arrived, uninsert_all-arrived, AreNewest-arrived, newest_messages-arrived, arrived-queue}
 use Rattle.sim_world.proofs.SoundEffects.{held-with_link}
 use Rattle.sim_world.proofs.SoundFaults.{kept-let_go, in_flight-arrived}
-use Rattle.sim_world.proofs.Facts.{timers-insert_other}
+use Rattle.sim_world.proofs.Facts.{timers-insert_other, others-insert_none}
 
 direction-within : (a b : ℕ) → a < 32 → b < 32 → direction a b < 1024
 direction-within a b p q = omega arith
@@ -80,7 +80,7 @@ module _ {State Msg : Type 0} (w : World State Msg) (table : Links Msg) (a b : �
       → IsIndex (record index { held = index.held - n }) (record w { links = table })
   closed_index c index n is long p q gone e =
       let sums = held-changed c long p q e in let h = is.held in let few' = is.few in
-      record { in_flight = is.in_flight; held = omega arith; few = omega arith; hosts = is.hosts; timers = is.timers }
+      record { in_flight = is.in_flight; held = omega arith; few = omega arith; hosts = is.hosts; timers = is.timers; counted = is.counted; others = is.others }
 
   timers-arrived : (due h : ℕ) (ms : List Msg) (q : Pending (Occurrence Msg)) → timers_of h (all_arrived due a b ms q).items ≡ timers_of h q.items
   timers-arrived due h [] q = refl
@@ -89,6 +89,14 @@ module _ {State Msg : Type 0} (w : World State Msg) (table : Links Msg) (a b : �
       no_timer : (t : Bool) → (t && false) ≡ false
       no_timer true = refl
       no_timer false = refl
+
+  others-arrived : (due h : ℕ) (ms : List Msg) (q : Pending (Occurrence Msg)) → others_of h (all_arrived due a b ms q).items ≡ others_of h q.items
+  others-arrived due h [] q = refl
+  others-arrived due h (m ∷ ms) q = others-arrived due h ms _ ∙ others-insert_none h q.items _ (no_other (b == h))
+    where
+      no_other : (t : Bool) → (t && false) ≡ false
+      no_other true = refl
+      no_other false = refl
 
   pub released_index : (index : Index) (q : Pending (Occurrence Msg)) (n : ℕ) (ms : List Msg) → IsIndex index w → length w.links ≡ 1024 → a < 32 → b < 32
       → n ≡ length ms → ms ≡ let_go change.Release (link a b w.links) → table ≡ with_link a b (changed change.Release (link a b w.links)) w.links
@@ -105,6 +113,8 @@ module _ {State Msg : Type 0} (w : World State Msg) (table : Links Msg) (a b : �
         few = omega arith;
         hosts = is.hosts;
         timers = λ k lt. ap (λ x. timers_of k x.items) arr ∙ (timers-arrived w.clock k ms w.queue ∙ is.timers k lt);
+        counted = is.counted;
+        others = λ k lt. ap (λ x. others_of k x.items) arr ∙ (others-arrived w.clock k ms w.queue ∙ is.others k lt);
       }
 
 module _ {State Msg Undo : Type 0} (records : NodeRecords State Undo) (w : World State Msg) (table : Links Msg) (undo : LinkUndo) where

@@ -16,7 +16,7 @@ use Rattle.sim_world.specs.World.{World}
 use Rattle.sim_world.specs.inside.Index.{IsIndex}
 use Rattle.sim_world.specs.Records.{InHand}
 use Rattle.sim_world.specs.inside.Held.{Held, IsHeld, in_hand}
-use Rattle.sim_world.specs.inside.Packed.{HostsInHand, hosts_in, timers_in, IsPacked}
+use Rattle.sim_world.specs.inside.Packed.{HostsInHand, hosts_in, timers_in, others_in, IsPacked}
 use Rattle.sim_world.specs.inside.Sound.{IsSound}
 use Rattle.sim_world.proofs.Copying.{index-of-same}
 
@@ -65,23 +65,24 @@ kept-more {State} hosts i host kept k so_far count within more same =
     ∙ (ap (λ h. take i hosts ++ h ∷ []) same ∙ sym more)))
 
 -- what is kept of a world in hand is that of a world of a run
-pub packed-same : {State Msg : Type 0} (told : State → Setup) (k : Held State Msg) (key : List ℕ) (flying waiting : ℕ) (serials : List (Option ℕ))
+pub packed-same : {State Msg : Type 0} (told : State → Setup) (k : Held State Msg) (key : List ℕ) (flying waiting : ℕ) (serials : List (Option ℕ)) (numbers : List ℕ)
     (kept : InHand State Msg) → IsHeld told k → kept ≡ in_hand k → key ≡ k.parts.seed → flying ≡ k.index.in_flight → waiting ≡ k.index.held
-    → serials ≡ k.index.timers.items → IsPacked told key flying waiting serials kept
-packed-same told k key flying waiting serials kept is same words fly held timers =
-    subst (λ x. IsPacked told key flying waiting serials x) (sym same) (record {
+    → serials ≡ k.index.timers.items → numbers ≡ k.index.others.items → IsPacked told key flying waiting serials numbers kept
+packed-same told k key flying waiting serials numbers kept is same words fly held timers others =
+    subst (λ x. IsPacked told key flying waiting serials numbers x) (sym same) (record {
       sound = is.sound;
-      index = index-of-same k.index flying waiting serials k.parts.world is.index fly held timers;
+      index = index-of-same k.index flying waiting serials numbers k.parts.world is.index fly held timers others;
       seed = words ∙ is.seed;
     })
 
--- hosts that are kept are those that were given, and so are their timers
-pub hosts-same : {State : Type 0} (kept : List (KeptHost State)) (disks : List Disk) (hosts : List (Host State)) (timers : List (Option ℕ))
-    → disks ≡ map (λ h. h.disk) hosts → hosts_in kept (map (λ h. h.disk) hosts) ≡ hosts → timers_in kept ≡ timers
-    → ◌≡◌ {A = HostsInHand State} (record { hosts = hosts_in kept disks; timers = timers_in kept }) (record { hosts = hosts; timers = timers })
-hosts-same kept disks hosts timers same all serials =
-    ap (λ hs. record { hosts = hs; timers = timers_in kept }) (ap (hosts_in kept) same ∙ all)
-    ∙ ap (λ ts. record { hosts = hosts; timers = ts }) serials
+-- hosts that are kept are those that were given, and so are their timers, and their numbers of starts and syncs
+pub hosts-same : {State : Type 0} (kept : List (KeptHost State)) (disks : List Disk) (hosts : List (Host State)) (timers : List (Option ℕ)) (others : List ℕ)
+    → disks ≡ map (λ h. h.disk) hosts → hosts_in kept (map (λ h. h.disk) hosts) ≡ hosts → timers_in kept ≡ timers → others_in kept ≡ others
+    → ◌≡◌ {A = HostsInHand State} (record { hosts = hosts_in kept disks; timers = timers_in kept; others = others_in kept }) (record { hosts = hosts; timers = timers; others = others })
+hosts-same kept disks hosts timers others same all serials numbers =
+    ap (λ hs. record { hosts = hs; timers = timers_in kept; others = others_in kept }) (ap (hosts_in kept) same ∙ all)
+    ∙ (ap (λ ts. record { hosts = hosts; timers = ts; others = others_in kept }) serials
+    ∙ ap (λ ns. record { hosts = hosts; timers = timers; others = ns }) numbers)
 
 -- a world of equal parts
 pub world-same : {State Msg : Type 0} (clock : ℕ) (places places₁ : List ℕ) (queue queue₁ : Pending (Occurrence Msg)) (links links₁ : Links Msg)
@@ -97,11 +98,11 @@ hand-same old now w s e world scenario =
     ap (λ x. record { world = x; scenario = s; age = old.age }) world ∙ (ap (λ x. record { world = old.world; scenario = x; age = old.age }) scenario ∙ e)
 
 -- what is opened of a world that is kept is one of a run, with no effects
-pub opened-held : {State Msg : Type 0} (told : State → Setup) (old now : InHand State Msg) (key : List ℕ) (flying waiting : ℕ) (serials : List (Option ℕ))
-    (k : Held State Msg) → IsPacked told key flying waiting serials old → old ≡ now → k.parts.world ≡ now.world → k.parts.seed ≡ now.scenario.seed
+pub opened-held : {State Msg : Type 0} (told : State → Setup) (old now : InHand State Msg) (key : List ℕ) (flying waiting : ℕ) (serials : List (Option ℕ)) (numbers : List ℕ)
+    (k : Held State Msg) → IsPacked told key flying waiting serials numbers old → old ≡ now → k.parts.world ≡ now.world → k.parts.seed ≡ now.scenario.seed
     → IsIndex k.index now.world → k.effects ≡ record { hosts = old.scenario.setup.hosts; list = [] } → k.scenario ≡ old.scenario → k.age ≡ old.age
     → IsHeld told k
-opened-held told old now key flying waiting serials k is same world seed index effects scenario age = record {
+opened-held told old now key flying waiting serials numbers k is same world seed index effects scenario age = record {
   sound = subst (λ s. IsSound told s k.age k.parts.world) (sym scenario)
       (subst (λ a. IsSound told old.scenario a k.parts.world) (sym age)
       (subst (λ w. IsSound told old.scenario old.age w) (ap (λ h. h.world) same ∙ sym world) is.sound));

@@ -252,18 +252,24 @@ impl<N: Node> Parts<N> {
     fn queue_sync(
         &mut self,
         sc: &Scenario,
+        index: &mut Index,
         trail: &mut Trail<N>,
         h: u16,
         count: u32,
     ) -> Result<(), NoMemory>
         requires clock { self.old.world.clock < 2 ^ 40 }
         requires room { self.old.world.queue.next_serial < 2 ^ 40 }
+        requires host { h < length self.old.world.hosts }
+        requires queue { IsQueue self.old.world.queue }
+        requires index { IsIndex index.old self.old.world }
         ensures world { OnOk result (
             self.new ≡ on_world (queued_after sc.now.disk_latency h (Body.Sync count)) self.old) }
+        ensures index { OnOk result (IsIndex index.new self.new.world) }
         ensures trail { OnOk result (
             Extends N.records trail.old self.old.world trail.new self.new.world) }
     {
         let due = self.clock + u64::from(sc.disk_latency());
+        index.others[h as usize] += 1;
         self.queue_up(trail, due, h, count, Input::Synced)
     }
 
@@ -296,7 +302,8 @@ impl<N: Node> Parts<N> {
         requires from { letter.now.from < 32 }
         requires to { letter.now.to < 32 }
         requires links { length self.old.world.links ≡ 1024 }
-        requires held { (link letter.now.from letter.now.to self.old.world.links).state ≡ state.Held }
+        requires held { (link letter.now.from letter.now.to self.old.world.links).state
+            ≡ state.Held }
         requires index { IsIndex index.old self.old.world }
         requires few { IsFalse (is_full self.old.world) }
         ensures world { OnOk result (
@@ -385,20 +392,24 @@ impl<N: Node> Parts<N> {
     pub(crate) fn ask_sync(
         &mut self,
         sc: &Scenario,
+        index: &mut Index,
         trail: &mut Trail<N>,
         h: u16,
     ) -> Result<(), NoMemory>
         requires host { h < length self.old.world.hosts }
         requires clock { self.old.world.clock < 2 ^ 40 }
         requires room { self.old.world.queue.next_serial < 2 ^ 40 }
+        requires queue { IsQueue self.old.world.queue }
+        requires index { IsIndex index.old self.old.world }
         ensures world { OnOk result (
             self.new ≡ record self.old {
               world = asked (rules N.laws N.PROBES sc.now) h self.old.world;
             }) }
+        ensures index { OnOk result (IsIndex index.new self.new.world) }
         ensures trail { OnOk result (
             Extends N.records trail.old self.old.world trail.new self.new.world) }
     {
         let count = self.ask(trail, h)?;
-        self.queue_sync(sc, trail, h, count)
+        self.queue_sync(sc, index, trail, h, count)
     }
 }

@@ -126,8 +126,9 @@ impl<N: Node> Cluster<N> {
         done.trail.leave_disk(&mut self.parts.spare_disks);
     }
 
-    // Carries out an event that can happen. `undo` becomes the record by which it is undone. Inlined
-    // into its callers, since the loop of a run passes a step and then needs no test of the event.
+    // Carries out an event that can happen. `undo` becomes the record by which it is undone. It is
+    // inlined into its callers, since the loop of a run passes a step and then needs no test of the
+    // event.
     #[inline(always)]
     fn apply(
         &mut self,

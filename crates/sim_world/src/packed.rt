@@ -72,7 +72,7 @@ impl<N: Node> Model for PackedWorld<N> {
     } };
 
     ghost invariant = { λ p. IsPacked N.told p.streams.seed p.in_flight p.held p.hosts.timers
-        (record {
+        p.hosts.others (record {
           world = record {
             clock = p.clock;
             places = p.streams.places;
@@ -101,7 +101,8 @@ impl<N: Node> Cluster<N> {
         )?;
         let links = parts.links.pack(alloc, |msg| N::copy_msg(alloc, msg))?;
         let timers = self.tools.index.timers.as_slice();
-        let hosts = PackedHosts::pack(alloc, parts.hosts.as_slice(), timers, meter)?;
+        let others = self.tools.index.others.as_slice();
+        let hosts = PackedHosts::pack(alloc, parts.hosts.as_slice(), timers, others, meter)?;
         let scenario = Arc::try_clone(&self.scenario)?;
         Ok(PackedWorld {
             clock: parts.clock,
@@ -162,6 +163,7 @@ impl<N: Node> PackedWorld<N> {
             in_flight: self.in_flight,
             held: self.held,
             timers: self.hosts.timers(alloc)?,
+            others: self.hosts.others(alloc)?,
         })
     }
 

@@ -3,7 +3,7 @@ ghost use Rattle.std.specs.Prelude.{◌≡◌, ◌<◌, ◌++◌, ◌∷◌, [],
 ghost use Rattle.std.specs.Prelude.{is_some, IfOk, OnOk};
 ghost use Rattle.std.specs.List.{count_by};
 ghost use Rattle.sim_world.specs.Acts.{copied_by, copied_if};
-ghost use Rattle.sim_world.specs.inside.Packed.{hosts_in, timers_in};
+ghost use Rattle.sim_world.specs.inside.Packed.{hosts_in, timers_in, others_in};
 
 use crate::NoMemory;
 use crate::host::Host;
@@ -12,15 +12,18 @@ use sim_node::Node;
 use std::alloc::Global;
 use std::marker::Model;
 
-/// A host without its disk, and the serial of its pending timer.
+/// A host without its disk, the serial of its pending timer, and the number of its pending starts
+/// and syncs.
 #[derive(Drop)]
 pub struct KeptHost<S> {
     pub node: Option<S>,
     pub done: bool,
     pub timer: Option<u64>,
+    pub others: u64,
 }
 
-/// Hosts with their disks in one place, and the serials of their pending timers.
+/// Hosts with their disks in one place, the serials of their pending timers, and the numbers of
+/// their pending starts and syncs.
 #[derive(Drop)]
 pub(crate) struct PackedHosts<S> {
     kept: Vec<KeptHost<S>>,
@@ -30,12 +33,14 @@ pub(crate) struct PackedHosts<S> {
 impl<S> Model for PackedHosts<S> {
     ghost use Rattle.std.specs.Prelude.{◌≡◌, length};
     ghost use Rattle.sim_world.specs.inside.Packed.{HostsInHand, hosts_in, timers_in};
+    ghost use Rattle.sim_world.specs.inside.Packed.{others_in};
 
     ghost Value = { HostsInHand S };
 
     ghost view = { λ p. record {
       hosts = hosts_in p.kept.items p.disks;
       timers = timers_in p.kept.items;
+      others = others_in p.kept.items;
     } };
 
     ghost invariant = { λ p. length p.disks ≡ length p.kept.items };
@@ -81,19 +86,21 @@ fn packed_disks<S>(alloc: Global, hosts: &[Host<S>]) -> Result<PackedDisks, NoMe
     Ok(disks)
 }
 
-// Adds a host without its disk, with the serial of its pending timer. Its node, if it has one, is
-// moved once.
+// Adds a host without its disk, with the serial of its pending timer and the number of its pending
+// starts and syncs. Its node, if it has one, is moved once.
 fn push_kept<N: Node>(
     alloc: Global,
     kept: &mut Vec<KeptHost<N>>,
     host: &Host<N>,
     timer: Option<u64>,
+    others: u64,
     meter: &mut N::Meter,
 ) -> Result<(), NoMemory>
     ensures hosts { OnOk result (kept.new.items ≡ kept.old.items ++ record {
       node = host.now.node;
       done = host.now.done;
       timer = timer;
+      others = others;
     } ∷ []) }
     ensures work { OnOk result (
         N.Meter.work meter.new ≡ copied_if (is_some host.now.node) (N.Meter.work meter.old)) }
@@ -104,28 +111,33 @@ fn push_kept<N: Node>(
             node: None,
             done,
             timer,
+            others,
         })?,
         Some(node) => kept.push(KeptHost {
             node: Some(node.copy(alloc, meter)?),
             done,
             timer,
+            others,
         })?,
     }
     Ok(())
 }
 
-// Returns the hosts without their disks, with these serials of their pending timers. Copies the
-// nodes of those that run.
+// Returns the hosts without their disks, with these serials of their pending timers, and these
+// numbers of their pending starts and syncs. Copies the nodes of those that run.
 fn kept_hosts<N: Node>(
     alloc: Global,
     hosts: &[Host<N>],
     timers: &[Option<u64>],
+    others: &[u64],
     meter: &mut N::Meter,
 ) -> Result<Vec<KeptHost<N>>, NoMemory>
-    requires { length timers.now ≡ length hosts.now }
+    requires timers { length timers.now ≡ length hosts.now }
+    requires others { length others.now ≡ length hosts.now }
     ensures hosts { IfOk result (λ kept.
         hosts_in kept.items (map (λ host. host.disk) hosts.now) ≡ hosts.now) }
     ensures timers { IfOk result (λ kept. timers_in kept.items ≡ timers.now) }
+    ensures others { IfOk result (λ kept. others_in kept.items ≡ others.now) }
     ensures count { IfOk result (λ kept. length kept.items ≡ length hosts.now) }
     ensures work { OnOk result (
         N.Meter.work meter.new ≡ copied_by (count_by (λ host. is_some host.node) hosts.now)
@@ -133,28 +145,31 @@ fn kept_hosts<N: Node>(
 {
     let mut kept = Vec::with_capacity(alloc, hosts.len())?;
     for i in 0..hosts.len() {
-        push_kept(alloc, &mut kept, &hosts[i], timers[i], meter)?;
+        push_kept(alloc, &mut kept, &hosts[i], timers[i], others[i], meter)?;
     }
     Ok(kept)
 }
 
 impl<N: Node> PackedHosts<N> {
-    /// Returns equal hosts, with these serials of their pending timers. Copies the nodes of those
-    /// that run.
+    /// Returns equal hosts, with these serials of their pending timers, and these numbers of their
+    /// pending starts and syncs. Copies the nodes of those that run.
     pub(crate) fn pack(
         alloc: Global,
         hosts: &[Host<N>],
         timers: &[Option<u64>],
+        others: &[u64],
         meter: &mut N::Meter,
     ) -> Result<PackedHosts<N>, NoMemory>
-        requires { length timers.now ≡ length hosts.now }
-        ensures hosts { IfOk result (λ p. p ≡ record { hosts = hosts.now; timers = timers.now }) }
+        requires timers { length timers.now ≡ length hosts.now }
+        requires others { length others.now ≡ length hosts.now }
+        ensures hosts { IfOk result (λ p.
+            p ≡ record { hosts = hosts.now; timers = timers.now; others = others.now }) }
         ensures work { OnOk result (
             N.Meter.work meter.new ≡ copied_by (count_by (λ host. is_some host.node) hosts.now)
             (N.Meter.work meter.old)) }
     {
         let disks = packed_disks(alloc, hosts)?;
-        let kept = kept_hosts(alloc, hosts, timers, meter)?;
+        let kept = kept_hosts(alloc, hosts, timers, others, meter)?;
         Ok(PackedHosts { kept, disks })
     }
 
@@ -203,5 +218,16 @@ impl<N: Node> PackedHosts<N> {
             timers.push(kept.timer)?;
         }
         Ok(timers)
+    }
+
+    /// Returns the numbers of the hosts' pending starts and syncs.
+    pub(crate) fn others(&self, alloc: Global) -> Result<Vec<u64>, NoMemory>
+        ensures { IfOk result (λ others. others.items ≡ self.now.others) }
+    {
+        let mut others = Vec::with_capacity(alloc, self.kept.len())?;
+        for kept in &self.kept {
+            others.push(kept.others)?;
+        }
+        Ok(others)
     }
 }

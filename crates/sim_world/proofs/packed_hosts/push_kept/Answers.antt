@@ -7,7 +7,7 @@ pub returns-in_ok-push-in-None-clause-hosts : goal.returns-in_ok-push-in-None-cl
 returns-in_ok-push-in-None-clause-hosts g c =
     let added : KeptHost g.row.N.Denot → List (KeptHost g.row.N.Denot) = λ x. c.args.kept.now.items ++ x ∷ [] in
     c.in_ok-push-in-None.ensures.items
-    ∙ ap (λ n. added (record { node = n; done = c.args.host.now.done; timer = c.args.timer })) (sym c.in-None.is)
+    ∙ ap (λ n. added (record { node = n; done = c.args.host.now.done; timer = c.args.timer; others = c.args.others })) (sym c.in-None.is)
 
 pub returns-in_ok-push-in-None-clause-work : goal.returns-in_ok-push-in-None-clause-work
 returns-in_ok-push-in-None-clause-work g c =
@@ -18,8 +18,8 @@ pub returns-in_ok-push-in-Some-clause-hosts : goal.returns-in_ok-push-in-Some-cl
 returns-in_ok-push-in-Some-clause-hosts g c =
     let added : KeptHost g.row.N.Denot → List (KeptHost g.row.N.Denot) = λ x. c.args.kept.now.items ++ x ∷ [] in
     c.in_ok-push-in-Some.ensures.items
-    ∙ (ap (λ s. added (record { node = Some s; done = c.args.host.now.done; timer = c.args.timer })) c.in_ok-copy-in-Some.ensures.state
-    ∙ ap (λ n. added (record { node = n; done = c.args.host.now.done; timer = c.args.timer })) (sym c.in-Some.is))
+    ∙ (ap (λ s. added (record { node = Some s; done = c.args.host.now.done; timer = c.args.timer; others = c.args.others })) c.in_ok-copy-in-Some.ensures.state
+    ∙ ap (λ n. added (record { node = n; done = c.args.host.now.done; timer = c.args.timer; others = c.args.others })) (sym c.in-Some.is))
 
 pub returns-in_ok-push-in-Some-clause-work : goal.returns-in_ok-push-in-Some-clause-work
 returns-in_ok-push-in-Some-clause-work g c =

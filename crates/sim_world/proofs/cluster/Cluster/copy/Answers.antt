@@ -14,6 +14,9 @@ returns-clause-held g c = c.in_ok-index.ensures.held ∙ ap (λ k. k.index.held)
 pub returns-clause-timers : goal.returns-clause-timers
 returns-clause-timers g c = c.in_ok-index.ensures.timers ∙ ap (λ k. k.index.timers.items) c.self.view_is
 
+pub returns-clause-others : goal.returns-clause-others
+returns-clause-others g c = c.in_ok-index.ensures.others ∙ ap (λ k. k.index.others.items) c.self.view_is
+
 pub returns-clause-age : goal.returns-clause-age
 returns-clause-age g c = ap (λ k. k.age) c.self.view_is
 

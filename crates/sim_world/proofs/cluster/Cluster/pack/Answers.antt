@@ -1,4 +1,4 @@
-use Rattle.std.proofs.Common.{◌∙◌, ap, sym, length, is_some}
+use Rattle.std.proofs.Common.{◌∙◌, ap, is_some}
 use Rattle.std.specs.List.{count_by}
 use Rattle.sim_world.specs.Acts.{copied_by}
 use Rattle.sim_world.specs.inside.Held.{in_hand}
@@ -14,11 +14,12 @@ invariant_of-result g c =
     let world = world-same parts.clock _ parts.streams.value.places _ parts.queue _ parts.links _ parts.hosts.items
     (ap (λ s. s.places) streams) c.in_ok-queue.ensures c.in_ok-links.ensures hosts ∙ ap (λ p. p.world) c.parts.view_is in
     let same = hand-same _ (in_hand k) _ c.in_ok-scenario.scenario.value (ap (λ x. in_hand x) c.self.view_is) world c.in_ok-scenario.ensures in
-    packed-same g.N.Node.told k c.copy.result.seed c.self.inside.tools.index.in_flight c.self.inside.tools.index.held c.in_ok-hosts.hosts.timers _
+    packed-same g.N.Node.told k c.copy.result.seed c.self.inside.tools.index.in_flight c.self.inside.tools.index.held c.in_ok-hosts.hosts.timers c.in_ok-hosts.hosts.others _
     c.requires same
     (ap (λ s. s.seed) streams ∙ (ap (λ p. p.seed) c.parts.view_is ∙ ap (λ x. x.parts.seed) c.self.view_is))
     (ap (λ x. x.index.in_flight) c.self.view_is) (ap (λ x. x.index.held) c.self.view_is)
     (ap (λ h. h.timers) c.in_ok-hosts.ensures.hosts ∙ (c.as_slice-timers.ensures.value ∙ ap (λ x. x.index.timers.items) c.self.view_is))
+    (ap (λ h. h.others) c.in_ok-hosts.ensures.hosts ∙ (c.as_slice-others.ensures.value ∙ ap (λ x. x.index.others.items) c.self.view_is))
 
 pub returns-clause-same : goal.returns-clause-same
 returns-clause-same g c =
@@ -35,9 +36,3 @@ returns-clause-work g c =
     let work = g.N.Meter.Meter.work c.args.meter.now in
     let hosts = c.as_slice.ensures.value ∙ (ap (λ p. p.world.hosts) c.parts.view_is ∙ ap (λ k. k.parts.world.hosts) c.self.view_is) in
     c.in_ok-hosts.ensures.work ∙ ap (λ hs. copied_by (count_by (λ host. is_some host.node) hs) work) hosts
-
-pub pack-requires-3 : goal.pack-requires-3
-pack-requires-3 g c =
-    let timers = c.as_slice-timers.ensures.value ∙ ap (λ x. x.index.timers.items) c.self.view_is in
-    let hosts = c.as_slice.ensures.value ∙ (ap (λ p. p.world.hosts) c.parts.view_is ∙ ap (λ k. k.parts.world.hosts) c.self.view_is) in
-    ap (λ xs. length xs) timers ∙ (c.requires.index.hosts ∙ sym (ap (λ xs. length xs) hosts))

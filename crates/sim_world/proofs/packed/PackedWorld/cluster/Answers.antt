@@ -12,7 +12,7 @@ pub returns-clause-held : goal.returns-clause-held
 returns-clause-held g c =
     let hosts = ap (λ (s : Scenario). s.setup.hosts) c.deref.ensures in
     let effects = c.in_ok-effects.ensures ∙ ap (λ n. record { hosts = n; list = [] }) (ap (λ x. x.hosts) c.setup-setup.ensures.value ∙ hosts) in
-    opened-held g.N.Node.told _ c.args.self.now c.self.inside.streams.seed c.self.inside.in_flight c.self.inside.held c.self.inside.hosts.timers _
+    opened-held g.N.Node.told _ c.args.self.now c.self.inside.streams.seed c.self.inside.in_flight c.self.inside.held c.self.inside.hosts.timers c.self.inside.hosts.others _
     c.self.invariant c.self.view_is c.in_ok-parts.ensures.world c.in_ok-parts.ensures.seed c.in_ok-index.ensures effects c.in_ok-scenario.ensures refl
 
 pub returns-clause-work : goal.returns-clause-work

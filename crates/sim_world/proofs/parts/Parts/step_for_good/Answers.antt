@@ -3,7 +3,7 @@ use Rattle.sim_queue.specs.Pending.{first}
 use Rattle.sim_world.specs.World.{host_at, on_world}
 use Rattle.sim_world.specs.Acts.{turned_if, first_host}
 use Rattle.sim_world.specs.Events.{rules, happened, begun, stepped_by}
-use Rattle.sim_world.proofs.FirstGiven.{given_first, stepped_first, acts_first}
+use Rattle.sim_world.proofs.FirstGiven.{first_counted, given_first, stepped_first, acts_first}
 use Rattle.sim_world.proofs.OneHost.{host_after_step}
 use Rattle.sim_world.proofs.Plain.{seeded, world}
 use Rattle.sim_world.proofs.parts.Parts.step_for_good.Goals as goal
@@ -20,7 +20,7 @@ happen-requires-clause-given g c =
     let first_is = ap (λ z. first z.world.queue.items) (sym c.self.view_is) ∙ sym t.item in
     let b = ap (λ q. seeded i.streams.value.seed (world x.due i.streams.value.places q i.links i.hosts.items)) t.rest ∙ ap (on_world (begun x)) c.self.view_is in
     given_first g.N.Node.told c.args.sc.now p v x o.host o.covered o.input c.args.tools.now.index c.forget.new.self c.args.tools.now.effects
-    c.occurrence.view_is first_is b c.requires.seed c.requires.ready c.requires.index c.requires.spent n.in_flight n.held n.timers
+    c.occurrence.view_is first_is b c.requires.seed c.requires.ready c.requires.index c.requires.spent n.in_flight n.held n.timers n.others
 
 pub returns-clause-others : goal.returns-clause-others
 returns-clause-others g c = λ k apart.
@@ -67,3 +67,9 @@ returns-clause-work g c =
     let first_is = ap (λ z. first z.world.queue.items) (sym c.self.view_is) ∙ sym t.item in
     let b = ap (λ q. seeded i.streams.value.seed (world x.due i.streams.value.places q i.links i.hosts.items)) t.rest ∙ ap (on_world (begun x)) c.self.view_is in
     c.in_ok-happen.ensures.work ∙ ap (λ a. turned_if a (g.N.Meter.Meter.work c.args.meter.now)) (acts_first c.args.self.now v x o.host o.covered o.input c.occurrence.view_is first_is b)
+
+pub forget-requires-clause-other : goal.forget-requires-clause-other
+forget-requires-clause-other g c =
+    let ix = c.args.tools.now.index in
+    let first_is = ap (λ z. first z.world.queue.items) (sym c.self.view_is) ∙ sym c.in-Some.ensures.item in
+    first_counted g.N.Node.told c.args.sc.now.setup c.args.self.now.world c.in-Some.item ix first_is c.requires.ready c.requires.index
