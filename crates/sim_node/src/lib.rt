@@ -9,8 +9,8 @@
 //!
 //! An implementation states what it does as ghost members: `laws` (functions that say how it boots
 //! and reacts, and what its probes show), `records` (which states a record fits, and to which state
-//! it leads back) and `told` (the setup, which never changes). Each method is proved to follow
-//! them. So the world that runs nodes relies on this trait alone:
+//! it leads back) and `told` (the number of hosts that it was told of, which never changes). Each
+//! method is proved to follow them. So the world that runs nodes relies on this trait alone:
 //!
 //! - `act` gives the state and the effects of `laws.react`, and a record that fits the new state
 //!   and leads back to the old one;
@@ -28,10 +28,12 @@
 #![tactic(auto)]
 
 mod effects;
+mod host_setup;
 mod meter;
 mod node;
 
 pub use effects::{Effect, Effects};
+pub use host_setup::HostSetup;
 pub use meter::Meter;
 pub use node::{Node, there_and_back};
 pub use std::alloc::AllocError as NoMemory;

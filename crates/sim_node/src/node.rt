@@ -1,7 +1,6 @@
 ghost use Rattle.std.specs.Prelude.{◌≡◌, ℕ, ◌<◌, ◌≤◌, List, [], IfOk, OnOk};
 ghost use Rattle.sim_node.specs.Work.{Work, turned, copied, undone};
 ghost use Rattle.sim_node.specs.Node.{NodeLaws, NodeRecords, IsSetup, IsFrom};
-ghost use Rattle.sim_node.specs.declared.Setup.{Setup};
 
 use crate::effects::Effects;
 use crate::meter::Meter;
@@ -35,8 +34,8 @@ pub trait Node: Drop {
     /// The tables: how a node boots, how it reacts, and what its probes show.
     ghost laws: { NodeLaws Self Self.Msg };
 
-    /// The setup of the boot, which every later state keeps.
-    ghost told: { Self → Setup };
+    /// The number of hosts of the cluster, which the boot is told and every later state keeps.
+    ghost told: { Self → ℕ };
 
     /// Which states a record fits, and to which state it leads back.
     ghost records: { NodeRecords Self Self.Undo };
@@ -53,7 +52,7 @@ pub trait Node: Drop {
         requires setup { IsSetup setup.now }
         requires me { me < setup.now.hosts }
         ensures state { IfOk result (λ s. s ≡ laws.boot setup.now me disk.now) }
-        ensures keeps { IfOk result (λ s. told s ≡ setup.now) }
+        ensures keeps { IfOk result (λ s. told s ≡ setup.now.hosts) }
         ensures work { Self.Meter.work meter.new ≡ turned (Self.Meter.work meter.old) };
 
     /// Reacts to an input at clock `now` (ms), with one random word, and asks for at most 40
@@ -68,11 +67,11 @@ pub trait Node: Drop {
         effects: &mut Effects<Self::Msg>,
         meter: &mut Self::Meter,
     ) -> Result<Self::Undo, NoMemory>
-        requires empty { effects.old ≡ record { hosts = (told self.old).hosts; list = [] } }
-        requires sender { IsFrom (told self.old).hosts input.now }
+        requires empty { effects.old ≡ record { hosts = told self.old; list = [] } }
+        requires sender { IsFrom (told self.old) input.now }
         ensures state { OnOk result (self.new ≡ (laws.react self.old now input.now word).0) }
         ensures effects { OnOk result (effects.new ≡ record {
-          hosts = (told self.old).hosts;
+          hosts = told self.old;
           list = (laws.react self.old now input.now word).1;
         }) }
         ensures keeps { OnOk result (told self.new ≡ told self.old) }
@@ -136,11 +135,11 @@ pub fn there_and_back<N: Node>(
     effects: &mut Effects<N::Msg>,
     meter: &mut N::Meter,
 ) -> Result<(), NoMemory>
-    requires empty { effects.old ≡ record { hosts = (N.told node.old).hosts; list = [] } }
-    requires sender { IsFrom (N.told node.old).hosts input.now }
+    requires empty { effects.old ≡ record { hosts = N.told node.old; list = [] } }
+    requires sender { IsFrom (N.told node.old) input.now }
     ensures same { OnOk result (node.new ≡ node.old) }
     ensures effects { OnOk result (effects.new ≡ record {
-      hosts = (N.told node.old).hosts;
+      hosts = N.told node.old;
       list = (N.laws.react node.old now input.now word).1;
     }) }
     ensures work { OnOk result (N.Meter.work meter.new ≡ undone (turned (N.Meter.work meter.old))) }
