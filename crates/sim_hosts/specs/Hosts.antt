@@ -3,23 +3,23 @@ use Rattle.std.specs.Prelude.{ℕ, ◌-◌, ◌^◌, ◌==◌, nat_lt, nat_le, b
 use Rattle.std.specs.Prelude.{◌&&◌, List, filter, map}
 use Rattle.std.specs.Int.{bit_at}
 use Rattle.std.specs.List.{list_all}
-use Rattle.sim_node.specs.declared.Setup.{Setup}
+use Rattle.sim_node.specs.declared.host_setup.HostSetup.{HostSetup}
 use Rattle.sim_node.specs.Numbers.{numbers_from}
 use Rattle.sim_node.specs.Effects.{Effect}
 use Rattle.sim_hosts.specs.declared.set.HostSet.{HostSet}
 
 -- the servers from `first` on: all from server 0 on, the others from server 1 on
-abbrev pub servers_from : ℕ → Setup → List ℕ
+abbrev pub servers_from : ℕ → HostSetup → List ℕ
 servers_from first setup = numbers_from first (setup.servers - first)
 
-abbrev pub servers : Setup → List ℕ
+abbrev pub servers : HostSetup → List ℕ
 servers setup = servers_from 0 setup
 
-abbrev pub others : Setup → List ℕ
+abbrev pub others : HostSetup → List ℕ
 others setup = servers_from 1 setup
 
 -- a server other than server 0
-abbrev pub is_other : Setup → ℕ → Bool
+abbrev pub is_other : HostSetup → ℕ → Bool
 is_other setup host = nat_le 1 host && nat_lt host setup.servers
 
 -- A host is in a set if its bit is set.

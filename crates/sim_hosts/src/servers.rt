@@ -2,17 +2,17 @@ ghost use Rattle.std.specs.Prelude.{◌≡◌, ◌+◌, ◌≤◌, ◌++◌, len
 ghost use Rattle.sim_hosts.specs.Hosts.{servers_from, is_other, not_in, to_all};
 
 use crate::HostSet;
-use sim_node::{Effects, Setup};
+use sim_node::{Effects, HostSetup};
 
 /// Returns whether the host is a server other than server 0 (the primary or the coordinator).
-pub fn is_other(setup: &Setup, host: u16) -> bool
+pub fn is_other(setup: &HostSetup, host: u16) -> bool
     ensures { result ≡ is_other setup.now host }
 {
     1 <= host && host < setup.servers
 }
 
 /// Sends a message to each server from `first` on.
-pub fn send_to_all<M: Copy + Drop>(first: u16, setup: &Setup, msg: M, effects: &mut Effects<M>)
+pub fn send_to_all<M: Copy + Drop>(first: u16, setup: &HostSetup, msg: M, effects: &mut Effects<M>)
     requires room { length effects.old.list + setup.now.servers ≤ 40 }
     requires hosts { setup.now.servers ≤ effects.old.hosts }
     ensures room { length effects.new.list ≤ length effects.old.list + setup.now.servers }
@@ -28,7 +28,7 @@ pub fn send_to_all<M: Copy + Drop>(first: u16, setup: &Setup, msg: M, effects: &
 /// Sends a message to each server from `first` on that is not in the set.
 pub fn send_to_missing<M: Copy + Drop>(
     first: u16,
-    setup: &Setup,
+    setup: &HostSetup,
     set: HostSet,
     msg: M,
     effects: &mut Effects<M>,

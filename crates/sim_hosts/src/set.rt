@@ -1,7 +1,7 @@
 ghost use Rattle.std.specs.Prelude.{◌≡◌, ◌<◌, ◌≤◌};
 ghost use Rattle.sim_hosts.specs.Hosts.{nobody, is_in, joined, size, servers_from, all_in};
 
-use sim_node::Setup;
+use sim_node::HostSetup;
 
 /// A set of hosts: the bit of each host that is in it is set.
 #[derive(Clone, Copy, Debug)]
@@ -43,7 +43,7 @@ impl HostSet {
     }
 
     /// Returns whether all servers from `first` on are in the set.
-    pub fn has_servers_from(self, first: u16, setup: &Setup) -> bool
+    pub fn has_servers_from(self, first: u16, setup: &HostSetup) -> bool
         requires { setup.now.servers ≤ 32 }
         ensures { result ≡ all_in (servers_from first setup.now) self }
     {

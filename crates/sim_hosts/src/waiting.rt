@@ -1,7 +1,7 @@
 ghost use Rattle.std.specs.Prelude.{◌≡◌, ◌<◌, ◌≤◌, IfSome, slice_set};
 ghost use Rattle.sim_hosts.specs.Waiting.{lowest_waiting, restored, IsPlacedSlot};
 
-use sim_node::Setup;
+use sim_node::HostSetup;
 
 /// A host's slot before a reaction: the record by which a change of the table is undone.
 #[derive(Clone, Copy)]
@@ -15,7 +15,7 @@ pub enum SlotBefore<A> {
 }
 
 /// Returns the lowest host that waits, with what it waits with.
-pub fn lowest_waiting<A: Copy>(setup: &Setup, waiting: &[Option<A>; 32]) -> Option<(u16, A)>
+pub fn lowest_waiting<A: Copy>(setup: &HostSetup, waiting: &[Option<A>; 32]) -> Option<(u16, A)>
     requires { setup.now.hosts ≤ 32 }
     ensures value { result ≡ lowest_waiting setup.now waiting.now }
     ensures host { IfSome result (λ w. w.0 < setup.now.hosts) }
