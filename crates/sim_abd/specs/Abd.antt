@@ -4,10 +4,11 @@
 use Rattle.std.specs.Prelude.{ℕ, ◌+◌, ◌*◌, ◌/◌, ◌%◌, ◌==◌, nat_lt, nat_le, Bool, false, not, ◌&&◌}
 use Rattle.std.specs.Prelude.{◌||◌, List, [], ◌∷◌, ◌++◌, Option, None, Some, if◌then◌else◌}
 use Rattle.sim_node.specs.declared.Setup.{Setup}
+use Rattle.sim_node.specs.declared.host_setup.HostSetup.{HostSetup}
 use Rattle.sim_node.specs.declared.Input.{Input}
 use Rattle.sim_node.specs.declared.Input.TheVariants as input
 use Rattle.sim_node.specs.Effects.{Effect}
-use Rattle.sim_node.specs.Node.{NodeLaws, is_server}
+use Rattle.sim_node.specs.Node.{NodeLaws, is_server, host_setup}
 use Rattle.sim_hosts.specs.declared.set.HostSet.{HostSet}
 use Rattle.sim_abd.specs.declared.roles.Tagged.{Tagged}
 use Rattle.sim_abd.specs.declared.roles.AbdMsg.{AbdMsg}
@@ -20,7 +21,7 @@ use Rattle.sim_abd.specs.declared.roles.Server.{Server}
 use Rattle.sim_abd.specs.declared.roles.Role.{Role}
 use Rattle.sim_abd.specs.declared.roles.Role.TheVariants as role
 use Rattle.sim_abd.specs.declared.roles.State.{State}
-use Rattle.sim_hosts.specs.Numbers.{raised, lowered, is_settled, plus, times, ops_of}
+use Rattle.sim_hosts.specs.Numbers.{raised, lowered, is_settled, plus, times}
 use Rattle.sim_hosts.specs.Reactions.{Reaction}
 use Rattle.sim_hosts.specs.Bytes.{bytes_of, number_at}
 use Rattle.sim_hosts.specs.Hosts.{nobody, servers, is_in, joined, not_in, size, to_all}
@@ -42,7 +43,7 @@ client_at_boot =
 abbrev pub is_write : ℕ → Bool
 is_write i = i % 2 == 1
 
-abbrev pub is_majority : Setup → HostSet → Bool
+abbrev pub is_majority : HostSetup → HostSet → Bool
 is_majority setup set = nat_le (setup.servers / 2 + 1) (size set)
 
 abbrev pub ask_of : Client → AbdMsg
@@ -52,7 +53,7 @@ abbrev pub store_of : Client → AbdMsg
 store_of c = Store (plus (times 2 c.next) 1) c.best
 
 -- an operation begins: it asks the servers
-abbrev pub begun : ℕ → Setup → Client → Reaction Client AbdMsg
+abbrev pub begun : ℕ → HostSetup → Client → Reaction Client AbdMsg
 begun i setup c =
     let new = record c { next = i; phase = phase.Asking; answers = nobody; best = untagged } in
     (new, to_all (servers setup) (ask_of new) ++ Effect.Timer 200 ∷ [])
@@ -65,7 +66,7 @@ to_be_stored me i best =
     else best
 
 -- a majority has answered: the client asks the servers to store
-abbrev pub stores : ℕ → Setup → Client → Reaction Client AbdMsg
+abbrev pub stores : ℕ → HostSetup → Client → Reaction Client AbdMsg
 stores me setup c =
     let new = record c {
       phase = phase.Storing;
@@ -77,26 +78,26 @@ stores me setup c =
 abbrev pub greater_of : Tagged → Tagged → Tagged
 greater_of best told = if is_greater told best then told else best
 
-abbrev pub has_told : ℕ → Tagged → ℕ → Setup → Client → Reaction Client AbdMsg
+abbrev pub has_told : ℕ → Tagged → ℕ → HostSetup → Client → Reaction Client AbdMsg
 has_told from told me setup c =
     let new = record c { answers = joined from c.answers; best = greater_of c.best told } in
     if is_majority setup new.answers then stores me setup new else (new, [])
 
 -- a majority has stored: the operation ends, and the next begins; after the last the client rests
-abbrev pub finished : ℕ → Setup → Client → Reaction Client AbdMsg
+abbrev pub finished : ℕ → HostSetup → Client → Reaction Client AbdMsg
 finished ops setup c =
     let next = raised c.next in
     let over = record c { last_read = if is_write c.next then c.last_read else c.best.val } in
     if nat_lt ops next then (record over { next = next; phase = phase.Resting }, Effect.Done ∷ [])
     else begun next setup over
 
-abbrev pub has_kept : ℕ → ℕ → Setup → Client → Reaction Client AbdMsg
+abbrev pub has_kept : ℕ → ℕ → HostSetup → Client → Reaction Client AbdMsg
 has_kept from ops setup c =
     let new = record c { answers = joined from c.answers } in
     if is_majority setup new.answers then finished ops setup new else (new, [])
 
 -- the timer: the client sends again to the servers that have not answered
-abbrev pub asks_again : Phase → Setup → Client → Reaction Client AbdMsg
+abbrev pub asks_again : Phase → HostSetup → Client → Reaction Client AbdMsg
 asks_again phase.Resting setup c = (c, [])
 asks_again phase.Asking setup c =
     (c, to_all (not_in (servers setup) c.answers) (ask_of c) ++ Effect.Timer 200 ∷ [])
@@ -112,13 +113,13 @@ abbrev pub is_kept : ℕ → ℕ → Phase → Client → Bool
 is_kept from r phase.Storing c = (r == 2 * c.next + 1) && not (is_in c.answers from)
 is_kept from r _ c = false
 
-abbrev pub react_client : Setup → ℕ → Client → Input AbdMsg → Reaction Client AbdMsg
+abbrev pub react_client : HostSetup → ℕ → Client → Input AbdMsg → Reaction Client AbdMsg
 react_client setup me c input.Start = begun 1 setup c
 react_client setup me c input.Timer = asks_again c.phase setup c
 react_client setup me c (input.Message from (Tell r told)) =
     if is_told from r c.phase c then has_told from told me setup c else (c, [])
 react_client setup me c (input.Message from (Kept r)) =
-    if is_kept from r c.phase c then has_kept from (ops_of setup me) setup c else (c, [])
+    if is_kept from r c.phase c then has_kept from setup.ops setup c else (c, [])
 react_client setup me c _ = (c, [])
 
 -- A server: a row for each definition. Its 24 bytes are the number, the writer and the value.
@@ -175,7 +176,8 @@ role_at_boot setup me bytes =
     if is_server setup me then role.Server (server_at_boot bytes) else role.Client client_at_boot
 
 abbrev pub boot : Setup → ℕ → List ℕ → State
-boot setup me bytes = record { setup = setup; me = me; role = role_at_boot setup me bytes }
+boot setup me bytes =
+    record { setup = host_setup setup me; me = me; role = role_at_boot setup me bytes }
 
 abbrev pub in_role : {Part : Type 0} → (Part → Role) → Reaction Part AbdMsg → State
     → Reaction State AbdMsg

@@ -1,6 +1,6 @@
 //! The rows of a client of the register: it asks a majority, then stores at a majority.
 ghost use Rattle.std.specs.Prelude.{◌≡◌, ◌<◌, ◌^◌, IsTrue, []};
-ghost use Rattle.sim_node.specs.Node.{IsSetup, IsFrom};
+ghost use Rattle.sim_node.specs.Node.{IsHostSetup, IsFrom};
 ghost use Rattle.sim_hosts.specs.Reactions.{asked_for};
 ghost use Rattle.sim_abd.specs.AbdNumbers.{IsCounted};
 ghost use Rattle.sim_abd.specs.Abd.{untagged, is_greater, client_at_boot, is_write, is_majority};
@@ -9,7 +9,7 @@ ghost use Rattle.sim_abd.specs.Abd.{asks_again, is_told, is_kept, react_client};
 
 use crate::{AbdMsg, Client, Phase, Tagged};
 use sim_hosts::{HostSet, send_to_all, send_to_missing};
-use sim_node::{Effects, Input, Setup};
+use sim_node::{Effects, HostSetup, Input};
 
 /// How long a client waits for answers before it sends again (ms).
 const PATIENCE: u32 = 200;
@@ -42,7 +42,7 @@ fn is_write(i: u32) -> bool
 }
 
 /// Returns whether most servers have answered.
-fn is_majority(setup: &Setup, answers: HostSet) -> bool
+fn is_majority(setup: &HostSetup, answers: HostSet) -> bool
     ensures { result ≡ is_majority setup.now answers }
 {
     answers.size() >= (setup.servers / 2 + 1) as u32
@@ -78,8 +78,8 @@ impl Client {
     }
 
     /// Begins an operation.
-    fn begin(&mut self, i: u16, setup: &Setup, effects: &mut Effects<AbdMsg>)
-        requires setup { IsSetup setup.now }
+    fn begin(&mut self, i: u16, setup: &HostSetup, effects: &mut Effects<AbdMsg>)
+        requires setup { IsHostSetup setup.now }
         requires empty { effects.old ≡ asked_for setup.now [] }
         ensures state { self.new ≡ (begun i setup.now self.old).0 }
         ensures counted { IsCounted self.new.phase self.new.next }
@@ -95,8 +95,8 @@ impl Client {
 
     /// Asks the servers to store, after a majority answered: a read stores the best value, a write
     /// its own.
-    fn begin_to_store(&mut self, me: u16, setup: &Setup, effects: &mut Effects<AbdMsg>)
-        requires setup { IsSetup setup.now }
+    fn begin_to_store(&mut self, me: u16, setup: &HostSetup, effects: &mut Effects<AbdMsg>)
+        requires setup { IsHostSetup setup.now }
         requires counted { self.old.next < 2 ^ 16 }
         requires empty { effects.old ≡ asked_for setup.now [] }
         ensures state { self.new ≡ (stores me setup.now self.old).0 }
@@ -124,10 +124,10 @@ impl Client {
         from: u16,
         told: &Tagged,
         me: u16,
-        setup: &Setup,
+        setup: &HostSetup,
         effects: &mut Effects<AbdMsg>,
     )
-        requires setup { IsSetup setup.now }
+        requires setup { IsHostSetup setup.now }
         requires from { from < setup.now.hosts }
         requires counted { self.old.next < 2 ^ 16 }
         requires empty { effects.old ≡ asked_for setup.now [] }
@@ -146,8 +146,8 @@ impl Client {
     }
 
     /// Ends the operation, after a majority stored.
-    fn finish(&mut self, ops: u16, setup: &Setup, effects: &mut Effects<AbdMsg>)
-        requires setup { IsSetup setup.now }
+    fn finish(&mut self, ops: u16, setup: &HostSetup, effects: &mut Effects<AbdMsg>)
+        requires setup { IsHostSetup setup.now }
         requires counted { self.old.next < 2 ^ 16 }
         requires empty { effects.old ≡ asked_for setup.now [] }
         ensures state { self.new ≡ (finished ops setup.now self.old).0 }
@@ -168,8 +168,8 @@ impl Client {
     }
 
     /// Handles a server's answer that it has stored.
-    fn has_kept(&mut self, from: u16, ops: u16, setup: &Setup, effects: &mut Effects<AbdMsg>)
-        requires setup { IsSetup setup.now }
+    fn has_kept(&mut self, from: u16, ops: u16, setup: &HostSetup, effects: &mut Effects<AbdMsg>)
+        requires setup { IsHostSetup setup.now }
         requires from { from < setup.now.hosts }
         requires counted { self.old.next < 2 ^ 16 }
         requires empty { effects.old ≡ asked_for setup.now [] }
@@ -185,8 +185,8 @@ impl Client {
     }
 
     /// Sends again to the servers that have not answered.
-    fn ask_again(&self, setup: &Setup, effects: &mut Effects<AbdMsg>)
-        requires setup { IsSetup setup.now }
+    fn ask_again(&self, setup: &HostSetup, effects: &mut Effects<AbdMsg>)
+        requires setup { IsHostSetup setup.now }
         requires counted { IsCounted self.now.phase self.now.next }
         requires empty { effects.old ≡ asked_for setup.now [] }
         ensures { effects.new ≡ asked_for setup.now (asks_again self.now.phase setup.now
@@ -234,13 +234,12 @@ impl Client {
     /// Reacts to an input.
     pub(crate) fn react(
         &mut self,
-        setup: &Setup,
+        setup: &HostSetup,
         me: u16,
         input: &Input<AbdMsg>,
         effects: &mut Effects<AbdMsg>,
     )
-        requires setup { IsSetup setup.now }
-        requires me { me < setup.now.hosts }
+        requires setup { IsHostSetup setup.now }
         requires counted { IsCounted self.old.phase self.old.next }
         requires sender { IsFrom setup.now.hosts input.now }
         requires empty { effects.old ≡ asked_for setup.now [] }
@@ -262,7 +261,7 @@ impl Client {
                 sender,
                 msg: AbdMsg::Kept(r),
             } if self.waits_for_kept(*sender, *r) => {
-                let ops = setup.ops[me as usize];
+                let ops = setup.ops;
                 self.has_kept(*sender, ops, setup, effects)
             }
             _ => {}

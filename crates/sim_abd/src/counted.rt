@@ -1,11 +1,11 @@
 //! A client whose numbers fit into messages.
-ghost use Rattle.std.specs.Prelude.{◌≡◌, ◌<◌, []};
-ghost use Rattle.sim_node.specs.Node.{IsSetup, IsFrom};
+ghost use Rattle.std.specs.Prelude.{◌≡◌, []};
+ghost use Rattle.sim_node.specs.Node.{IsHostSetup, IsFrom};
 ghost use Rattle.sim_hosts.specs.Reactions.{asked_for};
 ghost use Rattle.sim_abd.specs.Abd.{client_at_boot, react_client};
 
 use crate::{AbdMsg, Client};
-use sim_node::{Effects, Input, Setup};
+use sim_node::{Effects, HostSetup, Input};
 use std::marker::Model;
 
 /// A client whose current operation has a number of 16 bits, so that its requests fit into
@@ -48,13 +48,12 @@ impl CountedClient {
     /// Reacts to an input.
     pub fn react(
         &mut self,
-        setup: &Setup,
+        setup: &HostSetup,
         me: u16,
         input: &Input<AbdMsg>,
         effects: &mut Effects<AbdMsg>,
     )
-        requires setup { IsSetup setup.now }
-        requires me { me < setup.now.hosts }
+        requires setup { IsHostSetup setup.now }
         requires sender { IsFrom setup.now.hosts input.now }
         requires empty { effects.old ≡ asked_for setup.now [] }
         ensures state { self.new ≡ (react_client setup.now me self.old input.now).0 }

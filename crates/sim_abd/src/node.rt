@@ -14,7 +14,7 @@ pub struct AbdRegister<T> {
 
 impl<T> Model for AbdRegister<T> {
     ghost use Rattle.std.specs.Prelude.{◌<◌};
-    ghost use Rattle.sim_node.specs.Node.{IsSetup};
+    ghost use Rattle.sim_node.specs.Node.{IsHostSetup};
     ghost use Rattle.sim_abd.specs.AbdRecords.{IsPlaced};
     ghost use Rattle.sim_abd.specs.declared.roles.State.{State};
 
@@ -22,7 +22,8 @@ impl<T> Model for AbdRegister<T> {
 
     ghost view = { λ node. node.state };
 
-    ghost invariant = { λ node. IsSetup node.state.setup × (node.state.me < node.state.setup.hosts)
+    ghost invariant = { λ node. IsHostSetup node.state.setup
+        × (node.state.me < node.state.setup.hosts)
         × IsPlaced node.state.setup.hosts node.state.role };
 }
 
@@ -49,7 +50,7 @@ impl<T: Meter> Node for AbdRegister<T> {
 
     ghost laws = { abd };
 
-    ghost told = { λ state. state.setup };
+    ghost told = { λ state. state.setup.hosts };
 
     ghost records = { abd_records };
 
@@ -68,7 +69,7 @@ impl<T: Meter> Node for AbdRegister<T> {
         };
         Ok(AbdRegister {
             state: State {
-                setup: *setup,
+                setup: setup.of_host(me),
                 me,
                 role,
             },

@@ -1,7 +1,7 @@
 //! The messages of the register, its tagged values, and what its clients and servers keep.
 use crate::CountedClient;
 use sim_hosts::HostSet;
-use sim_node::Setup;
+use sim_node::HostSetup;
 
 /// A value with its tag: a number and its writer.
 #[derive(Clone, Copy, Debug)]
@@ -72,7 +72,7 @@ pub enum Role {
 /// The state of a host.
 #[derive(Clone, Copy)]
 pub struct State {
-    pub setup: Setup,
+    pub setup: HostSetup,
     pub me: u16,
     pub role: Role,
 }

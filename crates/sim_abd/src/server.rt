@@ -8,7 +8,7 @@ ghost use Rattle.sim_abd.specs.AbdRecords.{IsPlacedServer};
 
 use crate::{AbdMsg, Owed, Server, Tagged};
 use sim_hosts::{number_at, put_number};
-use sim_node::{Effects, Input, Setup};
+use sim_node::{Effects, HostSetup, Input};
 
 /// Returns the bytes of a tagged value.
 fn tagged_bytes(tagged: &Tagged) -> [u8; 24]
@@ -38,7 +38,7 @@ impl Server {
     }
 
     /// Takes a value with a greater tag, and owes an answer for it.
-    fn take(&mut self, owed: Owed, new: &Tagged, setup: &Setup, effects: &mut Effects<AbdMsg>)
+    fn take(&mut self, owed: Owed, new: &Tagged, setup: &HostSetup, effects: &mut Effects<AbdMsg>)
         requires host { owed.host < setup.now.hosts }
         requires empty { effects.old ≡ asked_for setup.now [] }
         ensures state { self.new ≡ (takes owed.host owed.request new.now self.old).0 }
@@ -61,7 +61,7 @@ impl Server {
         from: u16,
         r: u32,
         new: &Tagged,
-        setup: &Setup,
+        setup: &HostSetup,
         effects: &mut Effects<AbdMsg>,
     )
         requires from { from < setup.now.hosts }
@@ -85,7 +85,7 @@ impl Server {
     }
 
     /// Handles a sync. If the server is settled, it sends the answer that it owes.
-    fn synced(&mut self, setup: &Setup, effects: &mut Effects<AbdMsg>)
+    fn synced(&mut self, setup: &HostSetup, effects: &mut Effects<AbdMsg>)
         requires placed { IsPlacedServer setup.now.hosts self.old }
         requires empty { effects.old ≡ asked_for setup.now [] }
         ensures state { self.new ≡ (server_synced self.old).0 }
@@ -102,7 +102,7 @@ impl Server {
     }
 
     /// Reacts to an input.
-    pub fn react(&mut self, setup: &Setup, input: &Input<AbdMsg>, effects: &mut Effects<AbdMsg>)
+    pub fn react(&mut self, setup: &HostSetup, input: &Input<AbdMsg>, effects: &mut Effects<AbdMsg>)
         requires sender { IsFrom setup.now.hosts input.now }
         requires placed { IsPlacedServer setup.now.hosts self.old }
         requires empty { effects.old ≡ asked_for setup.now [] }
