@@ -5,10 +5,11 @@ use Rattle.std.specs.Prelude.{ℕ, ◌%◌, ◌==◌, nat_lt, nat_le, Bool, true
 use Rattle.std.specs.Prelude.{List, [], ◌∷◌, ◌++◌, replicate, slice_index, slice_set, Option, None}
 use Rattle.std.specs.Prelude.{Some, if◌then◌else◌}
 use Rattle.sim_node.specs.declared.Setup.{Setup}
+use Rattle.sim_node.specs.declared.host_setup.HostSetup.{HostSetup}
 use Rattle.sim_node.specs.declared.Input.{Input}
 use Rattle.sim_node.specs.declared.Input.TheVariants as input
 use Rattle.sim_node.specs.Effects.{Effect}
-use Rattle.sim_node.specs.Node.{NodeLaws, is_server}
+use Rattle.sim_node.specs.Node.{NodeLaws, is_server, host_setup}
 use Rattle.sim_hosts.specs.declared.set.HostSet.{HostSet}
 use Rattle.sim_two_phase.specs.declared.roles.CommitMsg.{CommitMsg}
 use Rattle.sim_two_phase.specs.declared.roles.CommitMsg.TheVariants.{Begin, Answer, Prepare, Vote}
@@ -26,7 +27,7 @@ use Rattle.sim_two_phase.specs.declared.roles.Participant.{Participant}
 use Rattle.sim_two_phase.specs.declared.roles.Role.{Role}
 use Rattle.sim_two_phase.specs.declared.roles.Role.TheVariants as role
 use Rattle.sim_two_phase.specs.declared.roles.State.{State}
-use Rattle.sim_hosts.specs.Numbers.{raised, lowered, is_settled, ops_of}
+use Rattle.sim_hosts.specs.Numbers.{raised, lowered, is_settled}
 use Rattle.sim_hosts.specs.Reactions.{Reaction}
 use Rattle.sim_hosts.specs.Bytes.{bytes_of, number_at}
 use Rattle.sim_hosts.specs.Hosts.{nobody, others, is_other, joined, all_in, not_in, to_all}
@@ -93,11 +94,11 @@ abbrev pub forced_by_coordinator : Conduct → List (Effect CommitMsg)
 forced_by_coordinator c = forced c.transaction (byte_of_flag c.commits) c.first
 
 -- sends all participants the commit of its transaction
-abbrev pub telling : Setup → Conduct → List (Effect CommitMsg)
+abbrev pub telling : HostSetup → Conduct → List (Effect CommitMsg)
 telling setup c = to_all (others setup) (Decide true c.transaction) ++ Effect.Timer 100 ∷ []
 
 -- it starts with a commit on its disk
-abbrev pub started : Setup → Conduct → Reaction Conduct CommitMsg
+abbrev pub started : HostSetup → Conduct → Reaction Conduct CommitMsg
 started setup c =
     if c.commits then (record c { phase = phase.Telling nobody }, telling setup c) else (c, [])
 
@@ -112,13 +113,13 @@ committed client number c =
       owed = Some (record { client = client; number = number });
     } in (new, forced_by_coordinator new ++ Effect.Timer 100 ∷ [])
 
-abbrev pub voted_yes : ℕ → ℕ → ℕ → HostSet → Setup → Conduct → Reaction Conduct CommitMsg
+abbrev pub voted_yes : ℕ → ℕ → ℕ → HostSet → HostSetup → Conduct → Reaction Conduct CommitMsg
 voted_yes from client number voted setup c =
     if all_in (others setup) (joined from voted) then committed client number c
     else (record c { phase = phase.Voting client (joined from voted) number }, [])
 
 -- a participant is against: it aborts, and answers the client and all participants at once
-abbrev pub voted_no : ℕ → ℕ → Setup → Conduct → Reaction Conduct CommitMsg
+abbrev pub voted_no : ℕ → ℕ → HostSetup → Conduct → Reaction Conduct CommitMsg
 voted_no client number setup c =
     let new = record c {
       first = noted c.transaction first.Aborted c.first;
@@ -130,14 +131,14 @@ voted_no client number setup c =
           ∷ to_all (others setup) (Decide false c.transaction) ++ Effect.Timer 1 ∷ [],
     )
 
-abbrev pub voted : ℕ → Bool → Phase → Setup → Conduct → Reaction Conduct CommitMsg
+abbrev pub voted : ℕ → Bool → Phase → HostSetup → Conduct → Reaction Conduct CommitMsg
 voted from true (phase.Voting client votes number) setup c =
     voted_yes from client number votes setup c
 voted from false (phase.Voting client votes number) setup c = voted_no client number setup c
 voted from agrees _ setup c = (c, [])
 
 -- a participant has seen the commit; after the last one the coordinator rests
-abbrev pub seen : ℕ → Phase → Setup → Conduct → Reaction Conduct CommitMsg
+abbrev pub seen : ℕ → Phase → HostSetup → Conduct → Reaction Conduct CommitMsg
 seen from (phase.Telling told) setup c =
     if all_in (others setup) (joined from told) then (
       record c { phase = phase.Resting },
@@ -161,7 +162,7 @@ inquired from u c =
     else (c, [])
 
 -- the messages of a settled coordinator to the participants that have not answered yet
-abbrev pub asked_again : Phase → Setup → Conduct → List (Effect CommitMsg)
+abbrev pub asked_again : Phase → HostSetup → Conduct → List (Effect CommitMsg)
 asked_again phase.Resting setup c = []
 asked_again (phase.Voting client votes number) setup c =
     to_all (not_in (others setup) votes) (Prepare c.transaction)
@@ -169,26 +170,26 @@ asked_again (phase.Telling told) setup c =
     to_all (not_in (others setup) told) (Decide true c.transaction)
 
 -- its timer during a transaction
-abbrev pub timed_out : Setup → Conduct → Reaction Conduct CommitMsg
+abbrev pub timed_out : HostSetup → Conduct → Reaction Conduct CommitMsg
 timed_out setup c =
     (c, (if is_settled c.unsure then asked_again c.phase setup c else []) ++ Effect.Timer 100 ∷ [])
 
 -- a settled coordinator, after a sync: it asks for votes, or answers its client and reports the
 -- commit
-abbrev pub settled : Phase → Option Owed → Setup → Conduct → Reaction Conduct CommitMsg
+abbrev pub settled : Phase → Option Owed → HostSetup → Conduct → Reaction Conduct CommitMsg
 settled (phase.Voting client votes number) owed setup c =
     (c, asked_again c.phase setup c ++ Effect.Timer 100 ∷ [])
 settled (phase.Telling told) (Some o) setup c =
     (record c { owed = None }, Effect.Send o.client (Answer true o.number) ∷ telling setup c)
 settled _ owed setup c = (c, [])
 
-abbrev pub coordinator_synced : Setup → Conduct → Reaction Conduct CommitMsg
+abbrev pub coordinator_synced : HostSetup → Conduct → Reaction Conduct CommitMsg
 coordinator_synced setup c =
     let new = record c { unsure = lowered c.unsure } in
     if is_settled new.unsure then settled new.phase new.owed setup new else (new, [])
 
 -- a message from a participant about the current transaction
-abbrev pub is_of_this : ℕ → ℕ → Setup → Conduct → Bool
+abbrev pub is_of_this : ℕ → ℕ → HostSetup → Conduct → Bool
 is_of_this from u setup c = is_other setup from && (u == c.transaction)
 
 -- it begins a transaction for the lowest waiting host
@@ -204,19 +205,19 @@ begun_for w c =
       forced_by_coordinator new ++ Effect.Timer 100 ∷ [],
     )
 
-abbrev pub begun : Setup → Coordinator → Reaction Coordinator CommitMsg
+abbrev pub begun : HostSetup → Coordinator → Reaction Coordinator CommitMsg
 begun setup c = elim (lowest_waiting setup c.waiting) [ None ↦ (c, []) | Some w ↦ begun_for w c ]
 
 abbrev pub is_voting_for : ℕ → Phase → Bool
 is_voting_for host (phase.Voting client votes number) = client == host
 is_voting_for host _ = false
 
-abbrev pub begun_if_resting : Phase → Setup → Coordinator → Reaction Coordinator CommitMsg
+abbrev pub begun_if_resting : Phase → HostSetup → Coordinator → Reaction Coordinator CommitMsg
 begun_if_resting phase.Resting setup c = begun setup c
 begun_if_resting _ setup c = (c, [])
 
 -- a host waits with this operation now, whatever it waited with; a resting coordinator begins
-abbrev pub asked_by : ℕ → ℕ → Setup → Coordinator → Reaction Coordinator CommitMsg
+abbrev pub asked_by : ℕ → ℕ → HostSetup → Coordinator → Reaction Coordinator CommitMsg
 asked_by from i setup c =
     if is_voting_for from c.conduct.phase then (c, [])
     else begun_if_resting c.conduct.phase setup
@@ -226,12 +227,12 @@ asked_by from i setup c =
 abbrev pub conducted : Coordinator → Reaction Conduct CommitMsg → Reaction Coordinator CommitMsg
 conducted c reaction = (record c { conduct = reaction.0 }, reaction.1)
 
-abbrev pub coordinator_timer : Phase → Setup → Coordinator → Reaction Coordinator CommitMsg
+abbrev pub coordinator_timer : Phase → HostSetup → Coordinator → Reaction Coordinator CommitMsg
 coordinator_timer phase.Resting setup c = begun setup c
 coordinator_timer _ setup c = conducted c (timed_out setup c.conduct)
 
 -- a message that does not change who waits
-abbrev pub heard : ℕ → CommitMsg → Setup → Coordinator → Reaction Coordinator CommitMsg
+abbrev pub heard : ℕ → CommitMsg → HostSetup → Coordinator → Reaction Coordinator CommitMsg
 heard from (Vote agrees u) setup c =
     if is_of_this from u setup c.conduct
     then conducted c (voted from agrees c.conduct.phase setup c.conduct)
@@ -243,7 +244,7 @@ heard from (Seen u) setup c =
 heard from (Inquire u) setup c = conducted c (inquired from u c.conduct)
 heard from _ setup c = (c, [])
 
-abbrev pub react_coordinator : Setup → Coordinator → Input CommitMsg
+abbrev pub react_coordinator : HostSetup → Coordinator → Input CommitMsg
     → Reaction Coordinator CommitMsg
 react_coordinator setup c input.Start = conducted c (started setup c.conduct)
 react_coordinator setup c input.Timer = coordinator_timer c.conduct.phase setup c
@@ -392,7 +393,8 @@ role_at_boot setup me bytes =
     else role.Participant (participant_at_boot bytes)
 
 abbrev pub boot : Setup → ℕ → List ℕ → State
-boot setup me bytes = record { setup = setup; me = me; role = role_at_boot setup me bytes }
+boot setup me bytes =
+    record { setup = host_setup setup me; me = me; role = role_at_boot setup me bytes }
 
 abbrev pub in_role : {Part : Type 0} → (Part → Role) → Reaction Part CommitMsg → State
     → Reaction State CommitMsg
@@ -400,7 +402,7 @@ in_role as_role reaction state = (record state { role = as_role reaction.0 }, re
 
 abbrev pub react_as : Role → Input CommitMsg → ℕ → State → Reaction State CommitMsg
 react_as (role.Client next) i word state =
-    in_role role.Client (react_client (ops_of state.setup state.me) next i) state
+    in_role role.Client (react_client state.setup.ops next i) state
 react_as (role.Coordinator c) i word state =
     in_role role.Coordinator (react_coordinator state.setup c i) state
 react_as (role.Participant p) i word state =

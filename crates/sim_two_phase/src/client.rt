@@ -4,13 +4,13 @@ ghost use Rattle.sim_hosts.specs.Reactions.{asked_for};
 ghost use Rattle.sim_two_phase.specs.TwoPhase.{client_asks, client_answered, react_client};
 
 use crate::CommitMsg;
-use sim_node::{Effects, Input, Setup};
+use sim_node::{Effects, HostSetup, Input};
 
 /// How long a client waits for an answer before it asks again (ms).
 const PATIENCE: u32 = 200;
 
 /// Asks for a transaction for operation number `next`, and returns that number.
-fn ask(setup: &Setup, next: u64, effects: &mut Effects<CommitMsg>) -> u64
+fn ask(setup: &HostSetup, next: u64, effects: &mut Effects<CommitMsg>) -> u64
     requires hosts { 0 < setup.now.hosts }
     requires empty { effects.old ≡ asked_for setup.now [] }
     ensures next { result ≡ (client_asks next).0 }
@@ -23,7 +23,7 @@ fn ask(setup: &Setup, next: u64, effects: &mut Effects<CommitMsg>) -> u64
 
 /// Handles the answer to an operation. Returns the number of the operation that the client then
 /// waits for.
-fn answered(setup: &Setup, ops: u64, next: u64, effects: &mut Effects<CommitMsg>) -> u64
+fn answered(setup: &HostSetup, ops: u64, next: u64, effects: &mut Effects<CommitMsg>) -> u64
     requires hosts { 0 < setup.now.hosts }
     requires empty { effects.old ≡ asked_for setup.now [] }
     ensures next { result ≡ (client_answered ops next).0 }
@@ -41,7 +41,7 @@ fn answered(setup: &Setup, ops: u64, next: u64, effects: &mut Effects<CommitMsg>
 /// Reacts as a client with `ops` operations that waits for operation number `next`. Returns the
 /// number of the operation that it then waits for.
 pub fn react(
-    setup: &Setup,
+    setup: &HostSetup,
     ops: u64,
     next: u64,
     input: &Input<CommitMsg>,

@@ -1,6 +1,6 @@
 //! The coordinator's handling of the current transaction: all of its state but the waiting hosts.
 ghost use Rattle.std.specs.Prelude.{◌≡◌, ◌+◌, ◌<◌, ◌≤◌, ◌++◌, [], length};
-ghost use Rattle.sim_node.specs.Node.{IsSetup};
+ghost use Rattle.sim_node.specs.Node.{IsHostSetup};
 ghost use Rattle.sim_hosts.specs.Reactions.{asked_for};
 ghost use Rattle.sim_two_phase.specs.TwoPhase.{forced_by_coordinator, telling, started, committed};
 ghost use Rattle.sim_two_phase.specs.TwoPhase.{voted_yes, voted_no, voted, seen, may_tell};
@@ -11,7 +11,7 @@ ghost use Rattle.sim_two_phase.specs.TwoPhaseRecords.{IsPlacedConduct};
 use crate::disk::{force, noted};
 use crate::{CommitMsg, Conduct, First, Owed, Phase};
 use sim_hosts::{HostSet, send_to_all, send_to_missing};
-use sim_node::{Effects, Setup};
+use sim_node::{Effects, HostSetup};
 
 /// How long the coordinator waits for the participants before it sends again (ms).
 pub const PATIENCE: u32 = 100;
@@ -31,8 +31,8 @@ impl Conduct {
     }
 
     /// Sends all participants the commit of the transaction.
-    fn tell(&self, setup: &Setup, effects: &mut Effects<CommitMsg>)
-        requires setup { IsSetup setup.now }
+    fn tell(&self, setup: &HostSetup, effects: &mut Effects<CommitMsg>)
+        requires setup { IsHostSetup setup.now }
         requires room { length effects.old.list < 8 }
         requires hosts { effects.old.hosts ≡ setup.now.hosts }
         ensures { effects.new ≡ record effects.old {
@@ -44,8 +44,8 @@ impl Conduct {
     }
 
     /// Handles the start: reports the commit that the disk has.
-    pub fn start(&mut self, setup: &Setup, effects: &mut Effects<CommitMsg>)
-        requires setup { IsSetup setup.now }
+    pub fn start(&mut self, setup: &HostSetup, effects: &mut Effects<CommitMsg>)
+        requires setup { IsHostSetup setup.now }
         requires placed { IsPlacedConduct setup.now.hosts self.old }
         requires empty { effects.old ≡ asked_for setup.now [] }
         ensures state { self.new ≡ (started setup.now self.old).0 }
@@ -61,7 +61,13 @@ impl Conduct {
     }
 
     /// Commits after the last vote, and owes the client an answer.
-    fn commit(&mut self, client: u16, number: u64, setup: &Setup, effects: &mut Effects<CommitMsg>)
+    fn commit(
+        &mut self,
+        client: u16,
+        number: u64,
+        setup: &HostSetup,
+        effects: &mut Effects<CommitMsg>,
+    )
         requires client { client < setup.now.hosts }
         requires placed { IsPlacedConduct setup.now.hosts self.old }
         requires empty { effects.old ≡ asked_for setup.now [] }
@@ -86,10 +92,10 @@ impl Conduct {
         from: u16,
         asker: Owed,
         votes: HostSet,
-        setup: &Setup,
+        setup: &HostSetup,
         effects: &mut Effects<CommitMsg>,
     )
-        requires setup { IsSetup setup.now }
+        requires setup { IsHostSetup setup.now }
         requires client { asker.client < setup.now.hosts }
         requires from { from < setup.now.hosts }
         requires placed { IsPlacedConduct setup.now.hosts self.old }
@@ -118,10 +124,10 @@ impl Conduct {
         &mut self,
         client: u16,
         number: u64,
-        setup: &Setup,
+        setup: &HostSetup,
         effects: &mut Effects<CommitMsg>,
     )
-        requires setup { IsSetup setup.now }
+        requires setup { IsHostSetup setup.now }
         requires client { client < setup.now.hosts }
         requires placed { IsPlacedConduct setup.now.hosts self.old }
         requires empty { effects.old ≡ asked_for setup.now [] }
@@ -149,10 +155,10 @@ impl Conduct {
         &mut self,
         from: u16,
         agrees: bool,
-        setup: &Setup,
+        setup: &HostSetup,
         effects: &mut Effects<CommitMsg>,
     )
-        requires setup { IsSetup setup.now }
+        requires setup { IsHostSetup setup.now }
         requires from { from < setup.now.hosts }
         requires placed { IsPlacedConduct setup.now.hosts self.old }
         requires empty { effects.old ≡ asked_for setup.now [] }
@@ -177,8 +183,8 @@ impl Conduct {
     }
 
     /// Notes that a participant has seen the commit of the transaction.
-    pub fn seen(&mut self, from: u16, setup: &Setup, effects: &mut Effects<CommitMsg>)
-        requires setup { IsSetup setup.now }
+    pub fn seen(&mut self, from: u16, setup: &HostSetup, effects: &mut Effects<CommitMsg>)
+        requires setup { IsHostSetup setup.now }
         requires from { from < setup.now.hosts }
         requires placed { IsPlacedConduct setup.now.hosts self.old }
         requires empty { effects.old ≡ asked_for setup.now [] }
@@ -211,7 +217,7 @@ impl Conduct {
     }
 
     /// Handles a host's question for the outcome of a transaction.
-    pub fn inquired(&self, from: u16, u: u64, setup: &Setup, effects: &mut Effects<CommitMsg>)
+    pub fn inquired(&self, from: u16, u: u64, setup: &HostSetup, effects: &mut Effects<CommitMsg>)
         requires from { from < setup.now.hosts }
         requires empty { effects.old ≡ asked_for setup.now [] }
         ensures { effects.new ≡ asked_for setup.now (inquired from u self.now).1 }
@@ -224,8 +230,8 @@ impl Conduct {
     }
 
     /// Sends again to the participants that have not answered yet.
-    fn ask_again(&self, setup: &Setup, effects: &mut Effects<CommitMsg>)
-        requires setup { IsSetup setup.now }
+    fn ask_again(&self, setup: &HostSetup, effects: &mut Effects<CommitMsg>)
+        requires setup { IsHostSetup setup.now }
         requires empty { effects.old ≡ asked_for setup.now [] }
         ensures room { length effects.new.list ≤ setup.now.servers }
         ensures effects { effects.new ≡ asked_for setup.now
@@ -250,8 +256,8 @@ impl Conduct {
     }
 
     /// Handles the timer during a transaction.
-    pub fn timed_out(&self, setup: &Setup, effects: &mut Effects<CommitMsg>)
-        requires setup { IsSetup setup.now }
+    pub fn timed_out(&self, setup: &HostSetup, effects: &mut Effects<CommitMsg>)
+        requires setup { IsHostSetup setup.now }
         requires empty { effects.old ≡ asked_for setup.now [] }
         ensures { effects.new ≡ asked_for setup.now (timed_out setup.now self.now).1 }
     {
@@ -262,8 +268,8 @@ impl Conduct {
     }
 
     /// Goes on once settled: asks for votes, or answers the client and reports the commit.
-    fn settle(&mut self, setup: &Setup, effects: &mut Effects<CommitMsg>)
-        requires setup { IsSetup setup.now }
+    fn settle(&mut self, setup: &HostSetup, effects: &mut Effects<CommitMsg>)
+        requires setup { IsHostSetup setup.now }
         requires placed { IsPlacedConduct setup.now.hosts self.old }
         requires empty { effects.old ≡ asked_for setup.now [] }
         ensures state { self.new ≡ (settled self.old.phase self.old.owed setup.now self.old).0 }
@@ -286,8 +292,8 @@ impl Conduct {
     }
 
     /// Handles a sync.
-    pub fn synced(&mut self, setup: &Setup, effects: &mut Effects<CommitMsg>)
-        requires setup { IsSetup setup.now }
+    pub fn synced(&mut self, setup: &HostSetup, effects: &mut Effects<CommitMsg>)
+        requires setup { IsHostSetup setup.now }
         requires placed { IsPlacedConduct setup.now.hosts self.old }
         requires empty { effects.old ≡ asked_for setup.now [] }
         ensures state { self.new ≡ (coordinator_synced setup.now self.old).0 }

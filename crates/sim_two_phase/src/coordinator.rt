@@ -1,6 +1,6 @@
 //! The rows of the coordinator: waiting hosts, votes, and what it reads from its disk at a boot.
 ghost use Rattle.std.specs.Prelude.{ℕ, List, Option, ◌≡◌, ◌<◌, [], slice_set};
-ghost use Rattle.sim_node.specs.Node.{IsSetup, IsFrom};
+ghost use Rattle.sim_node.specs.Node.{IsHostSetup, IsFrom};
 ghost use Rattle.sim_hosts.specs.Reactions.{asked_for};
 ghost use Rattle.sim_hosts.specs.Waiting.{restored, IsPlacedSlot};
 ghost use Rattle.sim_two_phase.specs.TwoPhase.{presumed, coordinator_at_boot, is_of_this};
@@ -15,7 +15,7 @@ use crate::{CommitMsg, Conduct, Coordinator, First, Phase, Slots};
 use sim_hosts::{
     HostSet, SlotBefore, byte_at, is_other, lowest_waiting, number_at, put_back, wait_with,
 };
-use sim_node::{Effects, Input, Setup};
+use sim_node::{Effects, HostSetup, Input};
 
 /// A reaction that changed no slot.
 const UNCHANGED: Slots = Slots {
@@ -71,10 +71,10 @@ impl Coordinator {
         &mut self,
         client: u16,
         number: u64,
-        setup: &Setup,
+        setup: &HostSetup,
         effects: &mut Effects<CommitMsg>,
     ) -> SlotBefore<u64>
-        requires setup { IsSetup setup.now }
+        requires setup { IsHostSetup setup.now }
         requires client { client < setup.now.hosts }
         requires placed { IsPlacedConduct setup.now.hosts self.old.conduct }
         requires empty { effects.old ≡ asked_for setup.now [] }
@@ -100,8 +100,8 @@ impl Coordinator {
     }
 
     /// Begins a transaction for the lowest waiting host, if one waits.
-    fn begin(&mut self, setup: &Setup, effects: &mut Effects<CommitMsg>) -> SlotBefore<u64>
-        requires setup { IsSetup setup.now }
+    fn begin(&mut self, setup: &HostSetup, effects: &mut Effects<CommitMsg>) -> SlotBefore<u64>
+        requires setup { IsHostSetup setup.now }
         requires placed { IsPlacedConduct setup.now.hosts self.old.conduct }
         requires empty { effects.old ≡ asked_for setup.now [] }
         ensures state { self.new ≡ (begun setup.now self.old).0 }
@@ -130,10 +130,10 @@ impl Coordinator {
         &mut self,
         from: u16,
         number: u64,
-        setup: &Setup,
+        setup: &HostSetup,
         effects: &mut Effects<CommitMsg>,
     ) -> Slots
-        requires setup { IsSetup setup.now }
+        requires setup { IsHostSetup setup.now }
         requires from { from < setup.now.hosts }
         requires placed { IsPlacedConduct setup.now.hosts self.old.conduct }
         requires empty { effects.old ≡ asked_for setup.now [] }
@@ -156,8 +156,8 @@ impl Coordinator {
     }
 
     /// Handles the timer.
-    fn timed_out(&mut self, setup: &Setup, effects: &mut Effects<CommitMsg>) -> SlotBefore<u64>
-        requires setup { IsSetup setup.now }
+    fn timed_out(&mut self, setup: &HostSetup, effects: &mut Effects<CommitMsg>) -> SlotBefore<u64>
+        requires setup { IsHostSetup setup.now }
         requires placed { IsPlacedConduct setup.now.hosts self.old.conduct }
         requires empty { effects.old ≡ asked_for setup.now [] }
         ensures state { self.new ≡ (coordinator_timer self.old.conduct.phase setup.now self.old).0 }
@@ -175,15 +175,21 @@ impl Coordinator {
     }
 
     /// Returns whether the message is from a participant and about the current transaction.
-    fn is_of_this(&self, from: u16, u: u64, setup: &Setup) -> bool
+    fn is_of_this(&self, from: u16, u: u64, setup: &HostSetup) -> bool
         ensures { result ≡ is_of_this from u setup.now self.now.conduct }
     {
         is_other(setup, from) && u == self.conduct.transaction
     }
 
     /// Reacts to a message that does not change who waits.
-    fn hear(&mut self, from: u16, msg: &CommitMsg, setup: &Setup, effects: &mut Effects<CommitMsg>)
-        requires setup { IsSetup setup.now }
+    fn hear(
+        &mut self,
+        from: u16,
+        msg: &CommitMsg,
+        setup: &HostSetup,
+        effects: &mut Effects<CommitMsg>,
+    )
+        requires setup { IsHostSetup setup.now }
         requires from { from < setup.now.hosts }
         requires placed { IsPlacedConduct setup.now.hosts self.old.conduct }
         requires empty { effects.old ≡ asked_for setup.now [] }
@@ -208,11 +214,11 @@ impl Coordinator {
     /// Reacts to an input. Returns the changed slots as they were before.
     pub fn react(
         &mut self,
-        setup: &Setup,
+        setup: &HostSetup,
         input: &Input<CommitMsg>,
         effects: &mut Effects<CommitMsg>,
     ) -> Slots
-        requires setup { IsSetup setup.now }
+        requires setup { IsHostSetup setup.now }
         requires sender { IsFrom setup.now.hosts input.now }
         requires placed { IsPlacedConduct setup.now.hosts self.old.conduct }
         requires empty { effects.old ≡ asked_for setup.now [] }

@@ -16,7 +16,7 @@ pub struct TwoPhase<T> {
 
 impl<T> Model for TwoPhase<T> {
     ghost use Rattle.std.specs.Prelude.{◌<◌};
-    ghost use Rattle.sim_node.specs.Node.{IsSetup};
+    ghost use Rattle.sim_node.specs.Node.{IsHostSetup};
     ghost use Rattle.sim_two_phase.specs.TwoPhaseRecords.{IsPlaced};
     ghost use Rattle.sim_two_phase.specs.declared.roles.State.{State};
 
@@ -24,7 +24,8 @@ impl<T> Model for TwoPhase<T> {
 
     ghost view = { λ node. node.state };
 
-    ghost invariant = { λ node. IsSetup node.state.setup × (node.state.me < node.state.setup.hosts)
+    ghost invariant = { λ node. IsHostSetup node.state.setup
+        × (node.state.me < node.state.setup.hosts)
         × IsPlaced node.state.setup.hosts node.state.role };
 }
 
@@ -51,7 +52,7 @@ impl<T: Meter> Node for TwoPhase<T> {
 
     ghost laws = { two_phase };
 
-    ghost told = { λ state. state.setup };
+    ghost told = { λ state. state.setup.hosts };
 
     ghost records = { commit_records };
 
@@ -72,7 +73,7 @@ impl<T: Meter> Node for TwoPhase<T> {
         };
         Ok(TwoPhase {
             state: State {
-                setup: *setup,
+                setup: setup.of_host(me),
                 me,
                 role,
             },
@@ -95,7 +96,7 @@ impl<T: Meter> Node for TwoPhase<T> {
         let undo = match &mut self.state.role {
             Role::Client { next } => {
                 let before = *next;
-                let ops = setup.ops[self.state.me as usize] as u64;
+                let ops = setup.ops as u64;
                 *next = client::react(setup, ops, before, input, effects);
                 CommitUndo::Client { next: before }
             }

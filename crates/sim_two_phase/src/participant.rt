@@ -11,7 +11,7 @@ ghost use Rattle.sim_two_phase.specs.TwoPhase.{decided, participant_synced, reac
 use crate::disk::{first_of_byte, force, noted};
 use crate::{CommitMsg, First, Participant, Status};
 use sim_hosts::{byte_at, number_at};
-use sim_node::{Effects, Input, Setup};
+use sim_node::{Effects, HostSetup, Input};
 
 /// How long a prepared participant waits before it asks for the outcome (ms).
 const PATIENCE: u32 = 100;
@@ -89,7 +89,7 @@ impl Participant {
     }
 
     /// Asks for the outcome of the transaction, if the participant is prepared.
-    fn inquire(&self, setup: &Setup, effects: &mut Effects<CommitMsg>)
+    fn inquire(&self, setup: &HostSetup, effects: &mut Effects<CommitMsg>)
         requires hosts { 0 < setup.now.hosts }
         requires empty { effects.old ≡ asked_for setup.now [] }
         ensures { effects.new ≡ asked_for setup.now (inquires self.now).1 }
@@ -111,7 +111,7 @@ impl Participant {
         }
     }
 
-    fn vote_yes(&mut self, u: u64, setup: &Setup, effects: &mut Effects<CommitMsg>)
+    fn vote_yes(&mut self, u: u64, setup: &HostSetup, effects: &mut Effects<CommitMsg>)
         requires empty { effects.old ≡ asked_for setup.now [] }
         ensures state { self.new ≡ (votes_yes u self.old).0 }
         ensures effects { effects.new ≡ asked_for setup.now (votes_yes u self.old).1 }
@@ -120,7 +120,7 @@ impl Participant {
         effects.timer(PATIENCE);
     }
 
-    fn vote_no(&mut self, u: u64, setup: &Setup, effects: &mut Effects<CommitMsg>)
+    fn vote_no(&mut self, u: u64, setup: &HostSetup, effects: &mut Effects<CommitMsg>)
         requires hosts { 0 < setup.now.hosts }
         requires empty { effects.old ≡ asked_for setup.now [] }
         ensures state { self.new ≡ (votes_no u self.old).0 }
@@ -141,7 +141,7 @@ impl Participant {
     }
 
     /// Handles a request for a vote; the random word of the turn decides a new vote.
-    fn prepare(&mut self, u: u64, word: u32, setup: &Setup, effects: &mut Effects<CommitMsg>)
+    fn prepare(&mut self, u: u64, word: u32, setup: &HostSetup, effects: &mut Effects<CommitMsg>)
         requires hosts { 0 < setup.now.hosts }
         requires empty { effects.old ≡ asked_for setup.now [] }
         ensures state { self.new ≡ (prepares u word self.old).0 }
@@ -159,7 +159,7 @@ impl Participant {
     }
 
     /// Handles the outcome of the transaction for which the participant is prepared.
-    fn learn(&mut self, u: u64, commit: bool, setup: &Setup, effects: &mut Effects<CommitMsg>)
+    fn learn(&mut self, u: u64, commit: bool, setup: &HostSetup, effects: &mut Effects<CommitMsg>)
         requires empty { effects.old ≡ asked_for setup.now [] }
         requires this { u ≡ self.old.transaction }
         ensures state { self.new ≡ (learns u commit self.old).0 }
@@ -181,7 +181,7 @@ impl Participant {
             && (u < self.transaction || (u == self.transaction && self.status == Status::Committed))
     }
 
-    fn decided(&mut self, u: u64, commit: bool, setup: &Setup, effects: &mut Effects<CommitMsg>)
+    fn decided(&mut self, u: u64, commit: bool, setup: &HostSetup, effects: &mut Effects<CommitMsg>)
         requires hosts { 0 < setup.now.hosts }
         requires empty { effects.old ≡ asked_for setup.now [] }
         ensures state { self.new ≡ (decided u commit self.old).0 }
@@ -195,7 +195,7 @@ impl Participant {
     }
 
     /// Handles a sync. If the participant is settled, it reports what is now stable.
-    fn synced(&mut self, setup: &Setup, effects: &mut Effects<CommitMsg>)
+    fn synced(&mut self, setup: &HostSetup, effects: &mut Effects<CommitMsg>)
         requires hosts { 0 < setup.now.hosts }
         requires empty { effects.old ≡ asked_for setup.now [] }
         ensures state { self.new ≡ (participant_synced self.old).0 }
@@ -214,7 +214,7 @@ impl Participant {
     /// Reacts to an input, with the random word of the turn.
     pub fn react(
         &mut self,
-        setup: &Setup,
+        setup: &HostSetup,
         input: &Input<CommitMsg>,
         word: u32,
         effects: &mut Effects<CommitMsg>,

@@ -1,6 +1,6 @@
 //! The messages of two-phase commit, what its hosts keep, and the records of their reactions.
 use sim_hosts::{Boxed, HostSet, SlotBefore};
-use sim_node::Setup;
+use sim_node::HostSetup;
 
 /// A message. The coordinator counts transactions from 1, a client its operations from 1. A flag
 /// comes first, next to the tag, to save bytes.
@@ -108,7 +108,7 @@ pub enum Role {
 /// The state of a host.
 #[derive(Drop)]
 pub struct State {
-    pub setup: Setup,
+    pub setup: HostSetup,
     pub me: u16,
     pub role: Role,
 }
