@@ -5,11 +5,12 @@ use Rattle.std.specs.Prelude.{ℕ, ◌+◌, ◌*◌, ◌%◌, ◌==◌, nat_lt, 
 use Rattle.std.specs.Prelude.{[], ◌∷◌, ◌++◌, map, replicate, slice_index, slice_set, Option, None}
 use Rattle.std.specs.Prelude.{Some, if◌then◌else◌}
 use Rattle.sim_node.specs.declared.Setup.{Setup}
+use Rattle.sim_node.specs.declared.host_setup.HostSetup.{HostSetup}
 use Rattle.sim_node.specs.declared.Input.{Input}
 use Rattle.sim_node.specs.declared.Input.TheVariants as input
 use Rattle.sim_node.specs.Numbers.{numbers_from}
 use Rattle.sim_node.specs.Effects.{Effect}
-use Rattle.sim_node.specs.Node.{NodeLaws, is_server}
+use Rattle.sim_node.specs.Node.{NodeLaws, is_server, host_setup}
 use Rattle.sim_primary_backup.specs.declared.roles.BackupMsg.{BackupMsg}
 use Rattle.sim_primary_backup.specs.declared.roles.BackupMsg.TheVariants.{Put, Apply, Ack, Fin}
 use Rattle.sim_primary_backup.specs.declared.roles.Store.{Store}
@@ -18,7 +19,7 @@ use Rattle.sim_primary_backup.specs.declared.roles.Primary.{Primary}
 use Rattle.sim_primary_backup.specs.declared.roles.Role.{Role}
 use Rattle.sim_primary_backup.specs.declared.roles.Role.TheVariants as role
 use Rattle.sim_primary_backup.specs.declared.roles.State.{State}
-use Rattle.sim_hosts.specs.Numbers.{raised, lowered, is_settled, plus, times, ops_of}
+use Rattle.sim_hosts.specs.Numbers.{raised, lowered, is_settled, plus, times}
 use Rattle.sim_hosts.specs.Reactions.{Reaction}
 use Rattle.sim_hosts.specs.Bytes.{bytes_of, number_at}
 use Rattle.sim_hosts.specs.Hosts.{nobody, others, is_other, joined, all_in, not_in, to_all}
@@ -68,7 +69,7 @@ primary_at_boot bytes =
     record { store = store_on bytes; current = None; waiting = replicate 32 None }
 
 -- it starts: it spreads the last applied put again, since that put may have been lost
-abbrev pub started : Setup → Primary → Reaction Primary BackupMsg
+abbrev pub started : HostSetup → Primary → Reaction Primary BackupMsg
 started setup p =
     if nat_lt 0 p.store.progress.applied then (
       record p { current = Some (record { client = None; number = 0; answers = nobody }) },
@@ -92,7 +93,7 @@ begun client number val p =
     )
 
 -- it begins the put of the lowest waiting host, which then no longer waits
-abbrev pub begun_lowest : Setup → Primary → Reaction Primary BackupMsg
+abbrev pub begun_lowest : HostSetup → Primary → Reaction Primary BackupMsg
 begun_lowest setup p = elim (lowest_waiting setup p.waiting) [
   | None ↦ (record p { current = None }, [])
   | Some w ↦ begun w.0 w.1.number w.1.val (record p { waiting = slice_set p.waiting w.0 None })
@@ -118,42 +119,42 @@ put_by from i val (Some r) p =
 abbrev pub fin_of : Request → List (Effect BackupMsg)
 fin_of r = elim r.client [ None ↦ [] | Some client ↦ Effect.Send client (Fin r.number) ∷ [] ]
 
-abbrev pub finished : Request → Setup → Primary → Reaction Primary BackupMsg
+abbrev pub finished : Request → HostSetup → Primary → Reaction Primary BackupMsg
 finished r setup p = let next = begun_lowest setup p in (next.0, fin_of r ++ next.1)
 
 -- a backup has the put; after the last backup the put ends
-abbrev pub acknowledged : ℕ → Request → Setup → Primary → Reaction Primary BackupMsg
+abbrev pub acknowledged : ℕ → Request → HostSetup → Primary → Reaction Primary BackupMsg
 acknowledged from r setup p =
     if all_in (others setup) (joined from r.answers) then finished r setup p
     else (record p { current = Some (record r { answers = joined from r.answers }) }, [])
 
-abbrev pub acked : ℕ → ℕ → Option Request → Setup → Primary → Reaction Primary BackupMsg
+abbrev pub acked : ℕ → ℕ → Option Request → HostSetup → Primary → Reaction Primary BackupMsg
 acked from m None setup p = (p, [])
 acked from m (Some r) setup p =
     if is_other setup from && (m == p.store.progress.applied) then acknowledged from r setup p
     else (p, [])
 
 -- sends the put to the backups that have not answered
-abbrev pub spread : Request → Setup → Primary → List (Effect BackupMsg)
+abbrev pub spread : Request → HostSetup → Primary → List (Effect BackupMsg)
 spread r setup p = to_all (not_in (others setup) r.answers) (apply_of p.store)
 
-abbrev pub primary_timer : Option Request → Setup → Primary → Reaction Primary BackupMsg
+abbrev pub primary_timer : Option Request → HostSetup → Primary → Reaction Primary BackupMsg
 primary_timer None setup p = (p, [])
 primary_timer (Some r) setup p = (
   p,
   (if is_settled p.store.progress.unsure then spread r setup p else []) ++ Effect.Timer 100 ∷ [],
 )
 
-abbrev pub settled : Option Request → Setup → Primary → Reaction Primary BackupMsg
+abbrev pub settled : Option Request → HostSetup → Primary → Reaction Primary BackupMsg
 settled None setup p = (p, [])
 settled (Some r) setup p = (p, spread r setup p ++ Effect.Timer 100 ∷ [])
 
-abbrev pub primary_synced : Setup → Primary → Reaction Primary BackupMsg
+abbrev pub primary_synced : HostSetup → Primary → Reaction Primary BackupMsg
 primary_synced setup p =
     let new = record p { store = after_sync p.store } in
     if is_settled new.store.progress.unsure then settled new.current setup new else (new, [])
 
-abbrev pub react_primary : Setup → Primary → Input BackupMsg → Reaction Primary BackupMsg
+abbrev pub react_primary : HostSetup → Primary → Input BackupMsg → Reaction Primary BackupMsg
 react_primary setup p input.Start = started setup p
 react_primary setup p input.Timer = primary_timer p.current setup p
 react_primary setup p input.Synced = primary_synced setup p
@@ -217,7 +218,8 @@ role_at_boot setup me bytes =
     else role.Backup (store_on bytes)
 
 abbrev pub boot : Setup → ℕ → List ℕ → State
-boot setup me bytes = record { setup = setup; me = me; role = role_at_boot setup me bytes }
+boot setup me bytes =
+    record { setup = host_setup setup me; me = me; role = role_at_boot setup me bytes }
 
 abbrev pub in_role : {Part : Type 0} → (Part → Role) → Reaction Part BackupMsg → State
     → Reaction State BackupMsg
@@ -225,7 +227,7 @@ in_role as_role reaction state = (record state { role = as_role reaction.0 }, re
 
 abbrev pub react_as : Role → Input BackupMsg → State → Reaction State BackupMsg
 react_as (role.Client next) i state =
-    in_role role.Client (react_client state.me (ops_of state.setup state.me) next i) state
+    in_role role.Client (react_client state.me state.setup.ops next i) state
 react_as (role.Primary p) i state = in_role role.Primary (react_primary state.setup p i) state
 react_as (role.Backup store) i state = in_role role.Backup (react_backup store i) state
 

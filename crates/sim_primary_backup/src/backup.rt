@@ -7,7 +7,7 @@ ghost use Rattle.sim_primary_backup.specs.PrimaryBackupRecords.{IsPlacedStore, I
 ghost use Rattle.sim_primary_backup.specs.PrimaryBackupRecords.{restored_cell};
 
 use crate::{BackupMsg, CellBefore, Store};
-use sim_node::{Effects, Input, Setup};
+use sim_node::{Effects, HostSetup, Input};
 
 /// A put that the primary asks to apply.
 #[derive(Clone, Copy)]
@@ -23,7 +23,7 @@ impl Store {
         &mut self,
         from: u16,
         put: Apply,
-        setup: &Setup,
+        setup: &HostSetup,
         effects: &mut Effects<BackupMsg>,
     ) -> CellBefore
         requires from { from < setup.now.hosts }
@@ -47,7 +47,7 @@ impl Store {
     }
 
     /// Handles a sync. If the backup is settled, it acknowledges what it has applied.
-    fn backup_synced(&mut self, setup: &Setup, effects: &mut Effects<BackupMsg>)
+    fn backup_synced(&mut self, setup: &HostSetup, effects: &mut Effects<BackupMsg>)
         requires hosts { 0 < setup.now.hosts }
         requires empty { effects.old ≡ asked_for setup.now [] }
         ensures state { self.new ≡ (backup_synced self.old).0 }
@@ -61,7 +61,7 @@ impl Store {
     /// Reacts to an input as a backup. Returns what a cell held, if it has changed.
     pub fn react_as_backup(
         &mut self,
-        setup: &Setup,
+        setup: &HostSetup,
         input: &Input<BackupMsg>,
         effects: &mut Effects<BackupMsg>,
     ) -> CellBefore

@@ -5,13 +5,13 @@ ghost use Rattle.sim_primary_backup.specs.PrimaryBackup.{client_puts, client_ans
 ghost use Rattle.sim_primary_backup.specs.PrimaryBackup.{react_client};
 
 use crate::BackupMsg;
-use sim_node::{Effects, Input, Setup};
+use sim_node::{Effects, HostSetup, Input};
 
 /// How long a client waits for the end of its put before it sends it again (ms).
 const PATIENCE: u32 = 200;
 
 /// Sends the client's put number `next`, and returns that number.
-fn put(setup: &Setup, me: u16, next: u64, effects: &mut Effects<BackupMsg>) -> u64
+fn put(setup: &HostSetup, me: u16, next: u64, effects: &mut Effects<BackupMsg>) -> u64
     requires hosts { 0 < setup.now.hosts }
     requires empty { effects.old ≡ asked_for setup.now [] }
     ensures next { result ≡ (client_puts me next).0 }
@@ -24,7 +24,13 @@ fn put(setup: &Setup, me: u16, next: u64, effects: &mut Effects<BackupMsg>) -> u
 }
 
 /// Handles the end of a put. Returns the number of the put that the client then waits for.
-fn answered(setup: &Setup, me: u16, ops: u64, next: u64, effects: &mut Effects<BackupMsg>) -> u64
+fn answered(
+    setup: &HostSetup,
+    me: u16,
+    ops: u64,
+    next: u64,
+    effects: &mut Effects<BackupMsg>,
+) -> u64
     requires hosts { 0 < setup.now.hosts }
     requires empty { effects.old ≡ asked_for setup.now [] }
     ensures next { result ≡ (client_answered me ops next).0 }
@@ -42,7 +48,7 @@ fn answered(setup: &Setup, me: u16, ops: u64, next: u64, effects: &mut Effects<B
 /// Reacts as a client with `ops` operations that waits for its put number `next`. Returns the
 /// number of the put that it then waits for.
 pub fn react(
-    setup: &Setup,
+    setup: &HostSetup,
     me: u16,
     ops: u64,
     next: u64,

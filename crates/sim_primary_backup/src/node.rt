@@ -15,7 +15,7 @@ pub struct PrimaryBackup<T> {
 
 impl<T> Model for PrimaryBackup<T> {
     ghost use Rattle.std.specs.Prelude.{◌<◌};
-    ghost use Rattle.sim_node.specs.Node.{IsSetup};
+    ghost use Rattle.sim_node.specs.Node.{IsHostSetup};
     ghost use Rattle.sim_primary_backup.specs.PrimaryBackupRecords.{IsPlaced};
     ghost use Rattle.sim_primary_backup.specs.declared.roles.State.{State};
 
@@ -23,7 +23,8 @@ impl<T> Model for PrimaryBackup<T> {
 
     ghost view = { λ node. node.state };
 
-    ghost invariant = { λ node. IsSetup node.state.setup × (node.state.me < node.state.setup.hosts)
+    ghost invariant = { λ node. IsHostSetup node.state.setup
+        × (node.state.me < node.state.setup.hosts)
         × IsPlaced node.state.setup.hosts node.state.role };
 }
 
@@ -50,7 +51,7 @@ impl<T: Meter> Node for PrimaryBackup<T> {
 
     ghost laws = { primary_backup };
 
-    ghost told = { λ state. state.setup };
+    ghost told = { λ state. state.setup.hosts };
 
     ghost records = { backup_records };
 
@@ -71,7 +72,7 @@ impl<T: Meter> Node for PrimaryBackup<T> {
         };
         Ok(PrimaryBackup {
             state: State {
-                setup: *setup,
+                setup: setup.of_host(me),
                 me,
                 role,
             },
@@ -94,7 +95,7 @@ impl<T: Meter> Node for PrimaryBackup<T> {
         let undo = match &mut self.state.role {
             Role::Client { next } => {
                 let before = *next;
-                let ops = setup.ops[self.state.me as usize] as u64;
+                let ops = setup.ops as u64;
                 *next = client::react(setup, self.state.me, ops, before, input, effects);
                 BackupUndo::Client { next: before }
             }

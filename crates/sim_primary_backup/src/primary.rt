@@ -1,7 +1,7 @@
 //! The rows of the primary, which begins puts, sends them to the backups and answers their clients.
 ghost use Rattle.std.specs.Prelude.{ℕ, List, Option, ◌≡◌, ◌+◌, ◌<◌, ◌≤◌, ◌++◌, [], length, Some};
 ghost use Rattle.std.specs.Prelude.{IfSome, slice_set};
-ghost use Rattle.sim_node.specs.Node.{IsSetup, IsFrom};
+ghost use Rattle.sim_node.specs.Node.{IsHostSetup, IsFrom};
 ghost use Rattle.sim_hosts.specs.Reactions.{asked_for};
 ghost use Rattle.sim_hosts.specs.Waiting.{restored, IsPlacedSlot};
 ghost use Rattle.sim_primary_backup.specs.PrimaryBackup.{primary_at_boot, started, begun};
@@ -18,7 +18,7 @@ use sim_hosts::{
     HostSet, SlotBefore, is_other, lowest_waiting, put_back, send_to_all, send_to_missing,
     wait_with,
 };
-use sim_node::{Effects, Input, Setup};
+use sim_node::{Effects, HostSetup, Input};
 
 /// How long the primary waits for the backups before it sends again (ms).
 const PATIENCE: u32 = 100;
@@ -41,7 +41,7 @@ impl Request {
     }
 
     /// Sends the put's client, if it has one, the answer that the put has ended.
-    fn tell(&self, setup: &Setup, effects: &mut Effects<BackupMsg>)
+    fn tell(&self, setup: &HostSetup, effects: &mut Effects<BackupMsg>)
         requires client { IfSome self.now.client (λ client. client < setup.now.hosts) }
         requires empty { effects.old ≡ asked_for setup.now [] }
         ensures { effects.new ≡ asked_for setup.now (fin_of self.now) }
@@ -66,8 +66,8 @@ impl Primary {
     }
 
     /// Handles the start: if a put was applied, sends the last one to the backups again.
-    fn start(&mut self, setup: &Setup, effects: &mut Effects<BackupMsg>)
-        requires setup { IsSetup setup.now }
+    fn start(&mut self, setup: &HostSetup, effects: &mut Effects<BackupMsg>)
+        requires setup { IsHostSetup setup.now }
         requires placed { IsPlacedPrimary setup.now.hosts self.old.store.progress self.old.current }
         requires empty { effects.old ≡ asked_for setup.now [] }
         ensures state { self.new ≡ (started setup.now self.old).0 }
@@ -90,7 +90,7 @@ impl Primary {
         &mut self,
         client: u16,
         put: Waiter,
-        setup: &Setup,
+        setup: &HostSetup,
         effects: &mut Effects<BackupMsg>,
     ) -> CellBefore
         requires client { client < setup.now.hosts }
@@ -129,8 +129,8 @@ impl Primary {
     }
 
     /// Begins the put of the lowest waiting host, or rests if none waits.
-    fn begin_lowest(&mut self, setup: &Setup, effects: &mut Effects<BackupMsg>) -> Changes
-        requires setup { IsSetup setup.now }
+    fn begin_lowest(&mut self, setup: &HostSetup, effects: &mut Effects<BackupMsg>) -> Changes
+        requires setup { IsHostSetup setup.now }
         requires placed { IsPlacedPrimary setup.now.hosts self.old.store.progress self.old.current }
         requires room { length effects.old.list < 8 }
         ensures state { self.new ≡ (begun_lowest setup.now self.old).0 }
@@ -160,10 +160,10 @@ impl Primary {
         &mut self,
         from: u16,
         put: Waiter,
-        setup: &Setup,
+        setup: &HostSetup,
         effects: &mut Effects<BackupMsg>,
     ) -> Changes
-        requires setup { IsSetup setup.now }
+        requires setup { IsHostSetup setup.now }
         requires from { from < setup.now.hosts }
         requires placed { IsPlacedPrimary setup.now.hosts self.old.store.progress self.old.current }
         requires empty { effects.old ≡ asked_for setup.now [] }
@@ -197,10 +197,10 @@ impl Primary {
         &mut self,
         from: u16,
         current: Request,
-        setup: &Setup,
+        setup: &HostSetup,
         effects: &mut Effects<BackupMsg>,
     ) -> Changes
-        requires setup { IsSetup setup.now }
+        requires setup { IsHostSetup setup.now }
         requires from { from < setup.now.hosts }
         requires current { IsPlacedPrimary setup.now.hosts self.old.store.progress (Some current) }
         requires placed { IsPlacedPrimary setup.now.hosts self.old.store.progress self.old.current }
@@ -227,10 +227,10 @@ impl Primary {
         &mut self,
         from: u16,
         m: u64,
-        setup: &Setup,
+        setup: &HostSetup,
         effects: &mut Effects<BackupMsg>,
     ) -> Changes
-        requires setup { IsSetup setup.now }
+        requires setup { IsHostSetup setup.now }
         requires from { from < setup.now.hosts }
         requires placed { IsPlacedPrimary setup.now.hosts self.old.store.progress self.old.current }
         requires empty { effects.old ≡ asked_for setup.now [] }
@@ -252,8 +252,8 @@ impl Primary {
     }
 
     /// Sends the current put to the backups that have not answered.
-    fn spread(&self, current: Request, setup: &Setup, effects: &mut Effects<BackupMsg>)
-        requires setup { IsSetup setup.now }
+    fn spread(&self, current: Request, setup: &HostSetup, effects: &mut Effects<BackupMsg>)
+        requires setup { IsHostSetup setup.now }
         requires placed { IsPlacedPrimary setup.now.hosts self.now.store.progress self.now.current }
         requires empty { effects.old ≡ asked_for setup.now [] }
         ensures room { length effects.new.list ≤ setup.now.servers }
@@ -264,8 +264,8 @@ impl Primary {
     }
 
     /// Handles the timer.
-    fn timed_out(&self, setup: &Setup, effects: &mut Effects<BackupMsg>)
-        requires setup { IsSetup setup.now }
+    fn timed_out(&self, setup: &HostSetup, effects: &mut Effects<BackupMsg>)
+        requires setup { IsHostSetup setup.now }
         requires placed { IsPlacedPrimary setup.now.hosts self.now.store.progress self.now.current }
         requires empty { effects.old ≡ asked_for setup.now [] }
         ensures { effects.new ≡ asked_for setup.now (primary_timer self.now.current setup.now
@@ -280,8 +280,8 @@ impl Primary {
     }
 
     /// Handles a sync. If the primary is settled, it sends its put to the backups.
-    fn synced(&mut self, setup: &Setup, effects: &mut Effects<BackupMsg>)
-        requires setup { IsSetup setup.now }
+    fn synced(&mut self, setup: &HostSetup, effects: &mut Effects<BackupMsg>)
+        requires setup { IsHostSetup setup.now }
         requires placed { IsPlacedPrimary setup.now.hosts self.old.store.progress self.old.current }
         requires empty { effects.old ≡ asked_for setup.now [] }
         ensures state { self.new ≡ (primary_synced setup.now self.old).0 }
@@ -301,11 +301,11 @@ impl Primary {
     /// changed.
     pub fn react(
         &mut self,
-        setup: &Setup,
+        setup: &HostSetup,
         input: &Input<BackupMsg>,
         effects: &mut Effects<BackupMsg>,
     ) -> Changes
-        requires setup { IsSetup setup.now }
+        requires setup { IsHostSetup setup.now }
         requires sender { IsFrom setup.now.hosts input.now }
         requires placed { IsPlacedPrimary setup.now.hosts self.old.store.progress self.old.current }
         requires empty { effects.old ≡ asked_for setup.now [] }

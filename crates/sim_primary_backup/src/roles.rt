@@ -1,6 +1,6 @@
 //! The messages of primary-backup, what its hosts keep, and the records of their reactions.
 use sim_hosts::{Boxed, HostSet, SlotBefore};
-use sim_node::Setup;
+use sim_node::HostSetup;
 
 /// A message. A client counts its puts from 1; the primary counts all puts as it applies them.
 #[derive(Clone, Copy, Debug)]
@@ -70,7 +70,7 @@ pub enum Role {
 /// The state of a host.
 #[derive(Drop)]
 pub struct State {
-    pub setup: Setup,
+    pub setup: HostSetup,
     pub me: u16,
     pub role: Role,
 }
