@@ -1,13 +1,13 @@
 -- The tables of the counter: a client asks a server to add one; the server saves its count and
 -- answers the client.
-use Rattle.std.specs.Prelude.{ℕ, ◌+◌, ◌-◌, ◌%◌, ◌^◌, ◌==◌, nat_le, ◌&&◌, min, length, slice_index}
+use Rattle.std.specs.Prelude.{ℕ, ◌+◌, ◌-◌, ◌%◌, ◌^◌, ◌==◌, nat_le, ◌&&◌, min, length}
 use Rattle.std.specs.Prelude.{List, [], ◌∷◌, if◌then◌else◌}
 use Rattle.std.specs.Int.{w64, to_le_bytes, from_le_bytes}
 use Rattle.sim_node.specs.declared.Setup.{Setup}
 use Rattle.sim_node.specs.declared.Input.{Input}
 use Rattle.sim_node.specs.declared.Input.TheVariants as input
 use Rattle.sim_node.specs.Effects.{Effect}
-use Rattle.sim_node.specs.Node.{NodeLaws, is_server}
+use Rattle.sim_node.specs.Node.{NodeLaws, is_server, host_setup}
 use Rattle.example_counter.specs.declared.Message.{Message}
 use Rattle.example_counter.specs.declared.Message.TheVariants.{Add, Added}
 use Rattle.example_counter.specs.declared.Role.{Role}
@@ -29,7 +29,7 @@ count_on bytes = if length bytes == 8 then from_le_bytes w64 bytes else 0
 abbrev pub boot : Setup → ℕ → List ℕ → State
 boot setup me bytes =
     record {
-      setup = setup;
+      setup = host_setup setup me;
       me = me;
       role = if is_server setup me then Idle (count_on bytes) else Client 0;
     }
@@ -50,7 +50,7 @@ asking n state = (
 -- the answer to operation n has come; after the last one the client is done
 abbrev pub answered : ℕ → State → Reaction
 answered n state =
-    if n == slice_index state.setup.ops state.me
+    if n == state.setup.ops
     then (in_role (Client (raised n)) state, Effect.Done ∷ [])
     else asking (raised n) state
 
@@ -65,7 +65,7 @@ adding count client n state = (
 abbrev pub react_as : Role → Input Message → State → Reaction
 react_as (Client next) input.Start state = asking 1 state
 react_as (Client next) input.Timer state =
-    if nat_le 1 next && nat_le next (slice_index state.setup.ops state.me) then asking next state
+    if nat_le 1 next && nat_le next state.setup.ops then asking next state
     else nothing state
 react_as (Client next) (input.Message sender (Added n)) state =
     if n == next then answered next state else nothing state

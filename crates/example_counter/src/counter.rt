@@ -1,4 +1,4 @@
-ghost use Rattle.std.specs.Prelude.{◌≡◌, ◌<◌, [], slice_index};
+ghost use Rattle.std.specs.Prelude.{◌≡◌, ◌<◌, []};
 ghost use Rattle.example_counter.specs.Table.{count_on, asking, answered, adding};
 
 use crate::{Message, Role, State};
@@ -19,7 +19,7 @@ pub struct Counter<T> {
 
 impl<T> Model for Counter<T> {
     ghost use Rattle.std.specs.Prelude.{◌<◌};
-    ghost use Rattle.sim_node.specs.Node.{IsSetup};
+    ghost use Rattle.sim_node.specs.Node.{IsHostSetup};
     ghost use Rattle.example_counter.specs.Records.{IsPlaced};
     ghost use Rattle.example_counter.specs.declared.State.{State};
 
@@ -27,7 +27,7 @@ impl<T> Model for Counter<T> {
 
     ghost view = { λ c. c.state };
 
-    ghost invariant = { λ c. IsSetup c.state.setup × (c.state.me < c.state.setup.hosts)
+    ghost invariant = { λ c. IsHostSetup c.state.setup × (c.state.me < c.state.setup.hosts)
         × IsPlaced c.state.setup.hosts c.state.role };
 }
 
@@ -101,9 +101,9 @@ impl<T> Counter<T> {
 
     /// Returns how many operations the client has.
     fn operations(&self) -> u64
-        ensures { result ≡ slice_index self.now.setup.ops self.now.me }
+        ensures { result ≡ self.now.setup.ops }
     {
-        self.state.setup.ops[self.state.me as usize] as u64
+        self.state.setup.ops as u64
     }
 }
 
@@ -123,7 +123,7 @@ impl<T: Meter> Node for Counter<T> {
 
     ghost laws = { counter };
 
-    ghost told = { λ state. state.setup };
+    ghost told = { λ state. state.setup.hosts };
 
     ghost records = { records };
 
@@ -144,7 +144,7 @@ impl<T: Meter> Node for Counter<T> {
         };
         Ok(Counter {
             state: State {
-                setup: *setup,
+                setup: setup.of_host(me),
                 me,
                 role,
             },

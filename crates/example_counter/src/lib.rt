@@ -24,7 +24,7 @@ mod counter;
 mod tests;
 
 pub use counter::Counter;
-use sim_node::Setup;
+use sim_node::HostSetup;
 
 /// A message of the counter, about operation n of a client.
 #[derive(Clone, Copy, Debug, PartialEq, Eq)]
@@ -50,7 +50,7 @@ pub enum Role {
 /// The state of a host.
 #[derive(Clone, Copy)]
 pub struct State {
-    pub setup: Setup,
+    pub setup: HostSetup,
     pub me: u16,
     pub role: Role,
 }
