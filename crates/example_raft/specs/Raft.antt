@@ -5,11 +5,12 @@ use Rattle.std.specs.Prelude.{ℕ, ◌+◌, ◌-◌, ◌*◌, ◌/◌, ◌%◌, 
 use Rattle.std.specs.Prelude.{true, false, ◌&&◌, ◌||◌, List, [], ◌∷◌, ◌++◌, take, count_by}
 use Rattle.std.specs.Prelude.{slice_index_or, slice_set, Option, None, Some, if◌then◌else◌}
 use Rattle.sim_node.specs.declared.Setup.{Setup}
+use Rattle.sim_node.specs.declared.host_setup.HostSetup.{HostSetup}
 use Rattle.sim_node.specs.declared.Input.{Input}
 use Rattle.sim_node.specs.declared.Input.TheVariants as input
 use Rattle.sim_node.specs.Effects.{Effect}
-use Rattle.sim_node.specs.Node.{NodeLaws, is_server}
-use Rattle.sim_hosts.specs.Numbers.{raised, lowered, is_settled, plus, times, ops_of}
+use Rattle.sim_node.specs.Node.{NodeLaws, is_server, host_setup}
+use Rattle.sim_hosts.specs.Numbers.{raised, lowered, is_settled, plus, times}
 use Rattle.sim_hosts.specs.Reactions.{Reaction}
 use Rattle.sim_hosts.specs.Hosts.{nobody, servers, joined, size, not_in, to_all}
 use Rattle.example_raft.specs.declared.rules.Rules.{Rules}
@@ -101,7 +102,7 @@ steps_down here term s =
 
 -- Elections.
 
-abbrev pub is_majority : ℕ → Setup → Bool
+abbrev pub is_majority : ℕ → HostSetup → Bool
 is_majority n setup = nat_lt setup.servers (2 * n)
 
 abbrev pub candidacy : ℕ → Standing → Standing
@@ -190,7 +191,7 @@ voted_by _ here from agrees term s =
 -- Commitment.
 
 -- how many servers have acknowledged n entries in this term
-abbrev pub holders : ℕ → Setup → Server → ℕ
+abbrev pub holders : ℕ → HostSetup → Server → ℕ
 holders n setup s =
     count_by (λ p. (p.term == s.standing.term) && nat_le n p.has) (take setup.servers s.peers)
 
@@ -202,7 +203,7 @@ may_commit here n s =
     && is_majority (holders n here.setup s + 1) here.setup
 
 -- the client of a value gets the answer that it is committed
-abbrev pub fin_of : ℕ → Setup → List (Effect Message)
+abbrev pub fin_of : ℕ → HostSetup → List (Effect Message)
 fin_of value setup =
     let client = (value - 1) / 1000 in
     if nat_le setup.servers client && nat_lt client setup.hosts
@@ -396,21 +397,21 @@ finished me ops c =
     else puts me new
 
 -- the server after this one; server 0 comes after the last
-abbrev pub next_server : ℕ → Setup → ℕ
+abbrev pub next_server : ℕ → HostSetup → ℕ
 next_server server setup = if nat_lt (server + 1) setup.servers then server + 1 else 0
 
 -- a client, a row for each input
-abbrev pub react_client : Setup → ℕ → Client → Input Message → Reaction Client Message
+abbrev pub react_client : HostSetup → ℕ → Client → Input Message → Reaction Client Message
 react_client setup me c input.Start = puts me (record c { next = 1 })
 react_client setup me c input.Timer =
-    if waits (ops_of setup me) c then puts me (record c { server = next_server c.server setup })
+    if waits setup.ops c then puts me (record c { server = next_server c.server setup })
     else (c, [])
 react_client setup me c (input.Message from (msg.Fin value)) =
-    if waits (ops_of setup me) c && (value == value_by me c.next)
-    then finished me (ops_of setup me) c
+    if waits setup.ops c && (value == value_by me c.next)
+    then finished me setup.ops c
     else (c, [])
 react_client setup me c (input.Message from (msg.Try server)) =
-    if waits (ops_of setup me) c && nat_lt server setup.servers
+    if waits setup.ops c && nat_lt server setup.servers
     then puts me (record c { server = server })
     else (c, [])
 react_client setup me c _ = (c, [])
@@ -419,11 +420,12 @@ react_client setup me c _ = (c, [])
 
 abbrev pub role_at_boot : Setup → ℕ → List ℕ → Role
 role_at_boot setup me bytes =
-    if is_server setup me then role.Server (server_on setup bytes)
+    if is_server setup me then role.Server (server_on (host_setup setup me) bytes)
     else role.Client (record { next = 0; server = me % setup.servers })
 
 abbrev pub boot : Setup → ℕ → List ℕ → State
-boot setup me bytes = record { setup = setup; me = me; role = role_at_boot setup me bytes }
+boot setup me bytes =
+    record { setup = host_setup setup me; me = me; role = role_at_boot setup me bytes }
 
 abbrev pub in_role : {Part : Type 0} → (Part → Role) → Reaction Part Message → State
     → Reaction State Message

@@ -3,7 +3,7 @@ use Rattle.std.specs.Prelude.{ℕ, zero, suc, ◌+◌, ◌-◌, ◌*◌, ◌==�
 use Rattle.std.specs.Prelude.{[], ◌∷◌, ◌++◌, take, replicate, position, slice_index, slice_index_or}
 use Rattle.std.specs.Prelude.{slice_set, Option, None, Some, if◌then◌else◌}
 use Rattle.std.specs.Int.{w64, to_be_bytes, from_be_bytes}
-use Rattle.sim_node.specs.declared.Setup.{Setup}
+use Rattle.sim_node.specs.declared.host_setup.HostSetup.{HostSetup}
 use Rattle.sim_node.specs.Effects.{Effect}
 use Rattle.sim_hosts.specs.Bytes.{bytes_of, number_at}
 use Rattle.sim_hosts.specs.Hosts.{nobody}
@@ -98,12 +98,12 @@ term_on bytes = from_be_bytes w64 (
     )
 
 -- a byte that names no server is no vote
-abbrev pub voted_on : Setup → List ℕ → Option ℕ
+abbrev pub voted_on : HostSetup → List ℕ → Option ℕ
 voted_on setup bytes =
     let byte = slice_index bytes 8 in
     if nat_le 1 byte && nat_le byte setup.servers then Some (byte - 1) else None
 
-abbrev pub server_on : Setup → List ℕ → Server
+abbrev pub server_on : HostSetup → List ℕ → Server
 server_on setup bytes =
     let found = log_on bytes in record {
       standing = record {

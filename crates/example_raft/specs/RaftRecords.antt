@@ -1,6 +1,6 @@
 -- The records of Raft: a client before a reaction, or a server's standing and what changed.
 use Rattle.std.specs.Prelude.{ℕ, ◌<◌, ◌≤◌, List, slice_set, IfSome}
-use Rattle.sim_node.specs.Node.{IsSetup, NodeRecords}
+use Rattle.sim_node.specs.Node.{IsHostSetup, NodeRecords}
 use Rattle.example_raft.specs.declared.roles.Entry.{Entry}
 use Rattle.example_raft.specs.declared.roles.Standing.{Standing}
 use Rattle.example_raft.specs.declared.roles.Peer.{Peer}
@@ -25,7 +25,7 @@ IsPlaced hosts (role.Server s) = IsPlacedStanding hosts s.standing
 
 -- A state is that of a host of a lawful cluster.
 pub record IsHost (state : State) : Type 0 where
-  pub setup : IsSetup state.setup
+  pub setup : IsHostSetup state.setup
   pub me : state.me < state.setup.hosts
   pub placed : IsPlaced state.setup.hosts state.role
 

@@ -1,7 +1,7 @@
 -- What the contracts of a server's reactions share.
 use Rattle.std.specs.Prelude.{◌≡◌, ◌<◌, ◌++◌, List, []}
 use Rattle.sim_node.specs.Effects.{Effect, Effects}
-use Rattle.sim_node.specs.Node.{IsSetup}
+use Rattle.sim_node.specs.Node.{IsHostSetup}
 use Rattle.sim_hosts.specs.Reactions.{Reaction, asked_for}
 use Rattle.example_raft.specs.declared.roles.Context.{Context}
 use Rattle.example_raft.specs.declared.roles.Message.{Message}
@@ -16,7 +16,7 @@ asking more effects = record effects { list = effects.list ++ more }
 
 -- the context is that of a host of a lawful cluster
 pub record IsContext (here : Context) : Type 0 where
-  pub setup : IsSetup here.setup
+  pub setup : IsHostSetup here.setup
   pub me : here.me < here.setup.hosts
 
 -- a server may begin to react: the hosts that it names exist, and it has no effects yet

@@ -1,12 +1,11 @@
 ghost use Rattle.std.specs.Prelude.{◌≡◌, ◌<◌, []};
-ghost use Rattle.sim_node.specs.Node.{IsSetup};
-ghost use Rattle.sim_hosts.specs.Numbers.{ops_of};
+ghost use Rattle.sim_node.specs.Node.{IsHostSetup};
 ghost use Rattle.sim_hosts.specs.Reactions.{asked_for};
 ghost use Rattle.example_raft.specs.Raft.{value_by, puts, waits, finished, next_server};
 ghost use Rattle.example_raft.specs.Raft.{react_client};
 
 use crate::{Client, Message};
-use sim_node::{Effects, Input, Setup};
+use sim_node::{Effects, HostSetup, Input};
 
 /// How long a client waits for an answer before it asks the next server (ms).
 const PATIENCE: u32 = 250;
@@ -19,8 +18,8 @@ fn value_by(me: u16, next: u64) -> u64
 }
 
 /// Returns the server after this one; server 0 comes after the last.
-fn next_server(server: u16, setup: &Setup) -> u16
-    requires { IsSetup setup.now }
+fn next_server(server: u16, setup: &HostSetup) -> u16
+    requires { IsHostSetup setup.now }
     ensures value { result ≡ next_server server setup.now }
     ensures host { result < setup.now.hosts }
 {
@@ -40,7 +39,7 @@ impl Client {
     }
 
     /// Sends the client's value to the server that it asks.
-    fn put(&self, me: u16, setup: &Setup, effects: &mut Effects<Message>)
+    fn put(&self, me: u16, setup: &HostSetup, effects: &mut Effects<Message>)
         requires server { self.now.server < setup.now.hosts }
         requires empty { effects.old ≡ asked_for setup.now [] }
         ensures { effects.new ≡ asked_for setup.now (puts me self.now).1 }
@@ -50,7 +49,7 @@ impl Client {
     }
 
     /// Goes on to the next operation after the value was committed.
-    fn finish(&mut self, me: u16, ops: u64, setup: &Setup, effects: &mut Effects<Message>)
+    fn finish(&mut self, me: u16, ops: u64, setup: &HostSetup, effects: &mut Effects<Message>)
         requires server { self.old.server < setup.now.hosts }
         requires empty { effects.old ≡ asked_for setup.now [] }
         ensures state { self.new ≡ (finished me ops self.old).0 }
@@ -69,14 +68,12 @@ impl Client {
     /// Reacts to an input.
     pub fn react(
         &mut self,
-        setup: &Setup,
+        setup: &HostSetup,
         me: u16,
-        ops: u64,
         input: &Input<Message>,
         effects: &mut Effects<Message>,
     )
-        requires setup { IsSetup setup.now }
-        requires ops { ops ≡ ops_of setup.now me }
+        requires setup { IsHostSetup setup.now }
         requires server { self.old.server < setup.now.hosts }
         requires empty { effects.old ≡ asked_for setup.now [] }
         ensures state { self.new ≡ (react_client setup.now me self.old input.now).0 }
@@ -84,6 +81,7 @@ impl Client {
         ensures effects { effects.new ≡ asked_for setup.now
             (react_client setup.now me self.old input.now).1 }
     {
+        let ops = setup.ops as u64;
         match input {
             Input::Start => {
                 self.next = 1;

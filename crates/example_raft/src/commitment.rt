@@ -1,5 +1,5 @@
 ghost use Rattle.std.specs.Prelude.{◌≡◌, ◌+◌, ◌<◌, ◌≤◌, ◌++◌, length};
-ghost use Rattle.sim_node.specs.Node.{IsSetup};
+ghost use Rattle.sim_node.specs.Node.{IsHostSetup};
 ghost use Rattle.example_raft.specs.declared.roles.Rank.TheVariants as rank;
 ghost use Rattle.example_raft.specs.RaftLog.{place_of};
 ghost use Rattle.example_raft.specs.Raft.{append_of, spread, holders, may_commit, fin_of, commits};
@@ -10,10 +10,10 @@ ghost use Rattle.example_raft.specs.Reacting.{asking, IsContext, MayReact, React
 use crate::elections::send_to_others;
 use crate::standing::{is_majority, term_of, value_of};
 use crate::{Ack, Append, Change, Context, Message, Rank, Server};
-use sim_node::{Effects, Setup};
+use sim_node::{Effects, HostSetup};
 
 /// Sends the client of a value the answer that it is committed.
-fn tell_client(value: u64, setup: &Setup, effects: &mut Effects<Message>)
+fn tell_client(value: u64, setup: &HostSetup, effects: &mut Effects<Message>)
     requires room { length effects.old.list < 8 }
     requires hosts { effects.old.hosts ≡ setup.now.hosts }
     ensures room { length effects.new.list ≤ length effects.old.list + 1 }
@@ -60,8 +60,8 @@ impl Server {
     }
 
     /// Returns how many servers have acknowledged `n` entries in this term.
-    fn holders(&self, n: u8, setup: &Setup) -> u32
-        requires { IsSetup setup.now }
+    fn holders(&self, n: u8, setup: &HostSetup) -> u32
+        requires { IsHostSetup setup.now }
         ensures value { result ≡ holders n setup.now self.now }
         ensures few { result ≤ 32 }
     {

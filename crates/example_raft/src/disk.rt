@@ -3,13 +3,13 @@ ghost use Rattle.example_raft.specs.RaftLog.{vote_byte, vote_bytes, half_bytes, 
 ghost use Rattle.example_raft.specs.RaftLog.{entry_on, is_linked, log_on, term_on, voted_on};
 ghost use Rattle.example_raft.specs.RaftLog.{server_on, saved_vote, saved_entry};
 ghost use Rattle.example_raft.specs.RaftRecords.{IsPlacedStanding};
-ghost use Rattle.sim_node.specs.Node.{IsSetup};
+ghost use Rattle.sim_node.specs.Node.{IsHostSetup};
 ghost use Rattle.example_raft.specs.Reacting.{asking};
 
 use crate::standing::term_of;
 use crate::{Entry, Message, Peer, Rank, Server, Standing};
 use sim_hosts::{HostSet, byte_at, number_at, put_number};
-use sim_node::{Effects, Setup};
+use sim_node::{Effects, HostSetup};
 
 /// No entry.
 const NO_ENTRY: Entry = Entry { term: 0, value: 0 };
@@ -145,7 +145,7 @@ fn term_on(disk: &[u8]) -> u64
 }
 
 /// Reads the vote on a disk.
-fn voted_on(setup: &Setup, disk: &[u8]) -> Option<u16>
+fn voted_on(setup: &HostSetup, disk: &[u8]) -> Option<u16>
     ensures value { result ≡ voted_on setup.now disk.now }
     ensures host { IfSome result (λ host. host < setup.now.servers) }
 {
@@ -159,8 +159,8 @@ fn voted_on(setup: &Setup, disk: &[u8]) -> Option<u16>
 
 impl Server {
     /// Returns the server that boots from these bytes of its disk.
-    pub fn on(setup: &Setup, disk: &[u8]) -> Server
-        requires { IsSetup setup.now }
+    pub fn on(setup: &HostSetup, disk: &[u8]) -> Server
+        requires { IsHostSetup setup.now }
         ensures state { result ≡ server_on setup.now disk.now }
         ensures placed { IsPlacedStanding setup.now.hosts result.standing }
     {

@@ -48,7 +48,7 @@ impl<V: Variant, T: Meter> Node for Raft<V, T> {
 
     ghost laws = { raft V.RULES };
 
-    ghost told = { λ state. state.setup };
+    ghost told = { λ state. state.setup.hosts };
 
     ghost records = { raft_records };
 
@@ -60,17 +60,18 @@ impl<V: Variant, T: Meter> Node for Raft<V, T> {
         meter: &mut T,
     ) -> Result<Self, NoMemory> {
         meter.turn();
-        let role = if me < setup.servers {
-            Role::Server(Boxed::new(alloc, Server::on(setup, disk))?)
+        let own = setup.of_host(me);
+        let role = if me < own.servers {
+            Role::Server(Boxed::new(alloc, Server::on(&own, disk))?)
         } else {
             Role::Client(Client {
                 next: 0,
-                server: me % setup.servers,
+                server: me % own.servers,
             })
         };
         Ok(Raft {
             state: State {
-                setup: *setup,
+                setup: own,
                 me,
                 role,
             },
@@ -94,8 +95,7 @@ impl<V: Variant, T: Meter> Node for Raft<V, T> {
         let undo = match &mut self.state.role {
             Role::Client(client) => {
                 let before = *client;
-                let ops = setup.ops[me as usize] as u64;
-                client.react(setup, me, ops, input, effects);
+                client.react(setup, me, input, effects);
                 RaftUndo::Client(before)
             }
             Role::Server(boxed) => {

@@ -1,6 +1,6 @@
 use crate::Rules;
 use sim_hosts::{Boxed, HostSet};
-use sim_node::Setup;
+use sim_node::HostSetup;
 
 /// A value in the log, with the term of the leader that added it. No entry has the term 0.
 #[derive(Clone, Copy, Debug)]
@@ -115,7 +115,7 @@ pub struct Server {
 #[derive(Clone, Copy)]
 pub struct Context {
     pub rules: Rules,
-    pub setup: Setup,
+    pub setup: HostSetup,
     pub me: u16,
     pub word: u32,
 }
@@ -130,7 +130,7 @@ pub enum Role {
 /// The state of a host.
 #[derive(Drop)]
 pub struct State {
-    pub setup: Setup,
+    pub setup: HostSetup,
     pub me: u16,
     pub role: Role,
 }

@@ -9,11 +9,11 @@ ghost use Rattle.example_raft.specs.Reacting.{MayReact, Reacted, LeadsBack};
 use crate::elections::{HEARTBEAT, send_to_others};
 use crate::standing::{is_majority, set_timeout};
 use crate::{Ack, Change, Context, Message, Rank, Server, Standing};
-use sim_node::{Effects, Input, Setup};
+use sim_node::{Effects, HostSetup, Input};
 
 impl Standing {
     /// As a settled follower, reports the log to the leader, or the vote to a candidate.
-    fn answer(&self, setup: &Setup, effects: &mut Effects<Message>)
+    fn answer(&self, setup: &HostSetup, effects: &mut Effects<Message>)
         requires placed { IsPlacedStanding setup.now.hosts self.now }
         requires empty { effects.old ≡ asked_for setup.now [] }
         ensures { effects.new ≡ asked_for setup.now (answered self.now.leader self.now.voted

@@ -7,7 +7,7 @@ ghost use Rattle.example_raft.specs.Reacting.{asking};
 
 use crate::{Entry, Message, Rank, Standing};
 use sim_hosts::HostSet;
-use sim_node::{Effects, Setup};
+use sim_node::{Effects, HostSetup};
 
 /// Returns the term of the n-th entry, or 0 before the first.
 pub fn term_of(n: u8, log: &[Entry; 64]) -> u64
@@ -35,7 +35,7 @@ pub fn set_timeout(word: u32, effects: &mut Effects<Message>)
 }
 
 /// Returns whether `n` servers are a majority.
-pub fn is_majority(n: u32, setup: &Setup) -> bool
+pub fn is_majority(n: u32, setup: &HostSetup) -> bool
     ensures { result ≡ is_majority n setup.now }
 {
     (setup.servers as u64) < 2 * n as u64
