@@ -2,7 +2,7 @@
 -- Server 0 reacts, and in the last two rows the client.
 use Rattle.std.specs.Prelude.{◌≡◌, ℕ, [], ◌∷◌, ◌++◌, List, Some, true, false, replicate, ⊤}
 use Rattle.std.proofs.Common.{refl}
-use Rattle.sim_node.specs.declared.Setup.{Setup}
+use Rattle.sim_node.specs.declared.host_setup.HostSetup.{HostSetup}
 use Rattle.sim_node.specs.declared.Input.{Input}
 use Rattle.sim_node.specs.declared.Input.TheVariants as input
 use Rattle.sim_node.specs.Effects.{Effect}
@@ -21,8 +21,9 @@ unfoldable on_rows : ⊤
 unfolding number_at is_linked log_from lib.Count.ones
 on_rows = tt
 
-abbrev four_hosts : Setup
-four_hosts = record { servers = 3; hosts = 4; ops = 0 ∷ 0 ∷ 0 ∷ 1 ∷ replicate 28 0 }
+-- what each host keeps of the setup; the operations are the client's
+abbrev four_hosts : HostSetup
+four_hosts = record { servers = 3; hosts = 4; ops = 1 }
 
 abbrev sound : Rules
 sound = record { eager = false; hasty = false }

@@ -63,7 +63,7 @@ impl<T: Meter> Node for Scribe<T> {
 
     ghost laws = { scribe };
 
-    ghost told = { λ setup. setup };
+    ghost told = { λ setup. setup.hosts };
 
     ghost records = { scribe_records };
 
