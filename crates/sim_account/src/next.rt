@@ -36,7 +36,7 @@ fn reacted_copy<N: Node>(
     cue: &Cue<'_, N::Msg>,
     meter: &mut N::Meter,
 ) -> Result<(N, Effects<N::Msg>), NoMemory>
-    requires setup { N.told node.now ≡ setup.now }
+    requires setup { N.told node.now ≡ setup.now.hosts }
     requires sender { IsFrom setup.now.hosts cue.now.input.now }
     ensures state { IfOk result (λ r.
         r.0 ≡ (N.laws.react node.now cue.now.clock cue.now.input.now cue.now.word).0) }

@@ -3,7 +3,6 @@ use Rattle.std.proofs.Common.{◌≡◌, ℕ, ◌+◌, ◌-◌, ◌<◌, ◌≤�
 use Rattle.std.specs.Option.{unwrap_or}
 use Rattle.std.proofs.lemmas.Option.{slice_get_within}
 use Rattle.std.proofs.lemmas.List.{take-append-le, take-take, get_or_append_left, get_or-take}
-use Rattle.sim_node.specs.declared.Setup.{Setup}
 use Rattle.sim_node.specs.Node.{NodeRecords}
 use Rattle.sim_events.specs.declared.Event.{Event}
 use Rattle.sim_events.specs.declared.Event.TheVariants as event
@@ -32,7 +31,7 @@ module _ {State Msg : Type 0} (r : Rules State Msg) where
   pub world_at-extended : (es more : List Event) (p : ℕ) → p ≤ length es → world_at r p (es ++ more) ≡ world_at r p es
   world_at-extended es more p le = ap (λ (xs : List Event). unwrap_or (run r xs) (start r)) (take-append-le p es more le)
 
-module _ {State Msg Undo : Type 0} (told : State → Setup) (records : NodeRecords State Undo) (r : Rules State Msg) where
+module _ {State Msg Undo : Type 0} (told : State → ℕ) (records : NodeRecords State Undo) (r : Rules State Msg) where
   acts_at-extended : (es more : List Event) (p : ℕ) → p < length es → acts_at r p (es ++ more) ≡ acts_at r p es
   acts_at-extended es more p lt =
       ap (λ (w : World State Msg). cond (acts w (get_or (es ++ more) p event.Step)) 1 0) (world_at-extended r es more p (omega (arith, lt)))

@@ -8,7 +8,6 @@ use Rattle.std.proofs.lemmas.Option.{slice_get_within}
 use Rattle.std.proofs.lemmas.List.{take-append-drop, take_more, take-append-le, length-map}
 use Rattle.circular_buffer.proofs.Places.{slice_get-append_left, slice_get-drop, slice_get-take, slice_get-last}
 use Rattle.circular_buffer.specs.Buffer.{keep_last}
-use Rattle.sim_node.specs.declared.Setup.{Setup}
 use Rattle.sim_node.specs.Node.{NodeLaws, NodeRecords}
 use Rattle.sim_node.specs.Work.{Work}
 use Rattle.sim_events.specs.declared.Event.{Event}
@@ -104,7 +103,7 @@ module _ {State Msg : Type 0} (r : Rules State Msg) where
       let one : n + 1 ≡ suc n = omega arith in
       ap {B = ℕ} (λ (k : ℕ). acting r p k es) one ∙ ap {B = ℕ} (λ (k : ℕ). acts_at r p es + acting r k n es) (sym is)
 
-module _ {State Msg Undo : Type 0} (told : State → Setup) (records : NodeRecords State Undo) (r : Rules State Msg) where
+module _ {State Msg Undo : Type 0} (told : State → ℕ) (records : NodeRecords State Undo) (r : Rules State Msg) where
   -- a record that was made at a place answers there
   pub answers_here : (es : List Event) (p : ℕ) (d : Event) (w v : InHand State Msg) (u : Kept State Msg Undo) → IsAt r es p w → IsAt r es (p + 1) v → LeadsBack told records u v
       → back records u.changes v.world ≡ w.world → count_by is_reaction u.changes ≡ cond (acts w.world (get_or es p event.Step)) 1 0 → Answers told records r es p u
@@ -198,7 +197,7 @@ pub turned_once : (b : Bool) (a c : Work) → c ≡ turned_if b a → OnlyTurns 
 turned_once true a c is = record { turns = (let t = ap (λ (x : Work). x.turns) is in omega (arith, t)); copies = ap (λ (x : Work). x.copies) is; undos = ap (λ (x : Work). x.undos) is }
 turned_once false a c is = record { turns = (let t = ap (λ (x : Work). x.turns) is in omega (arith, t)); copies = ap (λ (x : Work). x.copies) is; undos = ap (λ (x : Work). x.undos) is }
 
-module _ {State Msg Undo : Type 0} (told : State → Setup) (records : NodeRecords State Undo) (laws : NodeLaws State Msg) (probes : ℕ) (s : Scenario) where
+module _ {State Msg Undo : Type 0} (told : State → ℕ) (records : NodeRecords State Undo) (laws : NodeLaws State Msg) (probes : ℕ) (s : Scenario) where
   -- the event of an entry can happen in the world at its place
   pub can_play : (entries : List Entry) (i : ℕ) (e : Entry) (w : InHand State Msg) → IsSome (run (rules laws probes s) (events_of entries)) → slice_get entries i ≡ Some e
       → IsAt (rules laws probes s) (events_of entries) i w → IsSome (next (rules laws probes w.scenario) w.world e.event)
@@ -240,7 +239,7 @@ undone-more n k m w a b changes before is count sum =
     let u : b.undos ≡ w.undos + m = omega (arith, undos, ap (λ (x : Work). x.undos) before, count, sum) in
     λ i. record { turns = turns i; copies = copies i; undos = u i }
 
-module _ {State Msg Undo : Type 0} (told : State → Setup) (records : NodeRecords State Undo) (r : Rules State Msg) where
+module _ {State Msg Undo : Type 0} (told : State → ℕ) (records : NodeRecords State Undo) (r : Rules State Msg) where
   pub record StepsBack (es : List Event) (p : ℕ) (us : List (Kept State Msg Undo)) (u : Kept State Msg Undo) (now : InHand State Msg) : Type 0 where
     pub some : 0 < length us
     pub deep : 0 < p

@@ -7,7 +7,6 @@ use Rattle.std.specs.Arc.{arc_value}
 use Rattle.std.proofs.Math.Seq.{take-length}
 use Rattle.circular_buffer.proofs.Places.{slice_get-last}
 use Rattle.circular_buffer.specs.Buffer.{keep_last}
-use Rattle.sim_node.specs.declared.Setup.{Setup}
 use Rattle.sim_node.specs.Node.{NodeLaws, NodeRecords}
 use Rattle.sim_node.specs.Work.{Work}
 use Rattle.sim_events.specs.declared.Event.{Event}
@@ -38,7 +37,7 @@ step_work a b d w e n turned copied =
       undos = ap (λ (x : Work). x.undos) copied ∙ one.undos;
     }
 
-module _ {State Msg Undo : Type 0} (told : State → Setup) (records : NodeRecords State Undo) (laws : NodeLaws State Msg) (probes : ℕ) (s : Scenario) where
+module _ {State Msg Undo : Type 0} (told : State → ℕ) (records : NodeRecords State Undo) (laws : NodeLaws State Msg) (probes : ℕ) (s : Scenario) where
   -- the world after one more event
   pub stepped_at : (entries : List Entry) (e : Event) (w v : InHand State Msg) (u : Kept State Msg Undo) → IsAt (rules laws probes s) (events_of entries) (length entries) w
       → AnswersFor (rules laws probes w.scenario) records u.changes w.world e v.world → v.scenario ≡ w.scenario → v.age ≡ w.age + 1

@@ -3,7 +3,6 @@ use Rattle.std.specs.Prelude.{◌≡◌, ℕ, ◌-◌, List, [], ◌∷◌, ◌+
 use Rattle.std.specs.Prelude.{if◌then◌else◌}
 use Rattle.std.specs.List.{count_by}
 use Rattle.circular_buffer.specs.Buffer.{keep_last, last_item}
-use Rattle.sim_node.specs.declared.Setup.{Setup}
 use Rattle.sim_node.specs.Node.{NodeRecords}
 use Rattle.sim_node.specs.Work.{Work}
 use Rattle.sim_events.specs.declared.Event.{Event}
@@ -22,7 +21,7 @@ module _ {U : Type 0} where
   abbrev pub turned : List U → List U
   turned slots = drop 1 slots ++ take 1 slots
 
-module _ {State Msg Undo : Type 0} (told : State → Setup) (records : NodeRecords State Undo)
+module _ {State Msg Undo : Type 0} (told : State → ℕ) (records : NodeRecords State Undo)
     (r : Rules State Msg) where
   -- An event led from one world to the next, and its record is kept as the newest of at most
   -- `capacity`.

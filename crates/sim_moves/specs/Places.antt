@@ -3,7 +3,6 @@ use Rattle.std.specs.Prelude.{◌≡◌, ◌≢◌, ℕ, zero, suc, ◌+◌, ◌
 use Rattle.std.specs.Prelude.{length, take, Some, slice_get, slice_index_or}
 use Rattle.std.specs.List.{count_by}
 use Rattle.std.specs.Option.{unwrap_or}
-use Rattle.sim_node.specs.declared.Setup.{Setup}
 use Rattle.sim_node.specs.Node.{NodeRecords}
 use Rattle.sim_events.specs.declared.Event.{Event}
 use Rattle.sim_events.specs.declared.Event.TheVariants as event
@@ -47,7 +46,7 @@ module _ {State Msg : Type 0} (r : Rules State Msg) where
         ≡ (world_at (i + 1) (events_of entries)).clock
     pub small : (i : ℕ) (e : Entry) → slice_get entries i ≡ Some e → e.clock ≤ 60000 * 65536
 
-module _ {State Msg Undo : Type 0} (told : State → Setup) (records : NodeRecords State Undo)
+module _ {State Msg Undo : Type 0} (told : State → ℕ) (records : NodeRecords State Undo)
     (r : Rules State Msg) where
   -- the world in hand before the event of a record
   abbrev pub before : Kept State Msg Undo → InHand State Msg → InHand State Msg

@@ -1,7 +1,6 @@
 -- The run of a log, and a walk at a place of it.
 use Rattle.std.specs.Prelude.{◌≡◌, ℕ, ◌+◌, ◌≤◌, List, [], ◌∷◌, ◌++◌, length, Option, IsSome}
 use Rattle.std.specs.Option.{MatchOption}
-use Rattle.sim_node.specs.declared.Setup.{Setup}
 use Rattle.sim_node.specs.Node.{NodeLaws, NodeRecords}
 use Rattle.sim_events.specs.declared.Event.{Event}
 use Rattle.sim_world.specs.World.{World}
@@ -21,7 +20,7 @@ pub record IsRun {State Msg : Type 0} (r : Rules State Msg) (entries : List Entr
 
 -- The world, if there is one, is that at the place, and the records are those of the events before
 -- it; a walk without a world has no records.
-pub record IsWalk {State Msg Undo : Type 0} (told : State → Setup)
+pub record IsWalk {State Msg Undo : Type 0} (told : State → ℕ)
     (records : NodeRecords State Undo) (r : Rules State Msg)
     (events : List Event) (place : ℕ) (hand : Option (InHand State Msg))
     (undos : List (Kept State Msg Undo)) : Type 0 where
@@ -51,7 +50,7 @@ module _ {State Msg : Type 0} (laws : NodeLaws State Msg) (probes : ℕ) where
   IsAfter e log now =
       IsAt (rules_in log) (events_of log.entries ++ e ∷ []) (length log.entries + 1) now
 
-module _ {State Msg Undo : Type 0} (told : State → Setup) (records : NodeRecords State Undo)
+module _ {State Msg Undo : Type 0} (told : State → ℕ) (records : NodeRecords State Undo)
     (laws : NodeLaws State Msg) (probes : ℕ) where
   -- the records of the last events before a place of a log
   abbrev pub AreRecordsIn : LogView → ℕ → List (Kept State Msg Undo) → Type 0

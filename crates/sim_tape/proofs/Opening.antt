@@ -3,7 +3,6 @@ use Rattle.std.proofs.Common.{◌≡◌, ℕ, ◌+◌, ◌<◌, true, List, [], 
 use Rattle.std.specs.Prelude.{slice_get}
 use Rattle.std.proofs.lemmas.Option.{slice_get_within}
 use Rattle.std.proofs.Math.Nat.{zero-div, zero-mul}
-use Rattle.sim_node.specs.declared.Setup.{Setup}
 use Rattle.sim_node.specs.Node.{NodeLaws, NodeRecords}
 use Rattle.sim_events.specs.Scenario.{Scenario}
 use Rattle.sim_world.specs.Records.{EventRecord as Kept, InHand}
@@ -57,7 +56,7 @@ module _ {State Msg : Type 0} (r : Rules State Msg) where
             subst (λ (p : ℕ). IsAt r [] p c) place (subst (IsAt r [] 0) same at-start);
       }
 
-module _ {State Msg Undo : Type 0} (told : State → Setup) (records : NodeRecords State Undo) (laws : NodeLaws State Msg) (probes : ℕ) where
+module _ {State Msg Undo : Type 0} (told : State → ℕ) (records : NodeRecords State Undo) (laws : NodeLaws State Msg) (probes : ℕ) where
   -- a warm tape of no events, with one checkpoint
   inside-none : (s : Scenario) → IsScenario s → Inside told records laws probes s [] (first_world (rules laws probes s) ∷ []) 0 (Some (first_world (rules laws probes s))) []
   inside-none s limits =

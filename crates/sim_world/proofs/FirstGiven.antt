@@ -22,7 +22,7 @@ use Rattle.sim_world.proofs.PartChanges.{of_some}
 use Rattle.sim_world.proofs.Rises.{first-in}
 use Rattle.sim_world.proofs.Stable.{input_same}
 
-module _ {State Msg : Type 0} (told : State → Setup) (s : Scenario) (p v : Seeded State Msg) (x : Item (Occurrence Msg)) where
+module _ {State Msg : Type 0} (told : State → ℕ) (s : Scenario) (p v : Seeded State Msg) (x : Item (Occurrence Msg)) where
   pub given_first : (h covered : ℕ) (i : Input Msg) (old new : Index) (asked : Effects Msg)
       → occurrence_of h covered i ≡ x.body → first p.world.queue.items ≡ Some x → v ≡ on_world (begun x) p
       → p.seed ≡ s.seed → IsReady told s.setup p.world → IsIndex old p.world → asked ≡ record { hosts = s.setup.hosts; list = [] }
@@ -41,7 +41,7 @@ module _ {State Msg : Type 0} (told : State → Setup) (s : Scenario) (p v : See
         index = subst (λ z. IsIndex new z.world) (sym b)
             (index_took old new x.due w x ready.room.queue (first-in w.queue.items x first_is) in_flight held timers others (let lt = r.host in let n = ready.hosts in omega arith) index);
         empty = spent ∙ ap (λ n. record { hosts = n; list = [] }) (sym count);
-        setup = λ node at. ap (λ t. t.hosts) (ready.setups h node (ap (λ z. (host_at h z.world).node) (sym b) ∙ at)) ∙ sym count;
+        knows = λ node at. ready.knows h node (ap (λ z. (host_at h z.world).node) (sym b) ∙ at) ∙ sym count;
         sender = subst (λ n. IsFrom n i) (sym count) (subst (λ y. IsFrom s.setup.hosts y) (ap (λ z. input_of z.body) (sym is) ∙ input_same covered i) r.sender);
       }
 
@@ -62,7 +62,7 @@ module _ {State Msg : Type 0} (p v : Seeded State Msg) (x : Item (Occurrence Msg
       ∙ ap (λ o. acts_by o p.world) (sym first_is))
 
 -- if it is a start or a sync, it is counted
-pub first_counted : {State Msg : Type 0} (told : State → Setup) (setup : Setup) (w : World State Msg) (x : Item (Occurrence Msg)) (old : Index)
+pub first_counted : {State Msg : Type 0} (told : State → ℕ) (setup : Setup) (w : World State Msg) (x : Item (Occurrence Msg)) (old : Index)
     → first w.queue.items ≡ Some x → IsReady told setup w → IsIndex old w → IsOtherCounted x.body.body (slice_index_or old.others.items x.body.host 0)
 first_counted told setup w x old first_is ready index =
     let r = of_some (IsReadyFor setup.hosts w) (first w.queue.items) x first_is ready.first in

@@ -9,7 +9,6 @@ use Rattle.sim_links.specs.Link.{Links}
 use Rattle.sim_queue.specs.Pending.{Pending}
 use Rattle.sim_world.specs.declared.host.Host.{Host}
 use Rattle.sim_world.specs.declared.packed_hosts.KeptHost.{KeptHost}
-use Rattle.sim_node.specs.declared.Setup.{Setup}
 use Rattle.sim_pending.specs.Occurrence.{Occurrence}
 use Rattle.sim_events.specs.Scenario.{Scenario}
 use Rattle.sim_world.specs.World.{World}
@@ -65,7 +64,7 @@ kept-more {State} hosts i host kept k so_far count within more same =
     ∙ (ap (λ h. take i hosts ++ h ∷ []) same ∙ sym more)))
 
 -- what is kept of a world in hand is that of a world of a run
-pub packed-same : {State Msg : Type 0} (told : State → Setup) (k : Held State Msg) (key : List ℕ) (flying waiting : ℕ) (serials : List (Option ℕ)) (numbers : List ℕ)
+pub packed-same : {State Msg : Type 0} (told : State → ℕ) (k : Held State Msg) (key : List ℕ) (flying waiting : ℕ) (serials : List (Option ℕ)) (numbers : List ℕ)
     (kept : InHand State Msg) → IsHeld told k → kept ≡ in_hand k → key ≡ k.parts.seed → flying ≡ k.index.in_flight → waiting ≡ k.index.held
     → serials ≡ k.index.timers.items → numbers ≡ k.index.others.items → IsPacked told key flying waiting serials numbers kept
 packed-same told k key flying waiting serials numbers kept is same words fly held timers others =
@@ -98,7 +97,7 @@ hand-same old now w s e world scenario =
     ap (λ x. record { world = x; scenario = s; age = old.age }) world ∙ (ap (λ x. record { world = old.world; scenario = x; age = old.age }) scenario ∙ e)
 
 -- what is opened of a world that is kept is one of a run, with no effects
-pub opened-held : {State Msg : Type 0} (told : State → Setup) (old now : InHand State Msg) (key : List ℕ) (flying waiting : ℕ) (serials : List (Option ℕ)) (numbers : List ℕ)
+pub opened-held : {State Msg : Type 0} (told : State → ℕ) (old now : InHand State Msg) (key : List ℕ) (flying waiting : ℕ) (serials : List (Option ℕ)) (numbers : List ℕ)
     (k : Held State Msg) → IsPacked told key flying waiting serials numbers old → old ≡ now → k.parts.world ≡ now.world → k.parts.seed ≡ now.scenario.seed
     → IsIndex k.index now.world → k.effects ≡ record { hosts = old.scenario.setup.hosts; list = [] } → k.scenario ≡ old.scenario → k.age ≡ old.age
     → IsHeld told k

@@ -7,7 +7,6 @@ use Rattle.sim_queue.specs.declared.Item.{Item}
 use Rattle.sim_queue.specs.Pending.{Rise}
 use Rattle.sim_links.specs.Link.{Link, open_link}
 use Rattle.sim_disk.specs.Disk as disk
-use Rattle.sim_node.specs.declared.Setup.{Setup}
 use Rattle.sim_node.specs.Numbers.{numbers_from}
 use Rattle.sim_world.specs.declared.host.Host.{Host}
 use Rattle.sim_pending.specs.Occurrence.{Body, Occurrence, is_message}
@@ -37,17 +36,17 @@ late_starts : (Msg : Type 0) (lo n : ℕ) → NoneLate 0 (map (starts Msg) (numb
 late_starts Msg lo zero = tt
 late_starts Msg lo (suc n) = (omega arith, late_starts Msg (lo + 1) n)
 
--- The start is sound, where each host that is booted has the setup.
-pub sound_start : {State Msg : Type 0} (told : State → Setup) (r : Rules State Msg)
-    → IsScenario r.scenario → ((h : ℕ) → h < r.scenario.setup.hosts → told (r.node.boot r.scenario.setup h []) ≡ r.scenario.setup)
+-- The start is sound, where each host that is booted was told of the number of hosts.
+pub sound_start : {State Msg : Type 0} (told : State → ℕ) (r : Rules State Msg)
+    → IsScenario r.scenario → ((h : ℕ) → h < r.scenario.setup.hosts → told (r.node.boot r.scenario.setup h []) ≡ r.scenario.setup.hosts)
     → IsSound told r.scenario 0 (start r)
 sound_start {State} {Msg} told r limits boots =
     let n : ℕ = r.scenario.setup.hosts in
     let booted : ℕ → Host State = λ h. record { node = Some (r.node.boot r.scenario.setup h []); disk = disk.empty_disk; done = false } in
     let each : (h : ℕ) → HostHolds told r.scenario.setup 0 (host_at h (start r)) =
     each-numbers (λ (x : Host State). HostHolds told r.scenario.setup 0 x) booted stopped 0 n
-    (record { writes = omega arith; covered = omega arith; quiet = λ e. refl; setups = λ node e. cc })
-    (λ h lt. record { writes = omega arith; covered = omega arith; quiet = λ e. refl; setups = λ node e. let f : node ≡ r.node.boot r.scenario.setup h [] = cc in ap told f ∙ boots h (omega arith) }) in
+    (record { writes = omega arith; covered = omega arith; quiet = λ e. refl; knows = λ node e. cc })
+    (λ h lt. record { writes = omega arith; covered = omega arith; quiet = λ e. refl; knows = λ node e. let f : node ≡ r.node.boot r.scenario.setup h [] = cc in ap told f ∙ boots h (omega arith) }) in
     let none_asked : (h : ℕ) → (host_at h (start r)).disk.asked ≡ 0 = each-numbers (λ (x : Host State). x.disk.asked ≡ 0) booted stopped 0 n refl (λ h lt. refl) in
     let most : n ≤ 32 = limits.setup.hosts in
     let none_in_flight : count_by is_message (map (starts Msg) (numbers_from 0 n)) ≡ 0 = sum_by-map_none (λ (x : Item (Occurrence Msg)). cond (is_message x) 1 0) (starts Msg) (λ h. refl) (numbers_from 0 n) in
@@ -69,5 +68,5 @@ sound_start {State} {Msg} told r limits boots =
       asked = λ h. sum_by-map_none (covers h) (starts Msg) (λ i. covers_none h (starts Msg i) refl) (numbers_from 0 n) ∙ sym (none_asked h);
       covered = λ h. (each h).covered;
       quiet = λ h e. (each h).quiet e;
-      setups = λ h node e. (each h).setups node e;
+      knows = λ h node e. (each h).knows node e;
     }

@@ -1,7 +1,6 @@
 -- Giving an input to a host: its preconditions, and its effect on the node.
 use Rattle.std.specs.Prelude.{◌≡◌, ℕ, ◌^◌, ◌<◌, List, [], length, Some}
 use Rattle.sim_streams.specs.Word.{stream_of}
-use Rattle.sim_node.specs.declared.Setup.{Setup}
 use Rattle.sim_node.specs.declared.Input.{Input}
 use Rattle.sim_node.specs.Effects.{Effect, Effects}
 use Rattle.sim_node.specs.Node.{IsFrom, IsLawful}
@@ -19,7 +18,7 @@ module _ {State Msg : Type 0} where
 
 -- An input can be given to a host of a run: there is room for the effects of its node, and no
 -- effects are asked for yet.
-pub record CanGive {State Msg : Type 0} (told : State → Setup) (s : Scenario) (h : ℕ)
+pub record CanGive {State Msg : Type 0} (told : State → ℕ) (s : Scenario) (h : ℕ)
     (i : Input Msg)
     (kept : Index) (asked : Effects Msg) (p : Seeded State Msg) : Type 0 where
   pub seed : p.seed ≡ s.seed
@@ -28,10 +27,10 @@ pub record CanGive {State Msg : Type 0} (told : State → Setup) (s : Scenario) 
   pub words : place (stream_of h) p.world < 2 ^ 40
   pub index : IsIndex kept p.world
   pub empty : asked ≡ record { hosts = length p.world.hosts; list = [] }
-  pub setup : OfNode h p.world (λ node. (told node).hosts ≡ length p.world.hosts)
+  pub knows : OfNode h p.world (λ node. told node ≡ length p.world.hosts)
   pub sender : IsFrom (length p.world.hosts) i
 
-module _ {State Msg : Type 0} (told : State → Setup) (r : Rules State Msg) (h : ℕ)
+module _ {State Msg : Type 0} (told : State → ℕ) (r : Rules State Msg) (h : ℕ)
     (i : Input Msg) where
   -- The node of a host takes one word of its stream and reacts: it is in the new parts, and asks
   -- for these effects.

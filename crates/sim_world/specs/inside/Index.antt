@@ -10,7 +10,6 @@ use Rattle.sim_events.specs.declared.Event.{Event}
 use Rattle.sim_events.specs.declared.Event.TheVariants as event
 use Rattle.sim_events.specs.declared.Fault.{Fault}
 use Rattle.sim_events.specs.declared.Fault.TheVariants as fault
-use Rattle.sim_node.specs.declared.Setup.{Setup}
 use Rattle.sim_world.specs.declared.index.Beside.{Beside}
 use Rattle.sim_world.specs.declared.index.Index.{Index}
 use Rattle.sim_world.specs.Acts.{first_host}
@@ -113,7 +112,7 @@ Token = Beside
 -- A token is that of an event that made a later world out of one of this age: the earlier world is
 -- sound, and these are its index entries. The timers, starts and syncs of all hosts but one are
 -- as many as in the later world.
-pub record IsTokenOf {State Msg : Type 0} (told : State → Setup) (token : Token) (s : Scenario)
+pub record IsTokenOf {State Msg : Type 0} (told : State → ℕ) (token : Token) (s : Scenario)
     (age : ℕ) (before later : World State Msg) : Type 0 where
   pub sound : IsSound told s age before
   pub there : token.host < length later.hosts

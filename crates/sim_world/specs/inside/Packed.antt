@@ -1,7 +1,6 @@
 -- Packed worlds and hosts.
 use Rattle.std.specs.Prelude.{◌≡◌, ℕ, List, [], ◌∷◌, map, Option}
 use Rattle.sim_disk.specs.Disk.{Disk}
-use Rattle.sim_node.specs.declared.Setup.{Setup}
 use Rattle.sim_world.specs.declared.host.Host.{Host}
 use Rattle.sim_world.specs.declared.packed_hosts.KeptHost.{KeptHost}
 use Rattle.sim_world.specs.inside.Index.{IsIndexOf}
@@ -33,7 +32,7 @@ others_in kept = map (λ k. k.others) kept
 
 -- A packed world is one of a run, with the words of this seed; the counts are those of its
 -- messages, and the timers, and the numbers of starts and syncs, those of its hosts.
-pub record IsPacked {State Msg : Type 0} (told : State → Setup) (key : List ℕ) (flying waiting : ℕ)
+pub record IsPacked {State Msg : Type 0} (told : State → ℕ) (key : List ℕ) (flying waiting : ℕ)
     (serials : List (Option ℕ)) (numbers : List ℕ)
     (kept : InHand State Msg) : Type 0 where
   pub sound : IsSound told kept.scenario kept.age kept.world
