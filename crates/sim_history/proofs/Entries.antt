@@ -4,7 +4,7 @@ use Rattle.std.specs.Prelude.{slice_get}
 use Rattle.std.proofs.lemmas.Option.{slice_get-map, get_or_from_slice_get}
 use Rattle.std.proofs.lemmas.List.{length-map, take-map, map-append}
 use Rattle.sim_events.specs.declared.Event.{Event}
-use Rattle.sim_history.specs.declared.entry.Entry.{Entry}
+use Rattle.sim_history.specs.Entry.{Entry}
 use Rattle.sim_history.specs.Log.{events_of}
 
 pub events-push : (entries : List Entry) (x : Entry) → events_of (entries ++ x ∷ []) ≡ events_of entries ++ x.event ∷ []

@@ -1,7 +1,7 @@
 -- What a list of events shares.
 use Rattle.std.specs.Prelude.{◌<◌, ◌≤◌, List, ◌++◌, length}
 use Rattle.sim_history.specs.declared.event_list.Listed.{Listed}
-use Rattle.sim_history.specs.declared.entry.Entry.{Entry}
+use Rattle.sim_history.specs.Entry.{Entry}
 use Rattle.sim_history.specs.Segments.{joined, AreSegments}
 
 -- the entries, in order

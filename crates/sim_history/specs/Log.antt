@@ -2,7 +2,7 @@
 use Rattle.std.specs.Prelude.{Bool, List, map}
 use Rattle.sim_events.specs.declared.Event.{Event}
 use Rattle.sim_events.specs.Scenario.{Scenario}
-use Rattle.sim_history.specs.declared.entry.Entry.{Entry}
+use Rattle.sim_history.specs.Entry.{Entry}
 
 -- the events, without the clocks beside them
 abbrev pub events_of : List Entry → List Event

@@ -87,7 +87,7 @@ impl EventList {
             listed.last.as_slice(),
             i as usize,
         );
-        Some(entry.event)
+        Some(entry.event())
     }
 
     /// Returns an equal list, which shares the events. Takes no memory. Fails, as if for want of

@@ -3,7 +3,7 @@
 //! ```text
 //! let mut log = Log::new(alloc, scenario)?;           // no events
 //! log.reserve(alloc)?;                                // room for one more
-//! log.push(Entry { event, clock });
+//! log.push(Entry::new(event, clock));
 //! let list = log.events(alloc)?;                      // shared, for other threads
 //! ```
 //!

@@ -19,7 +19,7 @@ use Rattle.sim_world.specs.Records.{EventRecord as Kept, InHand, LeadsBack, back
 use Rattle.sim_world.specs.Undone.{is_reaction, taken_back}
 use Rattle.sim_world.specs.declared.small.Small.{Small}
 use Rattle.sim_world.specs.Events.{Rules, rules, start, next, run, run_from, then_next}
-use Rattle.sim_history.specs.declared.entry.Entry.{Entry}
+use Rattle.sim_history.specs.Entry.{Entry}
 use Rattle.sim_history.specs.Log.{events_of}
 use Rattle.sim_history.proofs.Entries.{event_at}
 use Rattle.sim_moves.specs.Places.{world_at, ChangesOnly, acts_at, acting, IsAt, before, Answers, AreRecords}

@@ -16,7 +16,7 @@ use Rattle.sim_world.specs.Acts.{acts, turns_of, running}
 use Rattle.sim_world.specs.Records.{EventRecord as Kept, InHand, LeadsBack, AnswersFor}
 use Rattle.sim_world.specs.Undone.{is_reaction}
 use Rattle.sim_world.specs.Events.{Rules, rules, run}
-use Rattle.sim_history.specs.declared.entry.Entry.{Entry}
+use Rattle.sim_history.specs.Entry.{Entry}
 use Rattle.sim_history.specs.Log.{events_of}
 use Rattle.sim_history.proofs.Entries.{events-length, events-push}
 use Rattle.sim_moves.specs.Places.{world_at, IsAt, Answers}

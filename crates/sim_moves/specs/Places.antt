@@ -11,7 +11,7 @@ use Rattle.sim_world.specs.Acts.{acts}
 use Rattle.sim_world.specs.Events.{Rules, run, start}
 use Rattle.sim_world.specs.Records.{EventRecord as Kept, InHand, LeadsBack, back}
 use Rattle.sim_world.specs.Undone.{is_reaction}
-use Rattle.sim_history.specs.declared.entry.Entry.{Entry}
+use Rattle.sim_history.specs.Entry.{Entry}
 use Rattle.sim_history.specs.Log.{events_of}
 
 module _ {State Msg : Type 0} (r : Rules State Msg) where

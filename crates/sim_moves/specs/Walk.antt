@@ -7,7 +7,7 @@ use Rattle.sim_world.specs.World.{World}
 use Rattle.sim_events.specs.Limits.{IsScenario}
 use Rattle.sim_world.specs.Events.{Rules, rules, run}
 use Rattle.sim_world.specs.Records.{EventRecord as Kept, InHand}
-use Rattle.sim_history.specs.declared.entry.Entry.{Entry}
+use Rattle.sim_history.specs.Entry.{Entry}
 use Rattle.sim_history.specs.Log.{LogView, events_of}
 use Rattle.sim_moves.specs.Places.{world_at, IsAt, AreClocks, AreRecords}
 

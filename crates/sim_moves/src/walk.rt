@@ -139,7 +139,7 @@ fn play_stretch<N: Node>(
     let entries = log.stretch(way.start, way.end);
     let mut world = world;
     for entry in entries {
-        world = ring.apply(alloc, world, entry.event, meter)?;
+        world = ring.apply(alloc, world, entry.event(), meter)?;
     }
     Ok((world, way.start + entries.len()))
 }
@@ -167,7 +167,7 @@ fn play_event<N: Node>(
     ensures capacity { ring.new.capacity ≡ ring.old.capacity }
     ensures work { OnOk result (OnlyTurns 1 (N.Meter.work meter.old) (N.Meter.work meter.new)) }
 {
-    let event = log.entry(place).event;
+    let event = log.entry(place).event();
     let after = ring.apply(alloc, world, event, meter)?;
     Ok(after)
 }
@@ -362,7 +362,7 @@ impl<N: Node> Walk<N> {
         let Some(world) = self.world.take() else {
             unreachable!()
         };
-        let event = log.entry(place).event;
+        let event = log.entry(place).event();
         let passed = passed(alloc, &mut self.ring, world, event, meter);
         self.ring.clear();
         let (after, host) = passed?;

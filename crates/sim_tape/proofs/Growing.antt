@@ -15,7 +15,7 @@ use Rattle.sim_events.specs.declared.Event.{Event}
 use Rattle.sim_world.specs.World.{World}
 use Rattle.sim_world.specs.Records.{InHand}
 use Rattle.sim_world.specs.Events.{Rules, run}
-use Rattle.sim_history.specs.declared.entry.Entry.{Entry}
+use Rattle.sim_history.specs.Entry.{Entry}
 use Rattle.sim_history.specs.Log.{events_of}
 use Rattle.sim_history.proofs.Entries.{events-take, events-length, events-push}
 use Rattle.sim_history.proofs.Joined.{quotient, multiple}

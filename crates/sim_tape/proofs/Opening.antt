@@ -8,7 +8,7 @@ use Rattle.sim_events.specs.Scenario.{Scenario}
 use Rattle.sim_world.specs.Records.{EventRecord as Kept, InHand}
 use Rattle.sim_world.specs.Events.{Rules, rules, start}
 use Rattle.sim_events.specs.Limits.{IsScenario}
-use Rattle.sim_history.specs.declared.entry.Entry.{Entry}
+use Rattle.sim_history.specs.Entry.{Entry}
 use Rattle.sim_history.specs.Log.{LogView}
 use Rattle.sim_moves.specs.Places.{IsAt}
 use Rattle.sim_moves.specs.Walk.{IsRun}

@@ -188,7 +188,7 @@ impl<N: Node> Tape<N> {
         if self.place == 0 {
             return 0;
         }
-        self.log.entry(self.place as usize - 1).clock
+        self.log.entry(self.place as usize - 1).clock()
     }
 
     /// Returns the world at the place. The tape must be warm.
@@ -213,7 +213,7 @@ impl<N: Node> Tape<N> {
         if self.log.len() <= self.place as usize {
             return None;
         }
-        Some(self.log.entry(self.place as usize).event)
+        Some(self.log.entry(self.place as usize).event())
     }
 
     /// Returns the host of the event that follows the place, if that is a step: it changes no other
@@ -475,7 +475,7 @@ impl<N: Node> Tape<N> {
             return self.add_at_seam(alloc, last, meter);
         }
         let (clock, _) = self.walk.step(alloc, &self.log, event, false, meter)?;
-        self.log.push(Entry { event, clock });
+        self.log.push(Entry::new(event, clock));
         self.place += 1;
         Ok(())
     }
@@ -508,7 +508,7 @@ impl<N: Node> Tape<N> {
     {
         let is_whole = make_room(alloc, &mut self.log, &mut self.checkpoints)?;
         let (clock, copy) = self.walk.step(alloc, &self.log, event, is_whole, meter)?;
-        self.log.push(Entry { event, clock });
+        self.log.push(Entry::new(event, clock));
         keep(&mut self.checkpoints, copy);
         self.place += 1;
         Ok(())

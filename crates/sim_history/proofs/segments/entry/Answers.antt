@@ -1,6 +1,6 @@
 use Rattle.std.proofs.Common.{◌-◌, ◌*◌, ◌/◌, ◌%◌, length, arith, sym, ap, ◌∙◌}
 use Rattle.std.proofs.Math.Nat.{mod-lt}
-use Rattle.std.specs.Prelude.{slice_get}
+use Rattle.std.specs.Prelude.{Some, slice_get}
 use Rattle.std.proofs.lemmas.Option.{slice_get-get_or}
 use Rattle.sim_history.specs.Segments.{entries_of}
 use Rattle.sim_history.proofs.Joined.{quotient, multiple, length-all, length-at, at_part, at_last}
@@ -32,7 +32,8 @@ returns-then-whole-len c =
     ap (slice_get _) (sym (quotient i k))
     ∙ at_part entries_of k ss c.args.last.now (i / k) (i % k) c.get.result.now c.requires.full c.get.ensures lt
     ∙ ap (λ xs. slice_get xs (i % k)) (sym c.as_slice-segment.ensures.value)
-    ∙ slice_get-get_or c.as_slice-segment.result.now (i % k) _ (omega (arith, same, ap length c.as_slice-segment.ensures.value, lt))
+    ∙ slice_get-get_or c.as_slice-segment.result.now (i % k) c.index-segment-i.result (omega (arith, same, ap length c.as_slice-segment.ensures.value, lt))
+    ∙ ap (λ e. Some e) (sym c.index-segment-i.is)
 
 pub returns-else-whole-len : goal.returns-else-whole-len
 returns-else-whole-len c =
@@ -43,4 +44,5 @@ returns-else-whole-len c =
     let inside = c.requires.inside in
     at_last entries_of k ss c.args.last.now c.args.i c.requires.full low
     ∙ ap (λ n. slice_get c.args.last.now (c.args.i - n * k)) (sym c.len-else-whole-len.ensures)
-    ∙ slice_get-get_or c.args.last.now (c.args.i - c.len-else-whole-len.result * k) _ (omega (arith, low, all, inside, ap (λ n. n * k) c.len-else-whole-len.ensures))
+    ∙ slice_get-get_or c.args.last.now (c.args.i - c.len-else-whole-len.result * k) c.index-last-i.result (omega (arith, low, all, inside, ap (λ n. n * k) c.len-else-whole-len.ensures))
+    ∙ ap (λ e. Some e) (sym c.index-last-i.is)

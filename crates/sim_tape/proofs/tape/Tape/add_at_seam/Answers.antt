@@ -4,7 +4,7 @@ use Rattle.sim_world.specs.Acts.{running}
 use Rattle.sim_events.specs.Scenario.{Scenario}
 use Rattle.sim_world.specs.Clock.{clock_after}
 use Rattle.sim_world.specs.Events.{rules, refusal_of}
-use Rattle.sim_history.specs.declared.entry.Entry.{Entry}
+use Rattle.sim_history.specs.Entry.{Entry}
 use Rattle.sim_history.specs.Log.{events_of}
 use Rattle.sim_history.specs.Log.{LogView}
 use Rattle.sim_history.proofs.Entries.{events-push, events-length}
@@ -40,6 +40,16 @@ step-requires-clause-walk g c =
 pub step-requires-clause-room : goal.step-requires-clause-room
 step-requires-clause-room g c =
     omega (arith, c.requires.room, many c.self.inside.log.entries _ _ c.self.view_is refl, ap (λ l. length l.entries) c.make_room.ensures.same)
+
+pub new-requires : goal.new-requires
+new-requires g c =
+    let v = c.in_ok-clock.ensures in
+    let log = c.make_room.new.log in
+    let small = v.small in
+    record {
+      reached = λ to is. sym (v.clock ∙ v.moved ∙ ap {B = ℕ} (λ e. clock_after e (world_at (rules g.N.Node.laws g.N.Node.PROBES log.scenario) (length log.entries) (events_of log.entries))) is);
+      small = omega (arith, small);
+    }
 
 pub push-requires-clause-few : goal.push-requires-clause-few
 push-requires-clause-few g c =
@@ -93,7 +103,7 @@ invariant_of-self-2 g c =
     let done = subst (λ (s : Scenario). Inside g.N.Node.told g.N.Node.records g.N.Node.laws g.N.Node.PROBES s c.push.new.self.entries c.keep.new.worlds.items (i.place + 1) c.step.new.self.world c.step.new.self.ring.items)
     (sym c.push.ensures.scenario)
     (subst (λ es. Inside g.N.Node.told g.N.Node.records g.N.Node.laws g.N.Node.PROBES log.scenario es c.keep.new.worlds.items (i.place + 1) c.step.new.self.world c.step.new.self.ring.items)
-    (sym c.push.ensures.entries) all) in
+    (sym (c.push.ensures.entries ∙ ap (λ (y : Entry). log.entries ++ y ∷ []) c.new.ensures)) all) in
     let ring = c.step.ensures.ring in
     let window = c.step.ensures.capacity ∙ c.self.invariant.3 ∙ ap (λ l. l.scenario.window) (sym same) ∙ ap (λ s. s.window) (sym c.push.ensures.scenario) in (
       done.run,
@@ -112,7 +122,7 @@ returns-clause-ok g c =
     let v = c.in_ok-clock.ensures in
     same_tape _ _
     (c.push.ensures.scenario ∙ ap (λ l. l.scenario) same ∙ ap (λ t. t.scenario) c.self.view_is)
-    (ap events_of c.push.ensures.entries ∙ events-push log.entries x ∙ ap (λ l. events_of l.entries ++ c.args.event ∷ []) same ∙ ap (λ t. t.events ++ c.args.event ∷ []) c.self.view_is)
+    (ap events_of (c.push.ensures.entries ∙ ap (λ (y : Entry). log.entries ++ y ∷ []) c.new.ensures) ∙ events-push log.entries x ∙ ap (λ l. events_of l.entries ++ c.args.event ∷ []) same ∙ ap (λ t. t.events ++ c.args.event ∷ []) c.self.view_is)
     (ap (λ t. t.place + 1) c.self.view_is)
     v.warm
     (v.reach ∙ ap (λ (w : ℕ). min w (length i.walk.ring.items + 1)) c.self.invariant.3 ∙ ap (λ t. min t.scenario.window (t.reach + 1)) c.self.view_is)
