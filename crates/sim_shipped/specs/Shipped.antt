@@ -1,5 +1,5 @@
 -- The protocols that ship, and their nodes.
-use Rattle.std.specs.Prelude.{ℕ, List, [], ◌∷◌, codes}
+use Rattle.std.specs.Prelude.{ℕ, List, [], ◌∷◌}
 use Rattle.sim_events.specs.Scenario.{Scenario}
 use Rattle.sim_scenario.specs.Scenario.{Protocol}
 use Rattle.sim_echo.specs.Echo.{echo}
@@ -8,21 +8,9 @@ use Rattle.sim_abd.specs.Abd.{abd}
 use Rattle.sim_two_phase.specs.TwoPhase.{two_phase}
 use Rattle.sim_protocols.specs.Probes.{probe_names}
 use Rattle.sim_protocols.specs.declared.Protocol.TheVariants as which
+use Rattle.sim_subjects.specs.Subjects.{of_echo, of_backup, of_abd, of_commit}
 use Rattle.sim_cli.specs.Play.{Nodes}
 use Rattle.sim_cli.specs.Subjects.{first_or, nodes_with}
-
--- the name of each protocol in a scenario, and the number of servers that it needs
-abbrev pub of_echo : Protocol
-of_echo = record { name = codes "echo"; least_servers = 1 }
-
-abbrev pub of_backup : Protocol
-of_backup = record { name = codes "primary_backup"; least_servers = 2 }
-
-abbrev pub of_abd : Protocol
-of_abd = record { name = codes "abd"; least_servers = 1 }
-
-abbrev pub of_commit : Protocol
-of_commit = record { name = codes "two_phase"; least_servers = 2 }
 
 -- the protocols, by their places
 abbrev pub shipped : List Protocol

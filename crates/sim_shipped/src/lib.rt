@@ -1,8 +1,8 @@
-//! The protocols that ship, as a program plays them.
+//! The list of the protocols that ship, as a program plays and searches them.
 //!
 //! - [`Shipped`] is the list of the four. `simback` plays it.
-//! - [`EchoSubject`], [`BackupSubject`], [`AbdSubject`] and [`CommitSubject`] are its members, for
-//!   a program whose list has some of them beside protocols of its own.
+//! - [`EchoSubject`], [`BackupSubject`], [`AbdSubject`] and [`CommitSubject`] are its members, from
+//!   `sim_subjects`, for a program whose list has some of them beside protocols of its own.
 //!
 //! `specs/Shipped.antt` defines the list and the nodes of each place.
 //!
@@ -13,7 +13,6 @@
 #![tactic(auto)]
 
 mod shipped;
-mod subjects;
 
 pub use shipped::Shipped;
-pub use subjects::{AbdSubject, BackupSubject, CommitSubject, EchoSubject};
+pub use sim_subjects::{AbdSubject, BackupSubject, CommitSubject, EchoSubject};

@@ -2,11 +2,11 @@
 ghost use Rattle.std.specs.Prelude.{refl};
 ghost use Rattle.sim_shipped.specs.Shipped.{shipped, shipped_nodes};
 
-use crate::subjects::{AbdSubject, BackupSubject, CommitSubject, EchoSubject};
 use sim_cli::{Only, Opened, Status, Subject, Subjects, Task};
 use sim_hunt::Searchable;
 use sim_lines::Ahead;
 use sim_scenario::Protocols;
+use sim_subjects::{AbdSubject, BackupSubject, CommitSubject, EchoSubject};
 use std::alloc::{AllocError, Global};
 use std::io::{Read, Write};
 

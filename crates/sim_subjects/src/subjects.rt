@@ -1,7 +1,7 @@
 //! The four protocols that ship, as subjects.
 ghost use Rattle.sim_protocols.specs.Probes.{probe_names};
 ghost use Rattle.sim_protocols.specs.declared.Protocol.TheVariants as which;
-ghost use Rattle.sim_shipped.specs.Shipped.{of_echo, of_backup, of_abd, of_commit};
+ghost use Rattle.sim_subjects.specs.Subjects.{of_echo, of_backup, of_abd, of_commit};
 
 use sim_cli::Subject;
 use sim_node::Node;
