@@ -2,6 +2,7 @@
 """Proves and builds programs of crates/, with the libraries that they stand on and nothing else.
 
     ./build.py                         crates/simback
+    ./build.py player                  crates/player, which only plays and is proved sooner
     ./build.py simback example_play    these programs
     ./build.py --cpu x86-64-v3         crates/simback, for processors with AVX2 and BMI2
 
