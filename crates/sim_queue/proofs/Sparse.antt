@@ -1,13 +1,10 @@
 -- What an edit of keys, bodies and places does to the slots.
 use Rattle.std.proofs.Common.{◌≡◌, ◌≢◌, ℕ, zero, suc, ◌+◌, ◌-◌, ◌<◌, ◌≤◌, List, [], ◌∷◌, ◌++◌, Option, Some, None, refl, sym, ap, ◌∙◌, subst, arith, ◌⊎◌, inl, inr, ⊎_elim, length}
 use Rattle.std.proofs.Math.ListN.{get_or, set, length-set, replicate}
-use Rattle.std.proofs.Common.{Result, Ok, Err, IsErr, IfOk, OnOk, OnErr}
-use Rattle.std.proofs.lemmas.Bool.{cases_eq, false≢true}
-use Rattle.std.proofs.Common.{take, length-take}
-use Rattle.std.specs.Prelude.{MatchOption}
-use Rattle.std.proofs.lemmas.List.{take_more, ext_get_or, get_or-set_same, get_or-set_other, map_push, map-set, length_push, length-map, set-get_or, set-set, set_at, get_or_default}
+use Rattle.std.proofs.lemmas.Bool.{cases_eq}
+use Rattle.std.proofs.lemmas.List.{ext_get_or, get_or-set_same, get_or-set_other, map_push, map-set, length_push, length-map, set-get_or, set-set, set_at, get_or_default}
 use Rattle.std.proofs.lemmas.Option.{same_Some, none-some}
-use Rattle.std.specs.Option.{option_map, option_to_list, is_some, IsSome}
+use Rattle.std.specs.Option.{option_map, option_to_list}
 use Rattle.sim_queue.specs.declared.Item.{Item}
 use Rattle.sim_queue.specs.Pending.{with_serial}
 use Rattle.sim_queue.specs.Items.{item_of, items_from}
@@ -42,30 +39,6 @@ spot_last : {X : Type 0} (xs : List (Option X)) (x : Option X) → get_or (xs ++
 spot_last [] x = refl
 spot_last (y ∷ xs) x = spot_last xs x
 
--- the last spot of a list to which one was added
-pub last_is_some : {X : Type 0} (xs old : List (Option X)) (x : X) → xs ≡ old ++ Some x ∷ [] → IsSome (get_or xs (length xs - 1) None)
-last_is_some xs old x h =
-    let more : length xs ≡ length old + 1 = ap (λ ys. length ys) h ∙ length_push old (Some x) in
-    let last : length xs - 1 ≡ length old = omega arith in
-    ap (λ o. is_some o) (ap (λ (n : ℕ). get_or xs n None) last ∙ ap (λ ys. get_or ys (length old) None) h ∙ spot_last old (Some x))
-
--- what is said of a result that is an error
-pub err_if_ok : {X E : Type 0} (r : Result X E) (P : X → Type 0) → IsErr r → IfOk r P
-err_if_ok (Ok x) P h = absurd (false≢true h)
-err_if_ok (Err e) P h = tt
-
-pub err_on_ok : {X E : Type 0} (r : Result X E) (P : Type 0) → IsErr r → OnOk r P
-err_on_ok (Ok x) P h = absurd (false≢true h)
-err_on_ok (Err e) P h = tt
-
-pub err_on_err : {X E P : Type 0} (r : Result X E) → P → OnErr r P
-err_on_err (Ok x) p = tt
-err_on_err (Err e) p = p
-
--- room for one more
-pub below_room : (len capacity : ℕ) → len + 1 ≤ capacity → len < capacity
-below_room len capacity room = omega arith
-
 -- a spot that was cleared, whether it was there or not
 pub spot_cleared : {X : Type 0} (i : ℕ) (xs : List (Option X)) → get_or (set xs i None) i None ≡ None
 spot_cleared i [] = refl
@@ -98,11 +71,6 @@ pub dropped : {X : Type 0} (xs new : List (Option X)) (r : Option (Option X)) �
     → xs ≡ new ++ option_to_list r → xs ≡ new ++ None ∷ []
 dropped xs new r is none h = h ∙ ap (λ o. new ++ option_to_list o) (is ∙ ap (λ o. Some o) none)
 
--- the first spot, which is empty, is dropped
-pub front_dropped : {X : Type 0} (xs new : List (Option X)) (r : Option (Option X)) → r ≡ Some (get_or xs 0 None) → get_or xs 0 None ≡ None → xs ≡ option_to_list r ++ new
-    → xs ≡ None ∷ new
-front_dropped xs new r is none h = h ∙ ap (λ o. option_to_list o ++ new) (is ∙ ap (λ o. Some o) none)
-
 -- how many items there are
 pub items_within : {B : Type 0} (n : ℕ) (slots : List (Option (ℕ × B))) → length (items_from n slots) ≤ length slots
 items_within n [] = omega arith
@@ -114,14 +82,6 @@ items_some n i e [] h = absurd (none-some e h)
 items_some n zero e (None ∷ slots) h = absurd (none-some e h)
 items_some n (suc i) e (None ∷ slots) h = items_some (n + 1) i e slots h
 items_some n i e (Some f ∷ slots) h = omega arith
-
--- before a slot with an item there are fewer items than in all slots
-pub items_before : {B : Type 0} (n i : ℕ) (e : ℕ × B) (slots : List (Option (ℕ × B))) → at slots i ≡ Some e → length (items_from n (take i slots)) < length (items_from n slots)
-items_before n i e [] h = absurd (none-some e h)
-items_before n zero e (None ∷ slots) h = absurd (none-some e h)
-items_before n zero e (Some f ∷ slots) h = omega arith
-items_before n (suc i) e (None ∷ slots) h = items_before (n + 1) i e slots h
-items_before n (suc i) e (Some f ∷ slots) h = let l = items_before (n + 1) i e slots h in omega arith
 
 -- the place that is read in a slot
 pub read_index : (places : List (Option ℕ)) (i : ℕ) (p : Option ℕ) → i < length places → p ≡ get_or places i p → index_at places i ≡ p
@@ -496,40 +456,3 @@ module _ {B : Type 0} where
     placed = λ k d s h. sym (spot_none (s - base) places) ∙ sparse.placed k d s h;
     counted = sparse.counted ∙ ap (λ s. length (items_from base s)) (shortened_slots keys bodies places) ∙ ap (λ xs. length xs) (items-none base (slots_of keys bodies places));
   }
-
-  -- an empty slot behind the others
-  pub lengthened_sparse : (keys : List (Option (ℕ × ℕ))) (bodies : List (Option B)) (places : List (Option ℕ)) (base count : ℕ) → IsSparse keys bodies places base count
-      → IsSparse keys bodies (places ++ None ∷ []) base count
-  lengthened_sparse keys bodies places base count sparse = record {
-    found = λ i k h. sparse.found i k (sym (spot_none i places) ∙ h);
-    from = sparse.from;
-    placed = λ k d s h. spot_none (s - base) places ∙ sparse.placed k d s h;
-    counted = sparse.counted ∙ sym (ap (λ s. length (items_from base s)) (shortened_slots keys bodies places) ∙ ap (λ xs. length xs) (items-none base (slots_of keys bodies places)));
-  }
-
-  -- the items of one more slot
-  pub packed_more : (n i : ℕ) (o : Option (ℕ × B)) (slots : List (Option (ℕ × B))) (items : List (Item B)) → i < length slots → o ≡ at slots i → items ≡ items_from n (take i slots)
-      → MatchOption o (items ≡ items_from n (take (i + 1) slots)) (λ e. items ++ item_of (n + i) e ∷ [] ≡ items_from n (take (i + 1) slots))
-  packed_more n i None slots items lt is so_far =
-      let more : take (i + 1) slots ≡ take i slots ++ None ∷ [] = take_more slots i None lt ∙ ap (λ o. take i slots ++ o ∷ []) (sym is) in
-      so_far ∙ sym (ap (λ xs. items_from n xs) more ∙ items-none n (take i slots))
-  packed_more n i (Some e) slots items lt is so_far =
-      let more : take (i + 1) slots ≡ take i slots ++ Some e ∷ [] = take_more slots i None lt ∙ ap (λ o. take i slots ++ o ∷ []) (sym is) in
-      let size : length (take i slots) ≡ i = length-take i slots ∙ omega arith in
-      ap (λ xs. xs ++ item_of (n + i) e ∷ []) so_far
-      ∙ sym (ap (λ xs. items_from n xs) more ∙ items-append n (take i slots) e ∙ ap (λ (m : ℕ). items_from n (take i slots) ++ item_of (n + m) e ∷ []) size)
-
-  -- the same items, where the slots between are empty
-  pub packed_skip : (n i d : ℕ) (slots : List (Option (ℕ × B))) (items : List (Item B)) → i + d ≤ length slots → ((j : ℕ) → i ≤ j → j < i + d → at slots j ≡ None)
-      → items ≡ items_from n (take i slots) → items ≡ items_from n (take (i + d) slots)
-  packed_skip n i zero slots items within none so_far = let e : i ≡ i + zero = omega arith in so_far ∙ ap (λ (m : ℕ). items_from n (take m slots)) e
-  packed_skip n i (suc d) slots items within none so_far =
-      let before = packed_skip n i d slots items (omega arith) (λ j ge lt. none j ge (omega arith)) so_far in
-      let e : i + d + 1 ≡ i + suc d = omega arith in
-      packed_more n (i + d) None slots items (omega arith) (sym (none (i + d) (omega arith) (omega arith))) before ∙ ap (λ (m : ℕ). items_from n (take m slots)) e
-
-  pub packed_to : (n i k : ℕ) (slots : List (Option (ℕ × B))) (items : List (Item B)) → i ≤ k → k ≤ length slots → ((j : ℕ) → i ≤ j → j < k → at slots j ≡ None)
-      → items ≡ items_from n (take i slots) → items ≡ items_from n (take k slots)
-  packed_to n i k slots items order within none so_far =
-      let e : i + (k - i) ≡ k = omega arith in
-      packed_skip n i (k - i) slots items (omega arith) (λ j ge lt. none j ge (omega arith)) so_far ∙ ap (λ (m : ℕ). items_from n (take m slots)) e

@@ -22,7 +22,7 @@
 //! - `taken`: the least serial of an item whose body passes a test. It goes through the lists:
 //!   they have the items that exist and nothing else.
 //! - `store`: the queue's operations by slots.
-//! - `packed`: a packed queue has only its items, in the order of their serials.
+//! - `packed`: a packed queue has only its items, in the order of the places that they had.
 //!
 //! A day has 2 to the power of its width milliseconds: one for [`Queue::new`]. For
 //! [`Queue::with_reach`] 256 days are not shorter than the reach, so that lists stay short. Keys

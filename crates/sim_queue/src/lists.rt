@@ -13,6 +13,9 @@ use std::alloc::Global;
 /// The number of lists. As many nodes at the front are the ends of the lists.
 pub(crate) const LISTS: u32 = 256;
 
+/// The serials of keys are below this.
+pub(crate) const SERIALS: u64 = 1 << 40;
+
 /// The serial of a node without a key: one that is free, or an end of a list.
 const NO_SERIAL: u64 = u64::MAX;
 

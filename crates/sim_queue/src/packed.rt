@@ -11,7 +11,7 @@ use std::marker::Model;
 /// A queue in less memory: its items, without their keys and places. Contracts see the queue.
 #[derive(Drop)]
 pub struct PackedQueue<B> {
-    // The items, in the order of their serials.
+    // The items, in the order of the places that they had; any order is right.
     items: Vec<Item<B>>,
     next_serial: u64,
     // The width of a day.

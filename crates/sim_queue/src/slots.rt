@@ -6,10 +6,12 @@ ghost use Rattle.std.specs.Prelude.{slice_set, replicate};
 ghost use Rattle.std.specs.Fn.{FnReturnsAt};
 ghost use Rattle.std.specs.Option.{option_map, IsSome};
 ghost use Rattle.std.specs.Vec.{vec_len, vec_capacity};
-ghost use Rattle.sim_queue.specs.Items.{item_of, items_from};
+ghost use Rattle.sim_queue.specs.Items.{item_of, items_from, pending};
+ghost use Rattle.sim_queue.specs.Packed.{packed, nothing, CanPutAll};
 ghost use Rattle.sim_queue.specs.Pending.{Decides, next_taken};
 ghost use Rattle.sim_queue.specs.inside.Slots.{at, IsFirstSlot, HasNoItem};
-ghost use Rattle.sim_queue.specs.inside.Sparse.{body_at, IsPut, IsTaken, HasSameBodies};
+ghost use Rattle.sim_queue.specs.inside.Sparse.{body_at, items_at, IsPut, IsTaken, HasSameBodies};
+ghost use Rattle.sim_queue.specs.inside.Taken.{HasBodies};
 ghost use Rattle.sim_queue.specs.inside.Wheel.{key_at, HasSame};
 
 use crate::link::{Link, next_place, skip_blocks};
@@ -279,7 +281,7 @@ impl<B> Slots<B> {
         self.wheel.least_taken(&self.bodies, from, test)
     }
 
-    /// Returns the items in the order of their serials, with bodies that `each` copies.
+    /// Returns the items in the order of their places, with bodies that `each` copies.
     pub(crate) fn pack<F: Fn(&B) -> Result<B, NoMemory>>(
         &self,
         alloc: Global,
@@ -287,27 +289,15 @@ impl<B> Slots<B> {
     ) -> Result<Vec<Item<B>>, NoMemory>
     where
         B: Drop,
-        requires small { self.now.base + length self.now.items ≤ 2 ^ 40 }
         requires callable { F.IsAlwaysCallable each.now }
         requires equal { (x : B) (r : _) → FnReturnsAt F.Fn each.now x r → IfOk r (λ y. y ≡ x) }
-        ensures { IfOk result (λ items. items.items ≡ items_from self.now.base self.now.items) }
+        ensures value { IfOk result (λ items.
+            packed items.items (self.now.base + length self.now.items)
+            ≡ pending self.now.base self.now.items) }
+        ensures each { IfOk result (λ items.
+            CanPutAll items.items (nothing (self.now.base + length self.now.items))) }
     {
-        let mut items = Vec::with_capacity(alloc, self.count)?;
-        let places = self.places.as_slice();
-        let bodies = self.bodies.as_slice();
-        let mut slot = next_place(places, skip_blocks(places, 0));
-        while slot < places.len() {
-            // Mostly the item in the next slot is still there.
-            let Some(at) = places[slot].get() else {
-                slot = next_place(places, slot + 1);
-                continue;
-            };
-            let (due, serial) = self.wheel.key(at);
-            let body = bodies[at as usize].as_ref().unwrap();
-            push_copy(&mut items, due, serial, body, each)?;
-            slot += 1;
-        }
-        Ok(items)
+        copies(alloc, &self.wheel, &self.bodies, self.count, each)
     }
 }
 
@@ -386,6 +376,37 @@ pub(crate) fn with_room(len: usize) -> usize
     ensures { len ≤ result }
 {
     len.saturating_add(len / 8).saturating_add(8)
+}
+
+// Returns the items in the order of their places, with bodies that `each` copies. There are at most
+// `count` of them.
+#[inline(always)]
+fn copies<B: Drop, F: Fn(&B) -> Result<B, NoMemory>>(
+    alloc: Global,
+    wheel: &Wheel,
+    bodies: &Vec<Option<B>>,
+    count: usize,
+    each: &F,
+) -> Result<Vec<Item<B>>, NoMemory>
+    requires bodies { HasBodies wheel.now bodies.now.items }
+    requires room { length (items_at (length bodies.now.items) wheel.now bodies.now.items) ≤ count }
+    requires callable { F.IsAlwaysCallable each.now }
+    requires equal { (x : B) (r : _) → FnReturnsAt F.Fn each.now x r → IfOk r (λ y. y ≡ x) }
+    ensures { IfOk result (λ items. items.items ≡ items_at (length bodies.now.items) wheel.now
+        bodies.now.items) }
+{
+    let mut items = Vec::with_capacity(alloc, count)?;
+    let bodies = bodies.as_slice();
+    let places = (wheel.places() as usize).min(bodies.len());
+    for at in 0..places as u32 {
+        // Mostly a place has an item.
+        let Some((due, serial)) = wheel.key_if(at) else {
+            continue;
+        };
+        let body = bodies[at as usize].as_ref().unwrap();
+        push_copy(&mut items, due, serial, body, each)?;
+    }
+    Ok(items)
 }
 
 // Adds an item with an equal body. The vector has room for it.

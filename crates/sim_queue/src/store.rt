@@ -2,12 +2,13 @@
 ghost use Rattle.std.specs.Prelude.{◌≡◌, ℕ, ◌+◌, ◌^◌, ◌<◌, ◌≤◌, OnOk, OnErr, IfOk, IfSome, IfNone};
 ghost use Rattle.std.specs.Prelude.{length, Bool};
 ghost use Rattle.std.specs.Fn.{FnReturnsAt};
+ghost use Rattle.std.specs.List.{All};
 ghost use Rattle.std.specs.Option.{option_map};
 ghost use Rattle.sim_queue.specs.Items.{item_of};
-ghost use Rattle.sim_queue.specs.Pending.{none_pending, IsPending, HasNewest, IsQueue, Rise};
+ghost use Rattle.sim_queue.specs.Pending.{none_pending, IsPending, HasNewest};
 ghost use Rattle.sim_queue.specs.Pending.{Decides, first, insert, take, put_back, uninsert, newest};
 ghost use Rattle.sim_queue.specs.Pending.{next_taken, with_serial};
-ghost use Rattle.sim_queue.specs.Packed.{packed};
+ghost use Rattle.sim_queue.specs.Packed.{packed, nothing, CanPutAll};
 ghost use Rattle.sim_queue.specs.inside.Store.{pending_in, IsKeyed};
 
 use crate::packed::PackedQueue;
@@ -171,8 +172,8 @@ impl<B> Store<B> {
         Ok(PackedQueue::of(items, self.next_serial(), self.slots.width()))
     }
 
-    /// Returns a store of equal items, with bodies that `each` copies. The items are in the order
-    /// of their serials.
+    /// Returns a store of equal items, with bodies that `each` copies. The items may be in any
+    /// order.
     #[inline(never)]
     pub(crate) fn of<F: Fn(&B) -> Result<B, NoMemory>>(
         alloc: Global,
@@ -183,7 +184,7 @@ impl<B> Store<B> {
     ) -> Result<Store<B>, NoMemory>
     where
         B: Drop,
-        requires items { IsQueue (packed items.now.items next_serial) }
+        requires items { CanPutAll items.now.items (nothing next_serial) }
         requires small { next_serial ≤ 2 ^ 40 }
         requires width { width ≤ 56 }
         requires callable { F.IsAlwaysCallable each.now }
@@ -283,14 +284,14 @@ fn before_first(needed: u64, len: u64, base: u64) -> u64
     if needed < many { many } else { needed }
 }
 
-// Returns the serial of the first of these items, or the next serial if there are none.
+// Returns the least serial of these items, or the next serial if there are none.
 fn first_serial<B>(items: &Vec<Item<B>>, next_serial: u64) -> u64
-    requires { IsQueue (packed items.now.items next_serial) }
     ensures below { result ≤ next_serial }
-    ensures rise { Rise result items.now.items next_serial }
+    ensures least { All (λ x. result ≤ x.serial) items.now.items }
 {
-    match items.first() {
-        Some(item) => item.serial,
-        None => next_serial,
+    let mut least = next_serial;
+    for item in items {
+        least = least.min(item.serial);
     }
+    least
 }

@@ -1,5 +1,5 @@
 //! Keys in lists by their days; the first key is at hand.
-ghost use Rattle.std.specs.Prelude.{◌≡◌, ◌≢◌, ℕ, ◌^◌, ◌<◌, ◌≤◌, Some, None, IfOk, IfSome};
+ghost use Rattle.std.specs.Prelude.{◌≡◌, ◌≢◌, ℕ, ◌+◌, ◌^◌, ◌<◌, ◌≤◌, Some, None, IfOk, IfSome};
 ghost use Rattle.std.specs.Prelude.{IfNone, Bool, length};
 ghost use Rattle.std.specs.Option.{IsSome};
 ghost use Rattle.sim_queue.specs.Pending.{Decides};
@@ -9,7 +9,7 @@ ghost use Rattle.sim_queue.specs.inside.Wheel.{key_at, HasNone, HasSame, HasSame
 ghost use Rattle.sim_queue.specs.inside.Wheel.{IsFirst, HasMarks, Fits64, IsFrom, IsFloor};
 
 use crate::NoMemory;
-use crate::lists::{LISTS, Lists};
+use crate::lists::{LISTS, Lists, SERIALS};
 use crate::marks::Marks;
 use crate::taken::least_taken;
 use std::alloc::Global;
@@ -138,6 +138,28 @@ impl Wheel {
     {
         let node = self.lists.nodes[(place + LISTS) as usize];
         (node.due, node.serial)
+    }
+
+    /// Returns the number of places.
+    #[inline(always)]
+    pub(crate) fn places(&self) -> u32
+        ensures within { (k : ℕ) → k < result → k + 256 < length self.now }
+        ensures all { (k : ℕ) → result ≤ k → key_at self.now k ≡ None }
+    {
+        (self.lists.nodes.len() as u32).saturating_sub(LISTS)
+    }
+
+    /// Returns the due and the serial of the key at a place, if there is one.
+    #[inline(always)]
+    pub(crate) fn key_if(&self, place: u32) -> Option<(u64, u64)>
+        requires { place + 256 < length self.now }
+        ensures { result ≡ key_at self.now place }
+    {
+        let node = self.lists.nodes[(place + LISTS) as usize];
+        if node.serial >= SERIALS {
+            return None;
+        }
+        Some((node.due, node.serial))
     }
 
     /// Returns the least serial, not below `from`, of a key whose body the test accepts.

@@ -1,6 +1,7 @@
 -- Slots, most of them empty: each has the place of its item's key and body, if it has an item.
-use Rattle.std.specs.Prelude.{◌≡◌, ◌≢◌, ℕ, ◌+◌, ◌-◌, ◌≤◌, List, length, map, Option, None, Some}
-use Rattle.std.specs.Prelude.{slice_index_or}
+use Rattle.std.specs.Prelude.{◌≡◌, ◌≢◌, ℕ, zero, suc, ◌+◌, ◌-◌, ◌≤◌, List, [], ◌∷◌, ◌++◌}
+use Rattle.std.specs.Prelude.{length, map, Option, None, Some, slice_index_or}
+use Rattle.sim_queue.specs.declared.Item.{Item}
 use Rattle.sim_queue.specs.Items.{items_from}
 use Rattle.sim_queue.specs.inside.Wheel.{key_at, HasSameBut}
 
@@ -33,6 +34,17 @@ slot_of keys bodies (Some k) = entry (key_at keys k) (body_at bodies k)
 abbrev pub slots_of : {B : Type 0} → List (Option (ℕ × ℕ)) → List (Option B) → List (Option ℕ)
     → List (Option (ℕ × B))
 slots_of keys bodies places = map (slot_of keys bodies) places
+
+-- the item at a place, if there is one
+abbrev pub item_at : {B : Type 0} → Option (ℕ × ℕ) → Option B → List (Item B)
+item_at None body = []
+item_at (Some key) None = []
+item_at (Some key) (Some body) = record { due = key.0; serial = key.1; body = body } ∷ []
+
+-- the items at the first n places, in the order of the places
+abbrev pub items_at : {B : Type 0} → ℕ → List (Option (ℕ × ℕ)) → List (Option B) → List (Item B)
+items_at zero keys bodies = []
+items_at (suc n) keys bodies = items_at n keys bodies ++ item_at (key_at keys n) (body_at bodies n)
 
 abbrev pub HasSameBodies : {B : Type 0} → List (Option B) → List (Option B) → Type 0
 HasSameBodies old new = (j : ℕ) → body_at new j ≡ body_at old j

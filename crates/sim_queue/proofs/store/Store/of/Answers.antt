@@ -1,13 +1,12 @@
-use Rattle.std.proofs.Common.{◌≡◌, ◌<◌, ◌≤◌, ◌+◌, ◌-◌, ◌^◌, ℕ, suc, List, [], ◌∷◌, ◌++◌, ap, sym, subst, ◌∙◌, arith, length, take, drop}
+use Rattle.std.proofs.Common.{◌≡◌, ◌<◌, ◌≤◌, ◌+◌, ◌-◌, ◌^◌, ℕ, List, ap, sym, subst, ◌∙◌, arith, length, take}
 use Rattle.std.proofs.Math.ListN.{get_or}
 use Rattle.std.proofs.lemmas.List.{take_all}
 use Rattle.sim_queue.specs.declared.Item.{Item}
 use Rattle.sim_queue.specs.Items.{pending}
-use Rattle.sim_queue.specs.Packed.{packed}
-use Rattle.sim_queue.specs.Pending.{Pending, put_back, IsPending, IsQueue, Rise}
+use Rattle.sim_queue.specs.Packed.{packed, nothing}
+use Rattle.sim_queue.specs.Pending.{Pending, put_back, IsPending}
 use Rattle.sim_queue.specs.inside.Sparse.{SlotList}
-use Rattle.sim_queue.specs.inside.Store.{pending_in}
-use Rattle.sim_queue.proofs.Packing.{empty_pending, next_below, next_absent, put_last, split_at, taken_more, after}
+use Rattle.sim_queue.proofs.Packing.{empty_pending, can_at, put_all-more, taken_more}
 use Rattle.sim_queue.proofs.store.Store.of.Goals as goal
 
 pub loop-item-init : goal.loop-item-init
@@ -17,10 +16,10 @@ loop-item-init g c =
     let s = c.in_ok-empty.field-0 in
     let at_base : s.base ≡ base = ap (λ (x : SlotList _). x.base) c.in_ok-empty.ensures in
     let sum : base + (c.args.next_serial - base) ≡ c.args.next_serial = omega arith in
-    let empty : pending s.base s.items ≡ packed [] c.args.next_serial =
+    let empty : pending s.base s.items ≡ nothing c.args.next_serial =
     ap (λ (n : ℕ). pending n s.items) at_base
     ∙ empty_pending (c.args.next_serial - base) base s.items (ap (λ (x : SlotList _). x.items) c.in_ok-empty.ensures)
-    ∙ ap (λ (n : ℕ). packed [] n) sum in
+    ∙ ap (λ (n : ℕ). nothing n) sum in
     let next : s.base + length s.items ≡ c.args.next_serial = ap (λ (q : Pending _). q.next_serial) empty in
     let small : c.args.next_serial ≤ 2 ^ 40 = c.requires.small in
     record { pending = empty; base = at_base; keyed = omega arith }
@@ -32,9 +31,7 @@ fill_copy-requires-clause-made g c =
     let x = c.item-item.result in
     let inside : i < length items = subst (λ (xs : List (Item _)). i < length xs) c.deref-item-items.ensures.value c.loop-item-test.true in
     let read : x ≡ get_or items i x = subst (λ (xs : List (Item _)). x ≡ get_or xs i x) c.deref-item-items.ensures.value c.item-item.is in
-    let queue : IsQueue (packed (take i items ++ x ∷ drop (suc i) items) c.args.next_serial) = subst (λ (xs : List (Item _)). IsQueue (packed xs c.args.next_serial)) (sym (split_at items i x inside read)) c.requires.items in
-    let next : (pending_in c.loop-item.store).next_serial ≡ c.args.next_serial = ap (λ (q : Pending _). q.next_serial) c.loop-item.invariant.pending in
-    subst (λ (n : ℕ). x.serial < n) (sym next) (next_below x (drop (suc i) items) c.args.next_serial 0 (take i items) queue)
+    subst (λ (q : Pending _). x.serial < q.next_serial) (sym c.loop-item.invariant.pending) (can_at items i x (nothing c.args.next_serial) inside read c.requires.items).0
 
 pub fill_copy-requires-clause-reached : goal.fill_copy-requires-clause-reached
 fill_copy-requires-clause-reached g c =
@@ -43,10 +40,9 @@ fill_copy-requires-clause-reached g c =
     let x = c.item-item.result in
     let inside : i < length items = subst (λ (xs : List (Item _)). i < length xs) c.deref-item-items.ensures.value c.loop-item-test.true in
     let read : x ≡ get_or items i x = subst (λ (xs : List (Item _)). x ≡ get_or xs i x) c.deref-item-items.ensures.value c.item-item.is in
-    let base = c.first_serial-base.result in
-    let rise : Rise base (take i items ++ x ∷ drop (suc i) items) c.args.next_serial =
-    subst (λ (xs : List (Item _)). Rise base xs c.args.next_serial) (sym (split_at items i x inside read)) c.first_serial-base.ensures.rise in
-    subst (λ (n : ℕ). n ≤ x.serial) (sym c.loop-item.invariant.base) (after x (drop (suc i) items) c.args.next_serial base (take i items) rise)
+    let least : c.first_serial-base.result ≤ x.serial =
+    subst (λ (y : Item _). c.first_serial-base.result ≤ y.serial) (sym read) (c.first_serial-base.ensures.least i x inside) in
+    subst (λ (n : ℕ). n ≤ x.serial) (sym c.loop-item.invariant.base) least
 
 pub fill_copy-requires-clause-absent : goal.fill_copy-requires-clause-absent
 fill_copy-requires-clause-absent g c h =
@@ -55,8 +51,7 @@ fill_copy-requires-clause-absent g c h =
     let x = c.item-item.result in
     let inside : i < length items = subst (λ (xs : List (Item _)). i < length xs) c.deref-item-items.ensures.value c.loop-item-test.true in
     let read : x ≡ get_or items i x = subst (λ (xs : List (Item _)). x ≡ get_or xs i x) c.deref-item-items.ensures.value c.item-item.is in
-    let queue : IsQueue (packed (take i items ++ x ∷ drop (suc i) items) c.args.next_serial) = subst (λ (xs : List (Item _)). IsQueue (packed xs c.args.next_serial)) (sym (split_at items i x inside read)) c.requires.items in
-    next_absent x (drop (suc i) items) c.args.next_serial (take i items) queue (subst (λ (q : Pending _). IsPending x.serial q) c.loop-item.invariant.pending h)
+    (can_at items i x (nothing c.args.next_serial) inside read c.requires.items).1 (subst (λ (q : Pending _). IsPending x.serial q) c.loop-item.invariant.pending h)
 
 pub loop-item-preserved : goal.loop-item-preserved
 loop-item-preserved g c =
@@ -65,10 +60,9 @@ loop-item-preserved g c =
     let x = c.item-item.result in
     let inside : i < length items = subst (λ (xs : List (Item _)). i < length xs) c.deref-item-items.ensures.value c.loop-item-test.true in
     let read : x ≡ get_or items i x = subst (λ (xs : List (Item _)). x ≡ get_or xs i x) c.deref-item-items.ensures.value c.item-item.is in
-    let queue : IsQueue (packed (take i items ++ x ∷ drop (suc i) items) c.args.next_serial) = subst (λ (xs : List (Item _)). IsQueue (packed xs c.args.next_serial)) (sym (split_at items i x inside read)) c.requires.items in
     record {
-      pending = c.in_ok-fill_copy.ensures.ok ∙ ap (λ (q : Pending _). put_back x q) c.loop-item.invariant.pending ∙ put_last x (drop (suc i) items) c.args.next_serial (take i items) queue
-          ∙ ap (λ (xs : List (Item _)). packed xs c.args.next_serial) (taken_more items i x inside read);
+      pending = c.in_ok-fill_copy.ensures.ok ∙ ap (λ (q : Pending _). put_back x q) c.loop-item.invariant.pending
+          ∙ sym (put_all-more (take i items) x (nothing c.args.next_serial)) ∙ ap (λ (xs : List (Item _)). packed xs c.args.next_serial) (taken_more items i x inside read);
       base = c.fill_copy.ensures.base ∙ c.loop-item.invariant.base;
       keyed = c.fill_copy.ensures.keyed;
     }
