@@ -1,7 +1,6 @@
 -- Nodes without keys.
-use Rattle.std.proofs.Common.{◌≡◌, ◌≢◌, ℕ, zero, suc, ◌+◌, ◌*◌, ◌/◌, ◌^◌, ◌<◌, ◌≤◌, ◌%◌, List, [], ◌∷◌, ◌++◌, refl, sym, ap, ◌∙◌, subst, arith, length, inl, inr, ⊎_elim}
-use Rattle.std.proofs.lemmas.Bool.{cases_eq, cases_lt}
-use Rattle.std.proofs.lemmas.List.{length_push}
+use Rattle.std.proofs.Common.{◌≡◌, ℕ, zero, suc, ◌+◌, ◌*◌, ◌/◌, ◌^◌, ◌<◌, ◌≤◌, ◌%◌, List, [], ◌∷◌, ◌++◌, refl, sym, ap, ◌∙◌, subst, arith, length, inl, inr, ⊎_elim}
+use Rattle.std.proofs.lemmas.Bool.{cases_lt}
 use Rattle.std.proofs.lemmas.Nat.{shl-shr, pow_pos}
 use Rattle.std.proofs.Math.Nat.{mul-lt-mul_of_pos_right}
 use Rattle.std.proofs.Math.Pow.{pow_mono}
@@ -122,22 +121,6 @@ node_front (y ∷ nodes) x (suc i) lt = node_front nodes x i (omega arith)
 -- no node past the end has a key
 pub past_free : (nodes : List Node) (i : ℕ) → length nodes ≤ i → 2 ^ 40 ≤ (node nodes i).serial
 past_free nodes i past = let e : (node nodes i).serial ≡ 18446744073709551615 = ap (λ (x : Node). x.serial) (node_past nodes i past) in omega arith
-
--- one more free place
-pub free_more : (nodes new : List Node) (x : Node) → new ≡ nodes ++ x ∷ [] → 2 ^ 40 ≤ x.serial → ((i : ℕ) → 256 ≤ i → 2 ^ 40 ≤ (node nodes i).serial)
-    → (i : ℕ) → 256 ≤ i → 2 ^ 40 ≤ (node new i).serial
-free_more nodes new x is high free i from = subst (λ (xs : List Node). 2 ^ 40 ≤ (node xs i).serial) (sym is) (⊎_elim
-    (λ (lt : i < length nodes). subst (λ (y : Node). 2 ^ 40 ≤ y.serial) (sym (node_front nodes x i lt)) (free i from))
-    (λ (ge : length nodes ≤ i). ⊎_elim
-    (λ (e : i ≡ length nodes). subst (λ (n : ℕ). 2 ^ 40 ≤ (node (nodes ++ x ∷ []) n).serial) (sym e) (subst (λ (y : Node). 2 ^ 40 ≤ y.serial) (sym (node_last nodes x)) high))
-    (λ (ne : i ≢ length nodes). let size : length (nodes ++ x ∷ []) ≡ length nodes + 1 = length_push nodes x in past_free (nodes ++ x ∷ []) i (omega arith))
-    (cases_eq i (length nodes)))
-    (cases_lt i (length nodes)))
-
--- the ends stay before one more node
-pub ends_kept : (w : ℕ) (nodes new : List Node) (x : Node) → new ≡ nodes ++ x ∷ [] → 256 ≤ length nodes → ((i : ℕ) → i < 256 → node nodes i ≡ end_of w i)
-    → (i : ℕ) → i < 256 → node new i ≡ end_of w i
-ends_kept w nodes new x is made all i lt = ap (λ (xs : List Node). node xs i) is ∙ node_front nodes x i (omega arith) ∙ all i lt
 
 end_fits : (w n : ℕ) → n < 256 → w ≤ 56 → n * 2 ^ w < 18446744073709551616
 end_fits w n lt narrow =

@@ -19,8 +19,8 @@ pub(crate) const SERIALS: u64 = 1 << 40;
 /// The serial of a node without a key: one that is free, or an end of a list.
 const NO_SERIAL: u64 = u64::MAX;
 
-/// The most free places that lists are made with. Others are made one by one.
-const MOST_FREE: usize = 1 << 20;
+/// The most keys for which lists are made with room.
+const MOST_KEYS: usize = 1 << 20;
 
 /// A key, and the places of the nodes before and after it in its list.
 #[derive(Clone, Copy, Drop)]
@@ -43,7 +43,7 @@ pub(crate) struct Lists {
 }
 
 impl Lists {
-    /// Returns lists without keys, with free places for `count` keys but at most 2^20.
+    /// Returns lists without keys, with room for `count` keys but at most 2^20.
     pub(crate) fn with_room(alloc: Global, width: u32, count: usize) -> Result<Lists, NoMemory>
         requires { width ≤ 56 }
         ensures width { IfOk result (λ l. l.width ≡ width) }
@@ -51,13 +51,8 @@ impl Lists {
         ensures none { IfOk result (λ l. HasNoKeys l.nodes.items) }
         ensures size { IfOk result (λ l. length l.nodes.items ≤ 4294967295) }
     {
-        let free = count.min(MOST_FREE);
-        let mut nodes = ends(alloc, width, free)?;
-        for place in LISTS..LISTS + free as u32 {
-            nodes.push_reserved(free_node(place + 1));
-        }
         Ok(Lists {
-            nodes,
+            nodes: ends(alloc, width, count.min(MOST_KEYS))?,
             free: LISTS,
             width,
         })
@@ -109,7 +104,26 @@ impl Lists {
         Ok(place)
     }
 
-    // Adds a node behind the others.
+    /// Returns the place of a new node without a key, behind the others.
+    #[inline(always)]
+    pub(crate) fn new_place(&mut self) -> Result<u32, NoMemory>
+        requires lists { IsLists self.old.width self.old.nodes.items }
+        requires width { self.old.width ≤ 56 }
+        ensures free { IfOk result (λ p. IsFree p self.new.nodes.items) }
+        ensures small { IfOk result (λ p. p < 4294967295) }
+        ensures same { IsSame self.old.nodes.items self.new.nodes.items }
+        ensures lists { IsLists self.new.width self.new.nodes.items }
+        ensures size { length self.old.nodes.items ≤ 4294967295 → length self.new.nodes.items
+            ≤ 4294967295 }
+        ensures width { self.new.width ≡ self.old.width }
+    {
+        if self.nodes.len() < LISTS as usize {
+            return self.make_place();
+        }
+        self.add_node()
+    }
+
+    // Makes the ends of the lists, unless they exist, and adds a node behind the others.
     #[cold]
     #[inline(never)]
     fn make_place(&mut self) -> Result<u32, NoMemory>
@@ -124,6 +138,22 @@ impl Lists {
         ensures width { self.new.width ≡ self.old.width }
     {
         self.make_ends()?;
+        self.add_node()
+    }
+
+    // Adds a node without a key behind the others. Returns its place.
+    #[inline(always)]
+    fn add_node(&mut self) -> Result<u32, NoMemory>
+        requires lists { IsLists self.old.width self.old.nodes.items }
+        requires made { 256 ≤ length self.old.nodes.items }
+        ensures free { IfOk result (λ p. IsFree p self.new.nodes.items) }
+        ensures small { IfOk result (λ p. p < 4294967295) }
+        ensures same { IsSame self.old.nodes.items self.new.nodes.items }
+        ensures lists { IsLists self.new.width self.new.nodes.items }
+        ensures size { length self.old.nodes.items ≤ 4294967295 → length self.new.nodes.items
+            ≤ 4294967295 }
+        ensures width { self.new.width ≡ self.old.width }
+    {
         let place = self.nodes.len();
         if place >= u32::MAX as usize {
             return Err(NoMemory);

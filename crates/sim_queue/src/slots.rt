@@ -20,6 +20,13 @@ use crate::{Item, NoMemory};
 use std::alloc::Global;
 use std::marker::Model;
 
+/// The place that an item gets: one that was freed, if there is one, or a new one behind all others.
+#[derive(Clone, Copy)]
+pub(crate) enum Seat {
+    Freed,
+    New,
+}
+
 /// The items by their serials: the first slot stands for the serial `base`.
 #[derive(Drop)]
 pub(crate) struct Slots<B> {
@@ -148,7 +155,14 @@ impl<B> Slots<B> {
     {
         let serial = self.base + self.places.len() as u64;
         self.places.reserve(1)?;
-        let at = put_in(&mut self.wheel, &mut self.bodies, due, serial, body)?;
+        let at = put_in(
+            &mut self.wheel,
+            &mut self.bodies,
+            Seat::Freed,
+            due,
+            serial,
+            body,
+        )?;
         self.places.push_reserved(Link::to(at));
         self.count += 1;
         Ok(serial)
@@ -156,7 +170,13 @@ impl<B> Slots<B> {
 
     /// Puts a due and a body into an empty slot. After an error nothing has changed.
     #[inline(always)]
-    pub(crate) fn fill(&mut self, place: usize, due: u64, body: B) -> Result<(), NoMemory>
+    pub(crate) fn fill(
+        &mut self,
+        place: usize,
+        seat: Seat,
+        due: u64,
+        body: B,
+    ) -> Result<(), NoMemory>
     where
         B: Drop,
         requires within { place < length self.old.items }
@@ -168,7 +188,7 @@ impl<B> Slots<B> {
         ensures base { self.new.base ≡ self.old.base }
     {
         let serial = self.base + place as u64;
-        let at = put_in(&mut self.wheel, &mut self.bodies, due, serial, body)?;
+        let at = put_in(&mut self.wheel, &mut self.bodies, seat, due, serial, body)?;
         self.places[place] = Link::to(at);
         self.count += 1;
         Ok(())
@@ -306,6 +326,7 @@ impl<B> Slots<B> {
 fn put_in<B: Drop>(
     wheel: &mut Wheel,
     bodies: &mut Vec<Option<B>>,
+    seat: Seat,
     due: u64,
     serial: u64,
     body: B,
@@ -319,7 +340,10 @@ fn put_in<B: Drop>(
     ensures small { IfOk result (λ k. k < 4294967295) }
 {
     bodies.reserve(1)?;
-    let at = wheel.free_place()?;
+    let at = match seat {
+        Seat::Freed => wheel.free_place()?,
+        Seat::New => wheel.new_place()?,
+    };
     put_body(bodies, at, body)?;
     wheel.put(at, due, serial);
     Ok(at)

@@ -12,7 +12,7 @@ ghost use Rattle.sim_queue.specs.Packed.{packed, nothing, CanPutAll};
 ghost use Rattle.sim_queue.specs.inside.Store.{pending_in, IsKeyed};
 
 use crate::packed::PackedQueue;
-use crate::slots::Slots;
+use crate::slots::{Seat, Slots};
 use crate::{Item, NoMemory};
 use std::alloc::Global;
 
@@ -152,7 +152,7 @@ impl<B> Store<B> {
         self.widen(item.serial)?;
         let Item { due, serial, body } = item;
         let place = (serial - self.slots.base()) as usize;
-        self.slots.fill(place, due, body)
+        self.slots.fill(place, Seat::Freed, due, body)
     }
 
     /// Returns equal pending items without their keys and places, with bodies that `each` copies.
@@ -224,7 +224,7 @@ impl<B> Store<B> {
     {
         let place = (item.serial - self.slots.base()) as usize;
         match each(&item.body) {
-            Ok(body) => self.slots.fill(place, item.due, body),
+            Ok(body) => self.slots.fill(place, Seat::New, item.due, body),
             Err(refused) => Err(refused),
         }
     }

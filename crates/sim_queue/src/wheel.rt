@@ -53,7 +53,7 @@ impl Wheel {
         }
     }
 
-    /// Returns no keys, with free places for `count` keys but at most 2^20.
+    /// Returns no keys, with room for `count` keys but at most 2^20.
     pub(crate) fn with_room(alloc: Global, width: u32, count: usize) -> Result<Wheel, NoMemory>
         requires { width ≤ 56 }
         ensures { IfOk result (λ w. HasNone w) }
@@ -80,6 +80,16 @@ impl Wheel {
         ensures same { HasSame self.old self.new }
     {
         Ok(self.lists.free_place()? - LISTS)
+    }
+
+    /// Returns a new place without a key, behind the others.
+    #[inline(always)]
+    pub(crate) fn new_place(&mut self) -> Result<u32, NoMemory>
+        ensures place { IfOk result (λ p. IsPlace p self.new) }
+        ensures small { IfOk result (λ p. p < 4294967295) }
+        ensures same { HasSame self.old self.new }
+    {
+        Ok(self.lists.new_place()? - LISTS)
     }
 
     /// Puts a key at a place.

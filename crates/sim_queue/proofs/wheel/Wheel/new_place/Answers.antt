@@ -1,0 +1,30 @@
+use Rattle.std.proofs.Common.{ap, ◌∙◌}
+use Rattle.sim_queue.specs.inside.Wheel.{key_at}
+use Rattle.sim_queue.proofs.Turning.{same_wheel, place_free, same_keys}
+use Rattle.sim_queue.proofs.wheel.Wheel.new_place.Goals as goal
+
+pub invariant_of-self : goal.invariant_of-self
+invariant_of-self c =
+    let l = c.self.inside.lists in
+    let new = c.new_place.new.self in
+    rw c.new_place.ensures.width
+    (same_wheel l.width c.self.inside.floor c.self.inside.marks.words l.nodes.items new.nodes.items c.new_place.ensures.same (rw c.new_place.ensures.width at c.new_place.ensures.lists)
+    (c.new_place.ensures.size c.self.invariant.small) c.self.invariant)
+
+pub invariant_of-self-2 : goal.invariant_of-self-2
+invariant_of-self-2 c =
+    let l = c.self.inside.lists in
+    let new = c.new_place.new.self in
+    rw c.new_place.ensures.width
+    (same_wheel l.width c.self.inside.floor c.self.inside.marks.words l.nodes.items new.nodes.items c.new_place.ensures.same (rw c.new_place.ensures.width at c.new_place.ensures.lists)
+    (c.new_place.ensures.size c.self.invariant.small) c.self.invariant)
+
+pub returns-in_err-new_place-clause-same : goal.returns-in_err-new_place-clause-same
+returns-in_err-new_place-clause-same c k =
+    same_keys c.self.inside.lists.nodes.items c.new_place.new.self.nodes.items c.new_place.ensures.same k ∙ ap (λ xs. key_at xs k) c.self.view_is
+
+pub returns-clause-place : goal.returns-clause-place
+returns-clause-place c = place_free c.new_place.new.self.nodes.items c.in_ok-new_place.field-0 c.in_ok-new_place.ensures.free
+
+pub returns-clause-same : goal.returns-clause-same
+returns-clause-same c k = same_keys c.self.inside.lists.nodes.items c.new_place.new.self.nodes.items c.new_place.ensures.same k ∙ ap (λ xs. key_at xs k) c.self.view_is
