@@ -17,9 +17,9 @@
 //!
 //! - The record of a reaction ([`BackupUndo`]) keeps what that reaction can change: the progress,
 //!   the current put, one cell and one waiting host. It is plain data of fixed size.
-//! - The primary is in a box, so that a client or a backup does not carry its table of waiting
-//!   hosts. `sim_hosts::Boxed` is a type whose value is what the box holds, so that definitions see
-//!   no box.
+//! - The primary and the backups are in boxes, so that a client does not carry their cells, nor a
+//!   backup the table of waiting hosts. `sim_hosts::Boxed` is a type whose value is what the box
+//!   holds, so that definitions see no box.
 //! - The hosts in a state (whose put it is, who waits) are below the number of hosts by the node's
 //!   invariant, because `send` requires it.
 #![tactic(auto)]

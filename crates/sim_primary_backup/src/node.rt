@@ -68,7 +68,7 @@ impl<T: Meter> Node for PrimaryBackup<T> {
         } else if me == 0 {
             Role::Primary(Boxed::new(alloc, Primary::at_boot(disk))?)
         } else {
-            Role::Backup(Store::on(disk))
+            Role::Backup(Boxed::new(alloc, Store::on(disk))?)
         };
         Ok(PrimaryBackup {
             state: State {
@@ -110,7 +110,8 @@ impl<T: Meter> Node for PrimaryBackup<T> {
                     changes,
                 }
             }
-            Role::Backup(store) => {
+            Role::Backup(boxed) => {
+                let store = boxed.get_mut();
                 let progress = store.progress;
                 let cell = store.react_as_backup(setup, input, effects);
                 BackupUndo::Backup { progress, cell }
@@ -131,8 +132,8 @@ impl<T: Meter> Node for PrimaryBackup<T> {
                 },
                 Role::Primary(boxed),
             ) => { boxed.get_mut().take_back(progress, current, changes) }
-            (BackupUndo::Backup { progress, cell }, Role::Backup(store)) => {
-                store.take_back(progress, cell)
+            (BackupUndo::Backup { progress, cell }, Role::Backup(boxed)) => {
+                boxed.get_mut().take_back(progress, cell)
             }
             _ => {}
         }
@@ -144,7 +145,7 @@ impl<T: Meter> Node for PrimaryBackup<T> {
         let role = match &self.state.role {
             Role::Client { next } => Role::Client { next: *next },
             Role::Primary(primary) => Role::Primary(Boxed::new(alloc, *primary.get())?),
-            Role::Backup(store) => Role::Backup(*store),
+            Role::Backup(store) => Role::Backup(Boxed::new(alloc, *store.get())?),
         };
         Ok(PrimaryBackup {
             state: State {
@@ -160,7 +161,7 @@ impl<T: Meter> Node for PrimaryBackup<T> {
         match (&self.state.role, k) {
             (Role::Client { next }, 0) => *next,
             (Role::Primary(boxed), 1) => boxed.get().store.progress.applied,
-            (Role::Backup(store), 1) => store.progress.applied,
+            (Role::Backup(boxed), 1) => boxed.get().progress.applied,
             _ => 0,
         }
     }

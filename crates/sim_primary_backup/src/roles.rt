@@ -64,7 +64,7 @@ pub enum Role {
     /// A client waits for the end of its put of this number, from 1.
     Client { next: u64 },
     Primary(Boxed<Primary>),
-    Backup(Store),
+    Backup(Boxed<Store>),
 }
 
 /// The state of a host.
