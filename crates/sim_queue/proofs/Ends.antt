@@ -20,7 +20,7 @@ module _ (w : ℕ) (old new : List Node) (same : (i : ℕ) → node new i ≡ no
   linked_old i (inl e) = inl (e.0, let lt : i < 256 = e.0 in omega arith)
   linked_old i (inr key) = inr (let e : (node new i).serial ≡ (node old i).serial = ap (λ (x : Node). x.serial) (same i) in omega arith)
 
-  linked_new : (i : ℕ) → IsLinked old i → IsLinked new i
+  pub linked_new : (i : ℕ) → IsLinked old i → IsLinked new i
   linked_new i (inl e) = inl (e.0, let lt : i < 256 = e.0 in omega arith)
   linked_new i (inr key) = inr (let e : (node new i).serial ≡ (node old i).serial = ap (λ (x : Node). x.serial) (same i) in omega arith)
 

@@ -5,6 +5,7 @@ pub mod Marking
 pub mod Nodes
 pub mod Heads
 pub mod Joining
+pub mod Adding
 pub mod Leaving
 pub mod Spots
 pub mod Ends
@@ -14,6 +15,7 @@ pub mod Sparse
 pub mod Fronts
 pub mod FirstAt
 pub mod Packing
+pub mod Seating
 pub mod Finding
 pub mod Ordered
 pub mod Skipping

@@ -1,5 +1,5 @@
 -- What keys there are, where a node gets one or loses it.
-use Rattle.std.proofs.Common.{◌≡◌, ◌≢◌, ℕ, ◌+◌, ◌-◌, ◌^◌, ◌<◌, ◌≤◌, ◌%◌, List, [], Some, None, is_some, nat_lt, Bool, true, false, if◌then◌else◌, refl, sym, ap, ◌∙◌, subst, arith, length, ◌⊎◌, inl, inr, ⊎_elim}
+use Rattle.std.proofs.Common.{◌≡◌, ◌≢◌, ℕ, ◌+◌, ◌-◌, ◌^◌, ◌<◌, ◌≤◌, ◌%◌, List, [], Some, None, is_some, nat_lt, Bool, true, false, if◌then◌else◌, refl, sym, ap, ◌∙◌, subst, arith, length, ◌⊎◌, inl, inr, ⊎_elim, min, Result, Ok, Err, OnErr}
 use Rattle.std.proofs.Math.ListN.{get_or-map}
 use Rattle.std.proofs.lemmas.List.{length-map}
 use Rattle.sim_queue.proofs.Marked.{first_due, same_mark}
@@ -7,7 +7,8 @@ use Rattle.std.proofs.lemmas.Bool.{cases_eq, cases_lt, lt-ltb, le-ltb}
 use Rattle.std.proofs.lemmas.Option.{none-some, same_Some}
 use Rattle.std.specs.Bool.{OnFalse}
 use Rattle.sim_queue.specs.declared.lists.Node.{Node}
-use Rattle.sim_queue.specs.inside.Lists.{node, no_node, day, list_of, order_of, key_order, HasKey, IsLists, IsEmptyList, KeepsOthers, IsFree, IsSame, IsSpot}
+use Rattle.sim_queue.specs.declared.lists.Lists.{Lists}
+use Rattle.sim_queue.specs.inside.Lists.{node, no_node, day, list_of, order_of, key_order, HasKey, IsLists, IsEmptyList, KeepsKeys, KeepsOthers, IsFree, IsSame, IsSpot}
 use Rattle.sim_queue.specs.inside.Marks.{mark_of, IsMarked}
 use Rattle.sim_queue.specs.inside.Wheel.{key_of, keys_of, key_at, HasNone, HasSame, HasSameBut, IsPlace, IsFirst, IsDue, IsFrom, IsFloor, HasMarks, IsWheel}
 use Rattle.sim_queue.proofs.Nodes.{key_from, linked_key}
@@ -48,6 +49,13 @@ key_is_some x h = ⊎_elim
     (λ (lt : x.serial < 2 ^ 40). lt)
     (λ (ge : 2 ^ 40 ≤ x.serial). let no : false ≡ true = ap (λ o. is_some o) (sym (key_none x ge)) ∙ h in cc no)
     (cases_lt x.serial (2 ^ 40))
+
+pub on_err : {T E P : Type 0} (r : Result T E) → P → OnErr r P
+on_err (Ok x) p = tt
+on_err (Err e) p = p
+
+pub lesser_of : (a b m : ℕ) → m ≡ min a b → (m ≡ a) ⊎ (m ≡ b)
+lesser_of a b m is = ⊎_elim (λ (lt : a < b). inl (omega arith)) (λ (ge : b ≤ a). inr (omega arith)) (cases_lt a b)
 
 pub on_false : (b : Bool) (P Q : Type 0) → (P → Q) → OnFalse b P → OnFalse b Q
 on_false true P Q f h = tt
@@ -147,6 +155,11 @@ same_wheel w floor words old new same lists small wheel = record {
 
     was : (i : ℕ) → HasKey (node new i) → HasKey (node old i)
     was i key = subst (λ (x : Node). HasKey x) (same i (key_from w new i lists key)) key
+
+-- other lists with the same keys
+pub kept_wheel : (old new : Lists) (floor : ℕ) (words : List ℕ) → KeepsKeys old new → IsWheel old.width old.nodes.items words floor → IsWheel new.width new.nodes.items words floor
+kept_wheel old new floor words keeps wheel = subst (λ (w : ℕ). IsWheel w new.nodes.items words floor) (sym keeps.width)
+    (same_wheel old.width floor words old.nodes.items new.nodes.items keeps.same (subst (λ (w : ℕ). IsLists w new.nodes.items) keeps.width keeps.lists) (keeps.size wheel.small) wheel)
 
 -- a node gets a key
 module _ (w floor now p due serial : ℕ) (words marks : List ℕ) (old new : List Node) (free : IsFree p old) (wheel : IsWheel w old words floor) (lists : IsLists w new)

@@ -2,6 +2,7 @@
 pub mod Link
 pub mod Lists
 pub mod Marks
+pub mod Seats
 pub mod Slots
 pub mod Sparse
 pub mod Store

@@ -1,11 +1,12 @@
 //! Keys in 256 lists, each in the order of its keys. A due falls into a day, and days that are
 //! equal modulo 256 share a list.
-ghost use Rattle.std.specs.Prelude.{◌≡◌, ◌≢◌, ℕ, ◌^◌, ◌<◌, ◌≤◌, ◌%◌, OnOk, IfOk, IfSome, IfNone};
-ghost use Rattle.std.specs.Prelude.{◌+◌, length, slice_set, nat_lt};
+ghost use Rattle.std.specs.Prelude.{◌≡◌, ◌≢◌, ℕ, ◌^◌, ◌<◌, ◌≤◌, ◌%◌, OnOk, OnErr, IfOk, IfSome};
+ghost use Rattle.std.specs.Prelude.{IfNone, ◌+◌, ◌-◌, length, slice_set, nat_lt};
 ghost use Rattle.std.specs.Vec.{vec_capacity};
 ghost use Rattle.sim_queue.specs.inside.Lists.{node, day, list_of, order_of, key_order, end_of};
-ghost use Rattle.sim_queue.specs.inside.Lists.{no_node, HasKey, IsLinked, IsLists, IsFree, IsSame};
-ghost use Rattle.sim_queue.specs.inside.Lists.{IsSpot, KeepsOthers, IsEmptyList, HasNoKeys};
+ghost use Rattle.sim_queue.specs.inside.Lists.{no_node, HasKey, IsLinked, IsLists, IsFree};
+ghost use Rattle.sim_queue.specs.inside.Lists.{IsSpot, KeepsKeys, KeepsOthers, IsEmptyList};
+ghost use Rattle.sim_queue.specs.inside.Lists.{HasNoKeys};
 
 use crate::NoMemory;
 use std::alloc::Global;
@@ -49,7 +50,7 @@ impl Lists {
         ensures width { IfOk result (λ l. l.width ≡ width) }
         ensures lists { IfOk result (λ l. IsLists width l.nodes.items) }
         ensures none { IfOk result (λ l. HasNoKeys l.nodes.items) }
-        ensures size { IfOk result (λ l. length l.nodes.items ≤ 4294967295) }
+        ensures size { IfOk result (λ l. length l.nodes.items ≡ 256) }
     {
         Ok(Lists {
             nodes: ends(alloc, width, count.min(MOST_KEYS))?,
@@ -90,11 +91,7 @@ impl Lists {
         requires width { self.old.width ≤ 56 }
         ensures free { IfOk result (λ p. IsFree p self.new.nodes.items) }
         ensures small { IfOk result (λ p. p < 4294967295) }
-        ensures same { IsSame self.old.nodes.items self.new.nodes.items }
-        ensures lists { IsLists self.new.width self.new.nodes.items }
-        ensures size { length self.old.nodes.items ≤ 4294967295 → length self.new.nodes.items
-            ≤ 4294967295 }
-        ensures width { self.new.width ≡ self.old.width }
+        ensures keeps { KeepsKeys self.old self.new }
     {
         let place = self.free;
         let Some(next) = next_free(&self.nodes, place) else {
@@ -102,25 +99,6 @@ impl Lists {
         };
         self.free = next;
         Ok(place)
-    }
-
-    /// Returns the place of a new node without a key, behind the others.
-    #[inline(always)]
-    pub(crate) fn new_place(&mut self) -> Result<u32, NoMemory>
-        requires lists { IsLists self.old.width self.old.nodes.items }
-        requires width { self.old.width ≤ 56 }
-        ensures free { IfOk result (λ p. IsFree p self.new.nodes.items) }
-        ensures small { IfOk result (λ p. p < 4294967295) }
-        ensures same { IsSame self.old.nodes.items self.new.nodes.items }
-        ensures lists { IsLists self.new.width self.new.nodes.items }
-        ensures size { length self.old.nodes.items ≤ 4294967295 → length self.new.nodes.items
-            ≤ 4294967295 }
-        ensures width { self.new.width ≡ self.old.width }
-    {
-        if self.nodes.len() < LISTS as usize {
-            return self.make_place();
-        }
-        self.add_node()
     }
 
     // Makes the ends of the lists, unless they exist, and adds a node behind the others.
@@ -131,11 +109,7 @@ impl Lists {
         requires width { self.old.width ≤ 56 }
         ensures free { IfOk result (λ p. IsFree p self.new.nodes.items) }
         ensures small { IfOk result (λ p. p < 4294967295) }
-        ensures same { IsSame self.old.nodes.items self.new.nodes.items }
-        ensures lists { IsLists self.new.width self.new.nodes.items }
-        ensures size { length self.old.nodes.items ≤ 4294967295 → length self.new.nodes.items
-            ≤ 4294967295 }
-        ensures width { self.new.width ≡ self.old.width }
+        ensures keeps { KeepsKeys self.old self.new }
     {
         self.make_ends()?;
         self.add_node()
@@ -148,11 +122,7 @@ impl Lists {
         requires made { 256 ≤ length self.old.nodes.items }
         ensures free { IfOk result (λ p. IsFree p self.new.nodes.items) }
         ensures small { IfOk result (λ p. p < 4294967295) }
-        ensures same { IsSame self.old.nodes.items self.new.nodes.items }
-        ensures lists { IsLists self.new.width self.new.nodes.items }
-        ensures size { length self.old.nodes.items ≤ 4294967295 → length self.new.nodes.items
-            ≤ 4294967295 }
-        ensures width { self.new.width ≡ self.old.width }
+        ensures keeps { KeepsKeys self.old self.new }
     {
         let place = self.nodes.len();
         if place >= u32::MAX as usize {
@@ -162,16 +132,15 @@ impl Lists {
         Ok(place as u32)
     }
 
-    // Makes the ends of the lists, unless they exist.
-    fn make_ends(&mut self) -> Result<(), NoMemory>
+    /// Makes the ends of the lists, unless they exist.
+    #[inline(always)]
+    pub(crate) fn make_ends(&mut self) -> Result<(), NoMemory>
         requires lists { IsLists self.old.width self.old.nodes.items }
         requires width { self.old.width ≤ 56 }
         ensures made { OnOk result (256 ≤ length self.new.nodes.items) }
-        ensures same { IsSame self.old.nodes.items self.new.nodes.items }
-        ensures lists { IsLists self.new.width self.new.nodes.items }
-        ensures size { length self.old.nodes.items ≤ 4294967295 → length self.new.nodes.items
-            ≤ 4294967295 }
-        ensures width { self.new.width ≡ self.old.width }
+        ensures places { OnOk result (length self.new.nodes.items - 256
+            ≡ length self.old.nodes.items - 256) }
+        ensures keeps { KeepsKeys self.old self.new }
     {
         if self.nodes.len() < LISTS as usize {
             self.nodes = ends(*self.nodes.allocator(), self.width, 64)?;
@@ -246,6 +215,42 @@ impl Lists {
         };
         set_after(nodes, before, place);
         set_before(nodes, after, place);
+    }
+
+    /// Adds a node with this key behind the others. The node comes right after the node at `before`
+    /// in its list. Returns its place. After an error nothing has changed.
+    #[inline(always)]
+    pub(crate) fn add(&mut self, before: u32, due: u64, serial: u64) -> Result<u32, NoMemory>
+        requires lists { IsLists self.old.width self.old.nodes.items }
+        requires made { 256 ≤ length self.old.nodes.items }
+        requires spot { IsSpot self.old.width due serial before self.old.nodes.items }
+        requires small { serial < 2 ^ 40 }
+        ensures place { IfOk result (λ p. p ≡ length self.old.nodes.items) }
+        ensures lists { IsLists self.new.width self.new.nodes.items }
+        ensures due { IfOk result (λ p. (node self.new.nodes.items p).due ≡ due) }
+        ensures serial { IfOk result (λ p. (node self.new.nodes.items p).serial ≡ serial) }
+        ensures others { IfOk result (λ p. KeepsOthers p self.old.nodes.items
+            self.new.nodes.items) }
+        ensures small { IfOk result (λ p. p < 4294967295) }
+        ensures size { IfOk result (λ p. length self.new.nodes.items ≡ p + 1) }
+        ensures width { self.new.width ≡ self.old.width }
+        ensures err { OnErr result (self.new.nodes.items ≡ self.old.nodes.items) }
+    {
+        let place = self.nodes.len();
+        if place >= u32::MAX as usize {
+            return Err(NoMemory);
+        }
+        let after = self.nodes[before as usize].after;
+        self.nodes.push(Node {
+            due,
+            serial,
+            before,
+            after,
+        })?;
+        let nodes = self.nodes.as_mut_slice();
+        set_after(nodes, before, place as u32);
+        set_before(nodes, after, place as u32);
+        Ok(place as u32)
     }
 
     /// Removes the key of a node. Returns the node as it was.

@@ -4,6 +4,7 @@ ghost use Rattle.std.specs.Prelude.{◌≡◌, ◌≢◌, ℕ, ◌+◌, ◌-◌,
 ghost use Rattle.std.specs.Prelude.{IfSome, IfNone, Bool, Some, None, ◌∷◌, ◌++◌, [], length};
 ghost use Rattle.std.specs.Prelude.{slice_set, replicate};
 ghost use Rattle.std.specs.Fn.{FnReturnsAt};
+ghost use Rattle.std.specs.List.{All};
 ghost use Rattle.std.specs.Option.{option_map, IsSome};
 ghost use Rattle.std.specs.Vec.{vec_len, vec_capacity};
 ghost use Rattle.sim_queue.specs.Items.{item_of, items_from, pending};
@@ -15,17 +16,11 @@ ghost use Rattle.sim_queue.specs.inside.Taken.{HasBodies};
 ghost use Rattle.sim_queue.specs.inside.Wheel.{key_at, HasSame};
 
 use crate::link::{Link, next_place, skip_blocks};
+use crate::seats::{Seats, copied_bodies};
 use crate::wheel::Wheel;
 use crate::{Item, NoMemory};
 use std::alloc::Global;
 use std::marker::Model;
-
-/// The place that an item gets: one that was freed, if there is one, or a new one behind all others.
-#[derive(Clone, Copy)]
-pub(crate) enum Seat {
-    Freed,
-    New,
-}
 
 /// The items by their serials: the first slot stands for the serial `base`.
 #[derive(Drop)]
@@ -70,26 +65,38 @@ impl<B> Slots<B> {
         }
     }
 
-    /// Returns `count` empty slots. There is room for `items` items, so that filling the slots with
-    /// them rarely takes memory.
-    pub(crate) fn empty(
+    /// Returns the slots of these items from the serial `base` on. `each` copies a body.
+    ///
+    /// Copies the bodies first and then makes the keys: in one loop over both the compiler runs out
+    /// of registers.
+    #[inline(never)]
+    pub(crate) fn of<F: Fn(&B) -> Result<B, NoMemory>>(
         alloc: Global,
+        items: &Vec<Item<B>>,
         base: u64,
-        count: usize,
+        next_serial: u64,
         width: u32,
-        items: usize,
+        each: &F,
     ) -> Result<Slots<B>, NoMemory>
-        requires { width ≤ 56 }
-        ensures { IfOk result (λ s. s ≡ record { base = base; items = replicate count None }) }
+    where
+        B: Drop,
+        requires items { CanPutAll items.now.items (nothing next_serial) }
+        requires from { All (λ x. base ≤ x.serial) items.now.items }
+        requires order { base ≤ next_serial }
+        requires small { next_serial ≤ 2 ^ 40 }
+        requires width { width ≤ 56 }
+        requires callable { F.IsAlwaysCallable each.now }
+        requires equal { (x : B) (r : _) → FnReturnsAt F.Fn each.now x r → IfOk r (λ y. y ≡ x) }
+        ensures { IfOk result (λ s. pending s.base s.items ≡ packed items.now.items next_serial) }
     {
-        let mut places = Vec::with_capacity(alloc, with_room(count))?;
-        places.resize(count, Link::none())?;
+        let bodies = copied_bodies(alloc, items, each)?;
+        let Seats { wheel, places } = Seats::of(alloc, items, base, next_serial, width)?;
         Ok(Slots {
-            wheel: Wheel::with_room(alloc, width, with_room(items))?,
-            bodies: Vec::with_capacity(alloc, with_room(items))?,
+            wheel,
+            bodies,
             places,
             base,
-            count: 0,
+            count: items.len(),
         })
     }
 
@@ -155,14 +162,7 @@ impl<B> Slots<B> {
     {
         let serial = self.base + self.places.len() as u64;
         self.places.reserve(1)?;
-        let at = put_in(
-            &mut self.wheel,
-            &mut self.bodies,
-            Seat::Freed,
-            due,
-            serial,
-            body,
-        )?;
+        let at = put_in(&mut self.wheel, &mut self.bodies, due, serial, body)?;
         self.places.push_reserved(Link::to(at));
         self.count += 1;
         Ok(serial)
@@ -170,13 +170,7 @@ impl<B> Slots<B> {
 
     /// Puts a due and a body into an empty slot. After an error nothing has changed.
     #[inline(always)]
-    pub(crate) fn fill(
-        &mut self,
-        place: usize,
-        seat: Seat,
-        due: u64,
-        body: B,
-    ) -> Result<(), NoMemory>
+    pub(crate) fn fill(&mut self, place: usize, due: u64, body: B) -> Result<(), NoMemory>
     where
         B: Drop,
         requires within { place < length self.old.items }
@@ -188,7 +182,7 @@ impl<B> Slots<B> {
         ensures base { self.new.base ≡ self.old.base }
     {
         let serial = self.base + place as u64;
-        let at = put_in(&mut self.wheel, &mut self.bodies, seat, due, serial, body)?;
+        let at = put_in(&mut self.wheel, &mut self.bodies, due, serial, body)?;
         self.places[place] = Link::to(at);
         self.count += 1;
         Ok(())
@@ -326,7 +320,6 @@ impl<B> Slots<B> {
 fn put_in<B: Drop>(
     wheel: &mut Wheel,
     bodies: &mut Vec<Option<B>>,
-    seat: Seat,
     due: u64,
     serial: u64,
     body: B,
@@ -340,10 +333,7 @@ fn put_in<B: Drop>(
     ensures small { IfOk result (λ k. k < 4294967295) }
 {
     bodies.reserve(1)?;
-    let at = match seat {
-        Seat::Freed => wheel.free_place()?,
-        Seat::New => wheel.new_place()?,
-    };
+    let at = wheel.free_place()?;
     put_body(bodies, at, body)?;
     wheel.put(at, due, serial);
     Ok(at)
@@ -393,13 +383,6 @@ fn take_body<B>(bodies: &mut Vec<Option<B>>, at: u32) -> B
     ensures rest { (j : ℕ) → j ≢ at → body_at bodies.new.items j ≡ body_at bodies.old.items j }
 {
     bodies[at as usize].take().unwrap()
-}
-
-/// Returns the capacity of a copy of `len` items, with some room to grow.
-pub(crate) fn with_room(len: usize) -> usize
-    ensures { len ≤ result }
-{
-    len.saturating_add(len / 8).saturating_add(8)
 }
 
 // Returns the items in the order of their places, with bodies that `each` copies. There are at most

@@ -12,7 +12,7 @@ ghost use Rattle.sim_queue.specs.Packed.{packed, nothing, CanPutAll};
 ghost use Rattle.sim_queue.specs.inside.Store.{pending_in, IsKeyed};
 
 use crate::packed::PackedQueue;
-use crate::slots::{Seat, Slots};
+use crate::slots::Slots;
 use crate::{Item, NoMemory};
 use std::alloc::Global;
 
@@ -152,7 +152,7 @@ impl<B> Store<B> {
         self.widen(item.serial)?;
         let Item { due, serial, body } = item;
         let place = (serial - self.slots.base()) as usize;
-        self.slots.fill(place, Seat::Freed, due, body)
+        self.slots.fill(place, due, body)
     }
 
     /// Returns equal pending items without their keys and places, with bodies that `each` copies.
@@ -174,7 +174,6 @@ impl<B> Store<B> {
 
     /// Returns a store of equal items, with bodies that `each` copies. The items may be in any
     /// order.
-    #[inline(never)]
     pub(crate) fn of<F: Fn(&B) -> Result<B, NoMemory>>(
         alloc: Global,
         items: &Vec<Item<B>>,
@@ -193,40 +192,9 @@ impl<B> Store<B> {
         ensures keyed { IfOk result (λ s. IsKeyed s) }
     {
         let base = first_serial(items, next_serial);
-        let slots = (next_serial - base) as usize;
-        let mut store = Store {
-            slots: Slots::empty(alloc, base, slots, width, items.len())?,
-        };
-        for item in items {
-            store.fill_copy(item, each)?;
-        }
-        Ok(store)
-    }
-
-    // Puts an equal item into its slot, which is empty.
-    #[inline(always)]
-    fn fill_copy<F: Fn(&B) -> Result<B, NoMemory>>(
-        &mut self,
-        item: &Item<B>,
-        each: &F,
-    ) -> Result<(), NoMemory>
-    where
-        B: Drop,
-        requires keyed { IsKeyed self.old }
-        requires made { item.now.serial < (pending_in self.old).next_serial }
-        requires reached { self.old.slots.base ≤ item.now.serial }
-        requires absent { ¬ (IsPending item.now.serial (pending_in self.old)) }
-        requires callable { F.IsAlwaysCallable each.now }
-        requires equal { (x : B) (r : _) → FnReturnsAt F.Fn each.now x r → IfOk r (λ y. y ≡ x) }
-        ensures ok { OnOk result (pending_in self.new ≡ put_back item.now (pending_in self.old)) }
-        ensures base { self.new.slots.base ≡ self.old.slots.base }
-        ensures keyed { IsKeyed self.new }
-    {
-        let place = (item.serial - self.slots.base()) as usize;
-        match each(&item.body) {
-            Ok(body) => self.slots.fill(place, Seat::New, item.due, body),
-            Err(refused) => Err(refused),
-        }
+        Ok(Store {
+            slots: Slots::of(alloc, items, base, next_serial, width, each)?,
+        })
     }
 
     // Drops the empty slots at the front, if one more slot would take memory and they are many.

@@ -1,6 +1,6 @@
 //! Keys in lists by their days; the first key is at hand.
-ghost use Rattle.std.specs.Prelude.{◌≡◌, ◌≢◌, ℕ, ◌+◌, ◌^◌, ◌<◌, ◌≤◌, Some, None, IfOk, IfSome};
-ghost use Rattle.std.specs.Prelude.{IfNone, Bool, length};
+ghost use Rattle.std.specs.Prelude.{◌≡◌, ◌≢◌, ℕ, ◌+◌, ◌-◌, ◌^◌, ◌<◌, ◌≤◌, Some, None, OnErr};
+ghost use Rattle.std.specs.Prelude.{IfOk, IfSome, IfNone, Bool, length};
 ghost use Rattle.std.specs.Option.{IsSome};
 ghost use Rattle.sim_queue.specs.Pending.{Decides};
 ghost use Rattle.sim_queue.specs.inside.Lists.{day, IsLists};
@@ -56,7 +56,8 @@ impl Wheel {
     /// Returns no keys, with room for `count` keys but at most 2^20.
     pub(crate) fn with_room(alloc: Global, width: u32, count: usize) -> Result<Wheel, NoMemory>
         requires { width ≤ 56 }
-        ensures { IfOk result (λ w. HasNone w) }
+        ensures none { IfOk result (λ w. HasNone w) }
+        ensures places { IfOk result (λ w. length w ≡ 256) }
     {
         Ok(Wheel {
             lists: Lists::with_room(alloc, width, count)?,
@@ -82,14 +83,28 @@ impl Wheel {
         Ok(self.lists.free_place()? - LISTS)
     }
 
-    /// Returns a new place without a key, behind the others.
+    /// Puts a key at a new place, behind the others. Returns the place. After an error nothing has
+    /// changed.
     #[inline(always)]
-    pub(crate) fn new_place(&mut self) -> Result<u32, NoMemory>
-        ensures place { IfOk result (λ p. IsPlace p self.new) }
+    pub(crate) fn add(&mut self, due: u64, serial: u64) -> Result<u32, NoMemory>
+        requires small { serial < 2 ^ 40 }
+        requires fresh { (k d : ℕ) → key_at self.old k ≢ Some (d, serial) }
+        ensures place { IfOk result (λ p. p ≡ length self.old - 256) }
+        ensures next { IfOk result (λ p. p + 1 ≡ length self.new - 256) }
+        ensures was { IfOk result (λ p. key_at self.old p ≡ None) }
+        ensures there { IfOk result (λ p. key_at self.new p ≡ Some (due, serial)) }
+        ensures others { IfOk result (λ p. HasSameBut p self.old self.new) }
         ensures small { IfOk result (λ p. p < 4294967295) }
-        ensures same { HasSame self.old self.new }
+        ensures err { OnErr result (HasSame self.old self.new) }
     {
-        Ok(self.lists.new_place()? - LISTS)
+        self.lists.make_ends()?;
+        let before = self.lists.spot(due, serial);
+        let place = self.lists.add(before, due, serial)?;
+        if before < LISTS {
+            self.marks.set(self.lists.day(due));
+            self.floor = self.floor.min(due);
+        }
+        Ok(place - LISTS)
     }
 
     /// Puts a key at a place.

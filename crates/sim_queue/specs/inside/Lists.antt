@@ -3,6 +3,7 @@
 use Rattle.std.specs.Prelude.{◌≡◌, ◌≢◌, ◌⊎◌, ◌+◌, ◌*◌, ◌^◌, ◌/◌, ◌%◌, ℕ, ◌<◌, ◌≤◌, List, length}
 use Rattle.std.specs.Prelude.{slice_index_or}
 use Rattle.sim_queue.specs.declared.lists.Node.{Node}
+use Rattle.sim_queue.specs.declared.lists.Lists.{Lists}
 
 -- the node at a place, or one without a key past the end
 abbrev pub no_node : Node
@@ -69,6 +70,13 @@ pub record IsFree (p : ℕ) (nodes : List Node) : Type 0 where
 -- the nodes other than the ends are the same
 abbrev pub IsSame : List Node → List Node → Type 0
 IsSame old new = (i : ℕ) → 256 ≤ i → node new i ≡ node old i
+
+-- the lists have the same keys at the same places; there may be ends and free nodes that were not
+pub record KeepsKeys (old new : Lists) : Type 0 where
+  pub width : new.width ≡ old.width
+  pub lists : IsLists new.width new.nodes.items
+  pub same : IsSame old.nodes.items new.nodes.items
+  pub size : length old.nodes.items ≤ 4294967295 → length new.nodes.items ≤ 4294967295
 
 -- no node has a key
 abbrev pub HasNoKeys : List Node → Type 0

@@ -1,13 +1,9 @@
-use Rattle.std.proofs.Common.{◌≡◌, ◌⊎◌, ℕ, ◌+◌, ◌%◌, ◌^◌, ◌<◌, ◌≤◌, List, Some, min, sym, ap, ◌∙◌, arith, inl, inr, ⊎_elim, refl}
-use Rattle.std.proofs.lemmas.Bool.{cases_lt}
+use Rattle.std.proofs.Common.{◌≡◌, ℕ, ◌+◌, ◌%◌, ◌^◌, ◌<◌, List, Some, min, sym, ap, ◌∙◌, arith, inl, refl}
 use Rattle.sim_queue.specs.declared.lists.Node.{Node}
 use Rattle.sim_queue.specs.inside.Lists.{node, day}
 use Rattle.sim_queue.specs.inside.Wheel.{keys_of, key_at, IsPlace}
-use Rattle.sim_queue.proofs.Turning.{key_of_node, fresh_node, free_place, put_wheel, behind_key, kept_keys}
+use Rattle.sim_queue.proofs.Turning.{key_of_node, fresh_node, free_place, put_wheel, behind_key, kept_keys, lesser_of}
 use Rattle.sim_queue.proofs.wheel.Wheel.put.Goals as goal
-
-lesser : (a b m : ℕ) → m ≡ min a b → (m ≡ a) ⊎ (m ≡ b)
-lesser a b m is = ⊎_elim (λ (lt : a < b). inl (omega arith)) (λ (ge : b ≤ a). inr (omega arith)) (cases_lt a b)
 
 pub spot-before-requires-clause-fresh : goal.spot-before-requires-clause-fresh
 spot-before-requires-clause-fresh c =
@@ -27,7 +23,7 @@ invariant_of-self c =
     (free_place l.nodes.items c.args.place place) c.self.invariant (rw c.join.ensures.width at c.join.ensures.lists) c.join.ensures.size c.join.ensures.due c.join.ensures.serial c.requires.small
     (omega arith) c.join.ensures.others
     (λ d q. c.set.ensures.set d (q ∙ sym low)) (λ d q. c.set.ensures.others d (λ e. q (e ∙ low)))
-    (omega arith) (omega arith) (lesser c.self.inside.floor c.args.due c.min-self-inside.result least))
+    (omega arith) (omega arith) (lesser_of c.self.inside.floor c.args.due c.min-self-inside.result least))
 
 pub invariant_of-self-else-before-lt-LISTS : goal.invariant_of-self-else-before-lt-LISTS
 invariant_of-self-else-before-lt-LISTS c =
