@@ -31,6 +31,7 @@ impl Content {
     }
 
     /// Returns a copy of these bytes and writes, of which syncs cover the first `asked`.
+    #[inline(always)]
     pub(crate) fn of(
         alloc: Global,
         bytes: &[u8],
@@ -43,6 +44,14 @@ impl Content {
           asked = asked;
         }) }
     {
+        // Most disks of a checkpoint have neither, and need no call.
+        if bytes.is_empty() && writes.is_empty() {
+            return Ok(Content {
+                stable: Vec::new(alloc),
+                writes: Vec::new(alloc),
+                asked,
+            });
+        }
         let stable = Vec::from_slice(alloc, bytes)?;
         let mut all = Vec::with_capacity(alloc, writes.len())?;
         append_all(&mut all, writes)?;
