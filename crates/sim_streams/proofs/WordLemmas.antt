@@ -1,5 +1,5 @@
 -- Lemmas on the words of the streams.
-use Rattle.std.proofs.Common.{◌≡◌, ℕ, ◌+◌, ◌<◌, List, arith, ap, ◌∙◌}
+use Rattle.std.proofs.Common.{◌≡◌, ℕ, ◌+◌, ◌<◌, List, ap, ◌∙◌}
 use Rattle.sim_streams.specs.Word.{word}
 use Rattle.std.proofs.Common.{◌%◌, ◌^◌}
 use Rattle.std.proofs.Math.Nat.{mod-eq_of_lt}
