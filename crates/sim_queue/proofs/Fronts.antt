@@ -56,15 +56,6 @@ module _ {X : Type 0} where
       more ∙ ap (λ (xs : List (Option X)). xs ++ replicate (len - before) value) whole ∙ ap (λ (n : ℕ). old ++ replicate n value) added ∙ ap (λ o. old ++ replicate count o) none in
       turn ∙ ap (λ (xs : List (Option X)). drop (after - count) xs ++ take (after - count) xs) more' ∙ turned_front old (replicate count None) (after - count) at
 
-  -- empty spots alone
-  pub filled_empty : (old longer : List (Option X)) (value : Option X) (count before : ℕ) → value ≡ None → old ≡ [] → before ≡ 0 → longer ≡ take count old ++ replicate (count - before) value
-      → longer ≡ replicate count None
-  filled_empty old longer value count before none nothing zero_is is =
-      let l : length old ≡ 0 = ap (λ (xs : List (Option X)). length xs) nothing in
-      let all : take count old ≡ old = take_all count old (omega arith) in
-      let n : count - before ≡ count = omega arith in
-      is ∙ ap (λ (xs : List (Option X)). xs ++ replicate (count - before) value) (all ∙ nothing) ∙ ap (λ (m : ℕ). replicate m value) n ∙ ap (λ o. replicate count o) none
-
 module _ {B : Type 0} where
   pub slots_behind : (n : ℕ) (keys : List (Option (ℕ × ℕ))) (bodies : List (Option B)) (places : List (Option ℕ)) → slots_of keys bodies (replicate n None ++ places) ≡ replicate n None ++ slots_of keys bodies places
   slots_behind zero keys bodies places = refl

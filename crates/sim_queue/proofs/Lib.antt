@@ -15,7 +15,7 @@ pub mod Sparse
 pub mod Fronts
 pub mod FirstAt
 pub mod Packing
-pub mod Seating
+pub mod Placing
 pub mod Finding
 pub mod Ordered
 pub mod Skipping

@@ -1,5 +1,5 @@
 -- Days of which the lists were looked through.
-use Rattle.std.proofs.Common.{◌≡◌, ◌≢◌, ℕ, ◌+◌, ◌-◌, ◌*◌, ◌/◌, ◌^◌, ◌<◌, ◌≤◌, ◌%◌, min, List, refl, ap, ◌∙◌, subst, arith, ◌⊎◌, inl, inr, ⊎_elim}
+use Rattle.std.proofs.Common.{◌≡◌, ◌≢◌, ℕ, ◌+◌, ◌-◌, ◌*◌, ◌/◌, ◌^◌, ◌<◌, ◌≤◌, ◌%◌, min, List, refl, ap, ◌∙◌, subst, arith, ◌⊎◌, inr, ⊎_elim}
 use Rattle.std.proofs.lemmas.Bool.{cases_eq, cases_lt}
 use Rattle.std.proofs.Math.Nat.{div-mul-le_self}
 use Rattle.std.proofs.lemmas.Nat.{le-div, pow_pos}
@@ -36,9 +36,6 @@ pub record IsPassed (w : ℕ) (nodes : List Node) (start r0 to least : ℕ) : Ty
 
 module _ (w : ℕ) (nodes : List Node) (words : List ℕ) (start r0 floor : ℕ) (lists : IsLists w nodes) (marked : HasMarks w words nodes) (from : IsFrom floor nodes)
     (is : day w floor ≡ start + r0) (whole : start % 256 ≡ 0) where
-  pub passed_none : (least : ℕ) → 2 ^ 64 ≤ least + 1 → IsPassed w nodes start r0 r0 least
-  passed_none least great = record { all = λ i r key ge lt same. absurd (omega arith); settled = inl great }
-
   -- days that are not marked
   pub passed_unmarked : (to more least : ℕ) → ((d : ℕ) → to ≤ d → d < more → IsUnmarked words d) → IsPassed w nodes start r0 to least → IsPassed w nodes start r0 more least
   passed_unmarked to more least none p = record {

@@ -1,5 +1,5 @@
 -- What keys there are, where a node gets one or loses it.
-use Rattle.std.proofs.Common.{◌≡◌, ◌≢◌, ℕ, ◌+◌, ◌-◌, ◌^◌, ◌<◌, ◌≤◌, ◌%◌, List, [], Some, None, is_some, nat_lt, Bool, true, false, if◌then◌else◌, refl, sym, ap, ◌∙◌, subst, arith, length, ◌⊎◌, inl, inr, ⊎_elim, min, Result, Ok, Err, OnErr}
+use Rattle.std.proofs.Common.{◌≡◌, ◌≢◌, ℕ, ◌+◌, ◌-◌, ◌^◌, ◌<◌, ◌≤◌, ◌%◌, List, Some, None, is_some, nat_lt, Bool, true, false, if◌then◌else◌, refl, sym, ap, ◌∙◌, subst, arith, length, ◌⊎◌, inl, inr, ⊎_elim, min, Result, Ok, Err, OnErr}
 use Rattle.std.proofs.Math.ListN.{get_or-map}
 use Rattle.std.proofs.lemmas.List.{length-map}
 use Rattle.sim_queue.proofs.Marked.{first_due, same_mark}
@@ -110,26 +110,6 @@ fresh_node w nodes serial lists fresh i key same =
     let e : i - 256 + 256 ≡ i = omega arith in
     let here : key_at (keys_of nodes) (i - 256) ≡ Some ((node nodes i).due, (node nodes i).serial) = key_there nodes (i - 256) ∙ ap (λ (n : ℕ). key_of (node nodes n)) e ∙ key_some (node nodes i) key in
     fresh (i - 256) (node nodes i).due (here ∙ ap (λ (n : ℕ). Some ((node nodes i).due, n)) same)
-
--- no keys
-pub new_wheel : (w : ℕ) (words : List ℕ) → w ≤ 56 → IsWheel w [] words 18446744073709551615
-new_wheel w words narrow = record {
-  narrow = narrow;
-  small = omega arith;
-  lists = record {
-    ends = λ i lt. omega arith;
-    lists = λ i lt within. absurd (omega arith);
-    behind = λ i linked. absurd (none i linked);
-    ahead = λ i linked. absurd (none i linked);
-  };
-  marked = λ i key. absurd (omega arith);
-  fits = λ i key. absurd (omega arith);
-  least = record { from = λ i key. absurd (omega arith); settled = inl (omega arith) };
-}
-  where
-    none : (i : ℕ) → ((i < 256) × (i < 0)) ⊎ HasKey no_node → ⊥
-    none i (inl e) = let lt : i < 0 = e.1 in omega arith
-    none i (inr key) = omega arith
 
 -- other nodes without keys
 pub same_wheel : (w words_floor : ℕ) (words : List ℕ) (old new : List Node) → IsSame old new → IsLists w new → length new ≤ 4294967295 → IsWheel w old words words_floor → IsWheel w new words words_floor

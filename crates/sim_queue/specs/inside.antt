@@ -2,7 +2,7 @@
 pub mod Link
 pub mod Lists
 pub mod Marks
-pub mod Seats
+pub mod Placed
 pub mod Slots
 pub mod Sparse
 pub mod Store

@@ -22,8 +22,8 @@
 //! - `taken`: the least serial of an item whose body passes a test. It goes through the lists:
 //!   they have the items that exist and nothing else.
 //! - `store`: the queue's operations by slots.
-//! - `packed`: a packed queue has only its items, in the order of the places that they had. `seats`
-//!   gives them places again when it is opened.
+//! - `packed`: a packed queue has only its items, in the order of the places that they had.
+//!   `placed` gives them places again when it is opened.
 //!
 //! A day has 2 to the power of its width milliseconds: one for [`Queue::new`]. For
 //! [`Queue::with_reach`] 256 days are not shorter than the reach, so that lists stay short. Keys
@@ -41,7 +41,7 @@ mod link;
 mod lists;
 mod marks;
 mod packed;
-mod seats;
+mod placed;
 mod slots;
 mod store;
 mod taken;

@@ -16,7 +16,7 @@ ghost use Rattle.sim_queue.specs.inside.Taken.{HasBodies};
 ghost use Rattle.sim_queue.specs.inside.Wheel.{key_at, HasSame};
 
 use crate::link::{Link, next_place, skip_blocks};
-use crate::seats::{Seats, copied_bodies};
+use crate::placed::{Placed, copied_bodies};
 use crate::wheel::Wheel;
 use crate::{Item, NoMemory};
 use std::alloc::Global;
@@ -90,7 +90,7 @@ impl<B> Slots<B> {
         ensures { IfOk result (λ s. pending s.base s.items ≡ packed items.now.items next_serial) }
     {
         let bodies = copied_bodies(alloc, items, each)?;
-        let Seats { wheel, places } = Seats::of(alloc, items, base, next_serial, width)?;
+        let Placed { wheel, places } = Placed::of(alloc, items, base, next_serial, width)?;
         Ok(Slots {
             wheel,
             bodies,

@@ -1,7 +1,7 @@
 use Rattle.std.proofs.Common.{◌≡◌, ◌+◌, ◌^◌, ◌≤◌, ap, ◌∙◌, arith, length}
 use Rattle.sim_queue.specs.Packed.{nothing}
 use Rattle.sim_queue.specs.Pending.{Pending}
-use Rattle.sim_queue.proofs.Seating.{next_kept}
+use Rattle.sim_queue.proofs.Placing.{next_kept}
 use Rattle.sim_queue.proofs.store.Store.of.Goals as goal
 
 pub returns-clause-keyed : goal.returns-clause-keyed

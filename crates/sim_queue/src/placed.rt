@@ -5,7 +5,7 @@ ghost use Rattle.std.specs.Vec.{vec_len, vec_capacity};
 ghost use Rattle.std.specs.Fn.{FnReturnsAt};
 ghost use Rattle.std.specs.List.{All};
 ghost use Rattle.sim_queue.specs.Packed.{nothing, CanPutAll};
-ghost use Rattle.sim_queue.specs.inside.Seats.{bodies_of, AreSeats};
+ghost use Rattle.sim_queue.specs.inside.Placed.{bodies_of, ArePlaced};
 
 use crate::link::Link;
 use crate::wheel::Wheel;
@@ -14,13 +14,13 @@ use std::alloc::Global;
 
 /// The keys of items at their places, and for each slot the place of its item.
 #[derive(Drop)]
-pub(crate) struct Seats {
+pub(crate) struct Placed {
     pub(crate) wheel: Wheel,
     pub(crate) places: Vec<Link>,
 }
 
-impl Seats {
-    /// Returns the seats of these items, for slots from the serial `base` on. The place of an item
+impl Placed {
+    /// Returns the places of these items, for slots from the serial `base` on. The place of an item
     /// is its number in the list.
     pub(crate) fn of<B>(
         alloc: Global,
@@ -28,14 +28,14 @@ impl Seats {
         base: u64,
         next_serial: u64,
         width: u32,
-    ) -> Result<Seats, NoMemory>
+    ) -> Result<Placed, NoMemory>
         requires items { CanPutAll items.now.items (nothing next_serial) }
         requires from { All (λ x. base ≤ x.serial) items.now.items }
         requires order { base ≤ next_serial }
         requires small { next_serial ≤ 2 ^ 40 }
         requires width { width ≤ 56 }
         ensures { IfOk result (λ s.
-            AreSeats items.now.items base next_serial s.wheel s.places.items) }
+            ArePlaced items.now.items base next_serial s.wheel s.places.items) }
     {
         let mut wheel = Wheel::with_room(alloc, width, with_room(items.len()))?;
         let mut places = empty_places(alloc, (next_serial - base) as usize)?;
@@ -43,7 +43,7 @@ impl Seats {
             let at = wheel.add(item.due, item.serial)?;
             places[(item.serial - base) as usize] = Link::to(at);
         }
-        Ok(Seats { wheel, places })
+        Ok(Placed { wheel, places })
     }
 }
 

@@ -10,7 +10,7 @@ abbrev pub bodies_of : {B : Type 0} → List (Item B) → List (Option B)
 bodies_of items = map (λ x. Some x.body) items
 
 -- with these bodies the keys and the slots' places hold the items, and nothing else is pending
-pub record AreSeats {B : Type 0} (items : List (Item B)) (base next : ℕ)
+pub record ArePlaced {B : Type 0} (items : List (Item B)) (base next : ℕ)
     (keys : List (Option (ℕ × ℕ))) (places : List (Option ℕ)) : Type 0 where
   pub sparse : IsSparse keys (bodies_of items) places base (length items)
   pub pending : pending base (slots_of keys (bodies_of items) places) ≡ packed items next

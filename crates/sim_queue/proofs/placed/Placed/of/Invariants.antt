@@ -1,9 +1,9 @@
 use Rattle.std.proofs.Common.{◌≡◌, ◌-◌, length, take}
 use Rattle.sim_queue.specs.Items.{pending}
 use Rattle.sim_queue.specs.Packed.{packed}
-use Rattle.sim_queue.specs.inside.Seats.{bodies_of}
+use Rattle.sim_queue.specs.inside.Placed.{bodies_of}
 use Rattle.sim_queue.specs.inside.Sparse.{slots_of, IsSparse}
-use Rattle.sim_queue.proofs.seats.Seats.of.Given as goal
+use Rattle.sim_queue.proofs.placed.Placed.of.Given as goal
 
 abbrev pub invariant-loop-item : goal.invariant-loop-item
 invariant-loop-item g l = record {

@@ -1,5 +1,5 @@
 use Rattle.std.proofs.Common.{◌≡◌, ◌++◌, [], ◌∷◌, Ok, Some, ap, ◌∙◌, refl}
-use Rattle.sim_queue.proofs.seats.push_copy.Goals as goal
+use Rattle.sim_queue.proofs.placed.push_copy.Goals as goal
 
 pub returns-in-Ok-clause-items : goal.returns-in-Ok-clause-items
 returns-in-Ok-clause-items g c =

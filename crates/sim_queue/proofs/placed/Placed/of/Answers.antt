@@ -2,12 +2,12 @@ use Rattle.std.proofs.Common.{◌≡◌, ◌+◌, ◌-◌, ◌<◌, ◌≤◌, �
 use Rattle.std.proofs.Math.ListN.{get_or}
 use Rattle.sim_queue.specs.declared.Item.{Item}
 use Rattle.sim_queue.specs.Packed.{nothing}
-use Rattle.sim_queue.specs.inside.Seats.{bodies_of}
+use Rattle.sim_queue.specs.inside.Placed.{bodies_of}
 use Rattle.sim_queue.specs.inside.Sparse.{slots_of, IsSparse}
 use Rattle.sim_queue.proofs.Packing.{empty_pending}
-use Rattle.sim_queue.proofs.Seating.{in_places, below_next, no_key, seated_sparse, seated_pending}
+use Rattle.sim_queue.proofs.Placing.{in_places, below_next, no_key, placed_sparse, placed_pending}
 use Rattle.sim_queue.proofs.Sparse.{empty_slots, empty_sparse}
-use Rattle.sim_queue.proofs.seats.Seats.of.Goals as goal
+use Rattle.sim_queue.proofs.placed.Placed.of.Goals as goal
 
 pub loop-item-init : goal.loop-item-init
 loop-item-init g c =
@@ -70,9 +70,9 @@ loop-item-preserved g c =
     record {
       next = omega arith;
       sparse = rw c.to.ensures
-          (seated_sparse items c.args.base c.args.next_serial i x inside read c.requires.items c.requires.from c.loop-item.wheel c.loop-item.places.items c.loop-item.invariant.sparse c.loop-item.invariant.pending
+          (placed_sparse items c.args.base c.args.next_serial i x inside read c.requires.items c.requires.from c.loop-item.wheel c.loop-item.places.items c.loop-item.invariant.sparse c.loop-item.invariant.pending
           c.in_ok-at.at new at_i e.was e.there e.others);
       pending = rw c.to.ensures
-          (seated_pending items c.args.base c.args.next_serial i x inside read c.requires.items c.requires.from c.loop-item.wheel c.loop-item.places.items c.loop-item.invariant.sparse c.loop-item.invariant.pending
+          (placed_pending items c.args.base c.args.next_serial i x inside read c.requires.items c.requires.from c.loop-item.wheel c.loop-item.places.items c.loop-item.invariant.sparse c.loop-item.invariant.pending
           c.in_ok-at.at new at_i e.was e.there e.others);
     }

@@ -7,7 +7,7 @@ use Rattle.sim_queue.specs.declared.Item.{Item}
 use Rattle.sim_queue.specs.Items.{items_from, pending}
 use Rattle.sim_queue.specs.Packed.{packed, put_all, nothing, CanPutAll}
 use Rattle.sim_queue.specs.Pending.{Pending, put_back, with_serial, IsPending}
-use Rattle.sim_queue.specs.inside.Seats.{bodies_of}
+use Rattle.sim_queue.specs.inside.Placed.{bodies_of}
 use Rattle.sim_queue.specs.inside.Sparse.{body_at, index_at, slots_of, IsPut, IsSparse}
 use Rattle.sim_queue.specs.inside.Wheel.{key_at, HasSameBut}
 use Rattle.sim_queue.proofs.Laws.{not_found}
@@ -68,12 +68,12 @@ module _ {B : Type 0} (items : List (Item B)) (base next i : ℕ) (x : Item B) (
       rest = λ j apart. refl;
     }
 
-    pub seated_sparse : IsSparse new (bodies_of items) (set places (x.serial - base) (Some k)) base (i + 1)
-    seated_sparse = filled_sparse keys new (bodies_of items) (bodies_of items) k x.due x.serial x.body put places base i sparse (x.serial - base)
+    pub placed_sparse : IsSparse new (bodies_of items) (set places (x.serial - base) (Some k)) base (i + 1)
+    placed_sparse = filled_sparse keys new (bodies_of items) (bodies_of items) k x.due x.serial x.body put places base i sparse (x.serial - base)
         (let a = reached in omega arith) in_places no_place
 
-    pub seated_pending : pending base (slots_of new (bodies_of items) (set places (x.serial - base) (Some k))) ≡ packed (take (i + 1) items) next
-    seated_pending =
+    pub placed_pending : pending base (slots_of new (bodies_of items) (set places (x.serial - base) (Some k))) ≡ packed (take (i + 1) items) next
+    placed_pending =
         put_again x base (slots_of keys (bodies_of items) places) (slots_of new (bodies_of items) (set places (x.serial - base) (Some k))) reached made absent
         (filled_slots keys new (bodies_of items) (bodies_of items) k x.due x.serial x.body put places base i sparse (x.serial - base))
         ∙ ap (λ (q : Pending B). put_back x q) before
