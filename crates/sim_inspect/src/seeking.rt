@@ -1,11 +1,18 @@
 //! Finds places among the kept events of a branch.
-use crate::run::{Run, pass};
+ghost use Rattle.std.specs.Prelude.{◌≡◌, ℕ, ◌+◌, ◌-◌, ◌≤◌, ⊤, Bool, IfOk, OnOk, IsTrue, min};
+ghost use Rattle.std.specs.Prelude.{length, Some};
+ghost use Rattle.sim_world.specs.Events.{rules};
+ghost use Rattle.sim_tape.specs.Tape.{IsMoved};
+ghost use Rattle.sim_inspect.specs.Seeking.{is_met, is_met_at, is_of_host, IsAnswer, IsFound};
+ghost use Rattle.sim_inspect.specs.Seeking.{FindsFirst, FindsLast, FindsLastBefore, IsSpan};
+
+use crate::run::Run;
 use sim_book::Refusal;
 use sim_node::{NoMemory, Node};
 use sim_sight::{fails_of, holds_of};
 use sim_tally::FreshMeter;
 use sim_tape::{Frozen, Tape};
-use sim_watch::{Cond, Sought};
+use sim_watch::Sought;
 use sim_world::{Event, Fault, World};
 use std::alloc::{AllocError, Global};
 use std::fmt::Debug;
@@ -36,18 +43,7 @@ impl From<AllocError> for SeekError {
     }
 }
 
-// The test of a place.
-#[derive(Clone, Copy)]
-enum Test<'a> {
-    /// The clock is at this time or later (ms).
-    Time(u64),
-    Fails(&'a Cond),
-    Holds(&'a Cond),
-    /// The next event is one of this host.
-    Acts(u16),
-}
-
-// The first and the last place that pass a test.
+// The first and the last place of the kind that is looked for.
 #[derive(Clone, Copy)]
 struct Span {
     first: Option<u32>,
@@ -55,7 +51,9 @@ struct Span {
 }
 
 // Returns whether an event is one of a host: a step that happens to it, or its crash or bounce.
-fn is_of_host<N: Node>(world: &World<N>, event: Event, host: u16) -> bool {
+fn is_of_host<N: Node>(world: &World<N>, event: Event, host: u16) -> bool
+    ensures { result ≡ is_of_host host world.now.world (Some event) }
+{
     match event {
         Event::Step => match world.first() {
             Some((_due, _serial, occurrence)) => occurrence.host() == host,
@@ -66,43 +64,70 @@ fn is_of_host<N: Node>(world: &World<N>, event: Event, host: u16) -> bool {
     }
 }
 
-impl Test<'_> {
-    // Returns whether a world passes the test; `next` is its next event.
-    fn is_so<N: Node>(self, world: &World<N>, next: Option<Event>) -> bool {
-        match self {
-            Test::Time(time) => time <= world.clock(),
-            Test::Fails(cond) => fails_of(cond, world),
-            Test::Holds(cond) => holds_of(cond, world),
-            Test::Acts(host) => match next {
-                Some(event) => is_of_host(world, event, host),
-                None => false,
-            },
+// Returns whether a place with this world is one to look for; `next` is the event that follows.
+fn is_met<N: Node>(sought: &Sought, world: &World<N>, next: Option<Event>) -> bool
+    ensures { result ≡ is_met (rules N.laws N.PROBES world.now.scenario) sought.now
+        world.now.world next }
+{
+    match sought {
+        Sought::Cause => false,
+        Sought::At(time) => u64::from(*time) <= world.clock(),
+        Sought::First(cond) => fails_of(cond.get(), world),
+        Sought::Held(cond) => holds_of(cond.get(), world),
+        Sought::Last(host) => match next {
+            Some(event) => is_of_host(world, event, *host),
+            None => false,
+        },
+    }
+}
+
+impl Span {
+    // Adds the next place.
+    fn add(&mut self, place: u32, is_met: bool)
+        ensures { (test : ℕ → Bool) → IsSpan test place self.old → test place ≡ is_met
+            → IsSpan test (place + 1) self.new }
+    {
+        if is_met {
+            self.first = Some(self.first.unwrap_or(place));
+            self.last = Some(place);
         }
     }
 }
 
-// Returns whether the place of a tape passes a test, and walks past its next event.
-fn passes<N: Node>(
+// Walks a warm tape on to a place, from the one before it or from the place itself. Returns whether
+// the place is met. Fails only for want of memory.
+fn is_next_met<N: Node>(
     alloc: Global,
     tape: &mut Tape<N>,
-    next: Option<Event>,
-    test: Test<'_>,
+    place: u32,
+    sought: &Sought,
     meter: &mut N::Meter,
-) -> Result<bool, NoMemory> {
-    tape.make_warm(alloc, meter)?;
-    let is_so = test.is_so(tape.here(), next);
-    pass(alloc, tape, meter)?;
-    Ok(is_so)
+) -> Result<bool, NoMemory>
+    requires warm { IsTrue tape.old.warm }
+    requires before { tape.old.place ≡ place - 1 }
+    requires within { place ≤ length tape.old.events }
+    ensures tape { OnOk result (IsMoved place tape.old tape.new) }
+    ensures met { IfOk result (λ met. is_met_at (rules N.laws N.PROBES tape.old.scenario)
+        sought.now tape.old.events place ≡ met) }
+{
+    if tape.place() < place {
+        tape.pass(alloc, meter)?;
+    }
+    Ok(is_met(sought, tape.here(), tape.next_event()))
 }
 
-// Returns the first and the last place before `end` that pass a test. Fails only for want of
+// Returns the first and the last of the places below `end` that are met. Fails only for want of
 // memory.
 fn span_of<N: Node<Meter: FreshMeter>>(
     alloc: Global,
     run: &Frozen<N>,
     end: u32,
-    test: Test<'_>,
-) -> Result<Span, NoMemory> {
+    sought: &Sought,
+) -> Result<Span, NoMemory>
+    requires { end ≤ length run.now.events + 1 }
+    ensures { IfOk result (IsSpan
+        (is_met_at (rules N.laws N.PROBES run.now.scenario) sought.now run.now.events) end) }
+{
     let mut meter = N::Meter::fresh();
     let mut tape = run.tape(alloc, 0, &mut meter)?;
     let mut span = Span {
@@ -110,11 +135,8 @@ fn span_of<N: Node<Meter: FreshMeter>>(
         last: None,
     };
     for place in 0..end {
-        let next = run.events().get(place);
-        if passes(alloc, &mut tape, next, test, &mut meter)? {
-            span.first = Some(span.first.unwrap_or(place));
-            span.last = Some(place);
-        }
+        let is_met = is_next_met(alloc, &mut tape, place, sought, &mut meter)?;
+        span.add(place, is_met);
     }
     Ok(span)
 }
@@ -126,6 +148,7 @@ fn cause_of<N: Node<Meter: FreshMeter> + Debug>(
 ) -> Result<u32, SeekError>
 where
     N::Msg: Debug,
+    ensures { IsAnswer (λ _. ⊤) ⊤ result }
 {
     let why = match run.event(place.saturating_add(1)) {
         Some(Event::Fault(_)) => "the next event is a fault of the script",
@@ -141,10 +164,68 @@ where
     Err(SeekError::Nowhere(why))
 }
 
-/// Returns the place of a run that `sought` describes, seen from place `here`. Fails with the
-/// reason if there is no such place, or for want of memory. A search for the last place at which a
-/// condition held also fails if the condition holds at `here`. A condition that names a host or a
-/// probe that does not exist neither holds nor fails.
+// Returns the first place that is met, or `why` as the reason that there is none.
+fn first_of<N: Node<Meter: FreshMeter>>(
+    alloc: Global,
+    run: &Frozen<N>,
+    sought: &Sought,
+    why: &'static str,
+) -> Result<u32, SeekError>
+    ensures { FindsFirst
+        (is_met_at (rules N.laws N.PROBES run.now.scenario) sought.now run.now.events)
+        (length run.now.events + 1) result }
+{
+    let end = run.events().len() + 1;
+    match span_of(alloc, run, end, sought)?.first {
+        Some(place) => Ok(place),
+        None => Err(SeekError::Nowhere(why)),
+    }
+}
+
+// Returns the last place before `here` that is met, or `why` as the reason that there is none.
+fn last_of<N: Node<Meter: FreshMeter>>(
+    alloc: Global,
+    run: &Frozen<N>,
+    here: u32,
+    sought: &Sought,
+    why: &'static str,
+) -> Result<u32, SeekError>
+    requires { here ≤ length run.now.events }
+    ensures { FindsLast
+        (is_met_at (rules N.laws N.PROBES run.now.scenario) sought.now run.now.events)
+        here result }
+{
+    match span_of(alloc, run, here, sought)?.last {
+        Some(place) => Ok(place),
+        None => Err(SeekError::Nowhere(why)),
+    }
+}
+
+// Returns the last place before `here` that is met, unless `here` itself is met.
+fn held_of<N: Node<Meter: FreshMeter>>(
+    alloc: Global,
+    run: &Frozen<N>,
+    here: u32,
+    sought: &Sought,
+) -> Result<u32, SeekError>
+    requires { here ≤ length run.now.events }
+    ensures { FindsLastBefore
+        (is_met_at (rules N.laws N.PROBES run.now.scenario) sought.now run.now.events)
+        here result }
+{
+    let _few = run.events().len();
+    let why = match span_of(alloc, run, here + 1, sought)?.last {
+        Some(place) if place < here => return Ok(place),
+        Some(_here) => HOLDS_HERE,
+        None => "the condition fails at this place and at all before it",
+    };
+    Err(SeekError::Nowhere(why))
+}
+
+/// Returns the place of a run that `sought` describes, seen from place `here`, or from the end if
+/// `here` is past it. Fails with the reason if there is no such place, or for want of memory. A
+/// search for the last place at which a condition held also fails if the condition holds at `here`.
+/// A condition that names a host or a probe that does not exist neither holds nor fails.
 pub fn seek<N: Node<Meter: FreshMeter> + Debug>(
     alloc: Global,
     run: &Run<'_, N>,
@@ -153,34 +234,25 @@ pub fn seek<N: Node<Meter: FreshMeter> + Debug>(
 ) -> Result<u32, SeekError>
 where
     N::Msg: Debug,
+    ensures { IsFound (rules N.laws N.PROBES run.now.frozen.scenario) run.now.frozen.events
+        (min here (length run.now.frozen.events)) sought.now result }
 {
-    let all = run.len().saturating_add(1);
-    let (test, end, why) = match sought {
-        Sought::Cause => return cause_of(run, here),
-        Sought::At(time) => {
-            let test = Test::Time(u64::from(*time));
-            (test, all, "the clock is earlier at all kept places")
+    let here = here.min(run.len());
+    let frozen = &run.frozen;
+    match sought {
+        Sought::Cause => cause_of(run, here),
+        Sought::At(_) => {
+            let why = "the clock is earlier at all kept places";
+            first_of(alloc, frozen, sought, why)
         }
-        Sought::Last(host) => {
-            let test = Test::Acts(*host);
-            (test, here, "that host has no event before this place")
+        Sought::First(_) => {
+            let why = "the condition holds at all kept places";
+            first_of(alloc, frozen, sought, why)
         }
-        Sought::First(cond) => {
-            let test = Test::Fails(cond.get());
-            (test, all, "the condition holds at all kept places")
+        Sought::Last(_) => {
+            let why = "that host has no event before this place";
+            last_of(alloc, frozen, here, sought, why)
         }
-        Sought::Held(cond) => {
-            let test = Test::Holds(cond.get());
-            let why = "the condition fails at this place and at all before it";
-            (test, here.saturating_add(1), why)
-        }
-    };
-    let span = span_of(alloc, &run.frozen, end, test)?;
-    let found = match test {
-        Test::Time(_) | Test::Fails(_) => span.first,
-        Test::Acts(_) => span.last,
-        Test::Holds(_) if span.last == Some(here) => return Err(SeekError::Nowhere(HOLDS_HERE)),
-        Test::Holds(_) => span.last,
-    };
-    found.ok_or(SeekError::Nowhere(why))
+        Sought::Held(_) => held_of(alloc, frozen, here, sought),
+    }
 }
