@@ -1,4 +1,5 @@
 pub mod Growing
 pub mod Moving
 pub mod Replying
+pub mod Seeking
 pub mod Ways

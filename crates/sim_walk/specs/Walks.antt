@@ -7,6 +7,8 @@ use Rattle.sim_world.specs.Events.{Rules}
 use Rattle.sim_script.specs.Script.{Text, Names}
 use Rattle.sim_watch.specs.declared.command.Command.{Command}
 use Rattle.sim_watch.specs.declared.command.Command.TheVariants.{Goto}
+use Rattle.sim_watch.specs.declared.sought.Sought.{Sought}
+use Rattle.sim_runs.specs.Branch.{Branch}
 use Rattle.sim_book.specs.declared.Entry.{Entry}
 use Rattle.sim_book.specs.declared.NotTaken.{NotTaken}
 use Rattle.sim_book.specs.Book.{branch}
@@ -16,7 +18,9 @@ use Rattle.sim_cli.specs.Turns.{Course, Takes}
 use Rattle.sim_walk.specs.declared.account.Account.{Account}
 use Rattle.sim_walk.specs.declared.desk.Answer.{Answer}
 use Rattle.sim_orders.specs.declared.order.Order.{Order}
-use Rattle.sim_orders.specs.declared.order.Order.TheVariants.{Asked, Sought}
+use Rattle.sim_orders.specs.declared.order.Order.TheVariants.{Asked}
+use Rattle.sim_orders.specs.declared.order.Order.TheVariants as order
+use Rattle.sim_inspect.specs.Seeking.{IsFound}
 use Rattle.sim_walk.specs.declared.walking.Turned.{Turned}
 use Rattle.sim_walk.specs.declared.walking.Turned.TheVariants.{On}
 use Rattle.sim_walk.specs.Accounts.{Accounts}
@@ -37,6 +41,10 @@ abbrev pub text_by : {E : Type 0} → Result Answer E → Text
 text_by (Ok a) = text_of a
 text_by (Err e) = no_memory
 
+-- what a search from the place of a branch finds
+abbrev pub IsPlaceFor : {State Msg : Type 0} → Rules State Msg → Branch → Sought → ℕ → Type 0
+IsPlaceFor r b sought place = IsFound r b.events b.place sought (Ok place)
+
 module _ {State Msg : Type 0} (r : Rules State Msg) (names : Names) where
   -- A turn of the book carried out a command. The answer has the line of the turn, and the account
   -- of the way from the branch's place before the turn: the end, where events were added. Without
@@ -55,11 +63,12 @@ module _ {State Msg : Type 0} (r : Rules State Msg) (names : Names) where
   Stays old answer new = (new ≡ old) × IfOk answer (λ a. a.reply.items ≡ [])
 
   -- A line of a script is a turn of the book. A place that is sought is found, and the branch goes
-  -- there by a turn, or there is none. Nothing else changes the book.
+  -- there by a turn, or nothing changes. Nothing else changes the book.
   abbrev pub Walks : {E : Type 0} → Course → ℕ → Order → Result Answer E → Course → Type 0
   Walks old b (Asked asked) answer new = TakesTurn old asked answer new
-  Walks old b (Sought sought) answer new =
-      ((place : ℕ) × TakesTurn old (Goto b place) answer new) ⊎ Stays old answer new
+  Walks old b (order.Sought sought) answer new =
+      ((place : ℕ) × IsPlaceFor r (branch b old.branches) sought place
+      × TakesTurn old (Goto b place) answer new) ⊎ Stays old answer new
   Walks old b _ answer new = Stays old answer new
 
   -- An order was carried out. If the walk goes on, its answer was written, or that there was not

@@ -7,7 +7,7 @@ ghost use Rattle.sim_book.specs.Kept.{all_shown};
 ghost use Rattle.sim_cli.specs.Turns.{course_of, Takes};
 ghost use Rattle.sim_answers.specs.Lines.{turn_line};
 ghost use Rattle.sim_walk.specs.Accounts.{Accounts, IsWithin};
-ghost use Rattle.sim_walk.specs.Walks.{TakesTurn, Stays, Walks};
+ghost use Rattle.sim_walk.specs.Walks.{TakesTurn, Stays, Walks, IsPlaceFor};
 
 use crate::account::{Account, account_of};
 use sim_book::{Book, Command, Entry, MAX_WATCHES, NotTaken, Refusal, Reply};
@@ -221,6 +221,8 @@ impl Desk<'_> {
     ) -> Result<u32, SeekError>
     where
         N::Msg: Debug,
+        ensures { IfOk result (IsPlaceFor (rules N.laws N.PROBES book.now.scenario)
+            (branch_in branch (all_shown book.now.kept)) sought.now) }
     {
         if let Some(why) = self.refusal(N::PROBES, sought) {
             return Err(SeekError::Refused(why));
