@@ -265,14 +265,14 @@ class Schedule:
         """Returns the number of jobs for the check of a crate.
 
         The longest chain is a share of all the work that is left. If that is more than what one
-        processor can do in time, its next crate gets two. `others` crates can begin beside it, and
-        share with it what would idle otherwise.
+        processor can do in time, its next crate gets two or three. `others` crates can begin beside
+        it, and share with it what would idle otherwise.
         """
         work, unproved = self.crates.work, [*self.left, *self.running]
         rest = sum(map(work, self.left)) + sum(map(work, self.running)) / 2
         is_next = self.chain[crate] == max(self.chain[it] for it in unproved)
         wanted = round(self.lanes * self.chain[crate] / max(rest, 1)) if is_next else 1
-        return max(1, min(wanted, 2, self.lanes), min(idle // (1 + others), 4))
+        return max(1, min(wanted, 3, self.lanes), min(idle // (1 + others), 4))
 
     def begin(self):
         """Returns the crates to begin now, each with its number of jobs."""
